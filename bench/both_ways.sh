@@ -1,7 +1,7 @@
 #!/bin/sh
 # Whether `./tmpl` and `./tmpl_acsl` answer the same in both ways of running: as the proved programs that ./build has made, and as the sources
-# as they are. Compares bytes, messages and exit codes of thirty-odd command lines: every command and refusal, files by relative and absolute
-# path, in other working folders, with spaces in names, through a pipe, names that begin with `-`, and `--`.
+# as they are. Compares bytes, messages and exit codes of forty-odd command lines: the examples of docs/USING.md, every refusal, files by
+# relative and absolute path, in other working folders, with spaces in names, through a pipe, names that begin with `-`, and `--`.
 #
 #     bench/both_ways.sh        after ./build; takes two minutes more where the sources haven't been run yet
 top=$(CDPATH='' cd -- "$(dirname -- "$0")/.." && pwd) || exit 2
@@ -96,8 +96,13 @@ expect 0 tmpl transitions buffer.tsys
 expect 4 tmpl transitions sum.c
 expect 0 tmpl equations fair.equ
 expect 4 tmpl equations sum.c
-expect 0 tmpl points sum.c
-expect 4 tmpl points unknown.c
+# Each command line that the page of the commands shows over a file of examples/.
+ln -s "$top/examples" "$work/examples"
+grep -o '`[a-z]* examples/[^`]*`' "$top/docs/USING.md" | tr -d '`' | grep -v FILE | sort -u >"$room/shown"
+[ -s "$room/shown" ] || { wrong=$((wrong + 1)); echo "docs/USING.md shows no command line"; }
+while read -r line; do
+    compare tmpl $line
+done <"$room/shown"
 in_folder=below
 expect 0 tmpl solve ../sum.c --domain octagons
 expect 0 tmpl_acsl ../sum.c --domain octagons

@@ -1,10 +1,12 @@
 //! What the search for anchors sees of a token.
 
 ghost use Rattle.std.specs.Prelude.{◌≡◌};
+ghost use Rattle.lang_grammar.specs.Symbols.{symbol_kind};
 ghost use Rattle.lang_grammar.specs.View.{plain_kind};
 ghost use Rattle.acsl_anchors.specs.Parts.{part_of};
 
-use lang_tokens::{Kind, Sign, Word};
+use lang_grammar::{Symbol, symbol_of};
+use lang_tokens::Kind;
 
 /// A token by what it does to the statements round it.
 #[derive(Clone, Copy)]
@@ -27,32 +29,25 @@ pub enum Part {
     Other,
 }
 
-fn sign_part(sign: Sign) -> Part
-    ensures { result ≡ part_of (plain_kind (Kind.Sign sign)) }
+fn symbol_part(symbol: Symbol) -> Part
+    ensures { result ≡ part_of (symbol_kind symbol) }
 {
-    match sign {
-        Sign::LeftParen => Part::LeftParen,
-        Sign::RightParen => Part::RightParen,
-        Sign::LeftBrace => Part::LeftBrace,
-        Sign::RightBrace => Part::RightBrace,
-        Sign::Comma => Part::Comma,
-        Sign::Semicolon => Part::Semicolon,
-        Sign::Colon => Part::Colon,
-        _ => Part::Other,
-    }
-}
-
-fn word_part(word: Word) -> Part
-    ensures { result ≡ part_of (plain_kind (Kind.Word word)) }
-{
-    match word {
-        Word::Int => Part::Int,
-        Word::If => Part::If,
-        Word::Else => Part::Else,
-        Word::While => Part::While,
-        Word::Do => Part::Do,
-        Word::For => Part::For,
-        Word::Return => Part::Return,
+    match symbol {
+        Symbol::Name => Part::Name,
+        Symbol::Comma => Part::Comma,
+        Symbol::Semicolon => Part::Semicolon,
+        Symbol::Colon => Part::Colon,
+        Symbol::LeftParen => Part::LeftParen,
+        Symbol::RightParen => Part::RightParen,
+        Symbol::LeftBrace => Part::LeftBrace,
+        Symbol::RightBrace => Part::RightBrace,
+        Symbol::Int => Part::Int,
+        Symbol::If => Part::If,
+        Symbol::Else => Part::Else,
+        Symbol::While => Part::While,
+        Symbol::Do => Part::Do,
+        Symbol::For => Part::For,
+        Symbol::Return => Part::Return,
         _ => Part::Other,
     }
 }
@@ -61,10 +56,5 @@ fn word_part(word: Word) -> Part
 pub fn part_seen(kind: Kind) -> Part
     ensures { result ≡ part_of (plain_kind kind) }
 {
-    match kind {
-        Kind::Word(word) => word_part(word),
-        Kind::Name => Part::Name,
-        Kind::Sign(sign) => sign_part(sign),
-        Kind::Number(_) | Kind::End => Part::Other,
-    }
+    symbol_part(symbol_of(kind))
 }

@@ -64,6 +64,6 @@ abbrev pub writes_noted : Meanings → Request → List ℕ → Type 0
 writes_noted m (Analyse Report a) bytes = IsSolvable a.program a.domain a.policy a.improvements × IsAnnotatedOf a.program a.domain bytes
 writes_noted m asked bytes = (command_of m asked).writes bytes
 
--- the commands of that program: their endings and wide operations are those of the commands of `tmpl`
+-- the commands of that program: their endings, and what may exceed exact work, are those of the commands of `tmpl`
 abbrev pub annotating : Meanings → Commands
 annotating m asked = record (command_of m asked) { writes = λ bytes. writes_noted m asked bytes }

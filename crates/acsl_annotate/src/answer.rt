@@ -187,7 +187,7 @@ pub fn annotation<W: Watch>(
     ensures output { Holds (IsOutput (annotating ⟦<Exact as Meaning>⟧.means) (as_solve (map string_bytes words.now))
         (texts_of contents.now)) result.status result.bytes.items }
 
-    // Complete: the ending that `solve` has is answered, but for want of memory, or a wide operation that stands.
+    // Complete: the ending that `solve` has is answered, but for want of memory, or what exceeds exact work.
     ensures complete { (ending : StatusValue) → Ends (annotating ⟦<Exact as Meaning>⟧.means) (as_solve (map string_bytes words.now))
         (texts_of contents.now) ending
         → IsAnsweredBy (annotating ⟦<Exact as Meaning>⟧.means) (as_solve (map string_bytes words.now)) (texts_of contents.now) ending

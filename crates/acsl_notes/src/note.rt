@@ -12,20 +12,6 @@ use acsl_anchors::What;
 use lang_tree::{Coeffs, Name};
 use std::alloc::{AllocError, Global};
 
-/// Appends these bytes and an invariant.
-fn push_next_invariant(
-    text: &mut Vec<u8>,
-    names: &[Name],
-    rows: &[Coeffs],
-    between: &[u8],
-    said: Said,
-) -> Result<(), AllocError>
-    ensures { IfOk result (λ _. text.new.items ≡ text.old.items ++ (between.now ++ invariant_text names.now (clause_of rows.now said))) }
-{
-    text.extend_from_slice(between)?;
-    push_invariant(text, names, rows, said)
-}
-
 /// Appends invariants, each behind these bytes.
 fn push_more_invariants(
     text: &mut Vec<u8>,
@@ -38,7 +24,7 @@ fn push_more_invariants(
         ++ joined_on between.now (map (invariant_text names.now) (clauses_of_said rows.now said.now))) }
 {
     for clause in said {
-        push_next_invariant(text, names, rows, between, *clause)?;
+        push_invariant(text, names, rows, between, *clause)?;
     }
     Ok(())
 }
@@ -57,7 +43,7 @@ fn push_invariants(
     match said {
         [] => Ok(()),
         [first, more @ ..] => {
-            push_invariant(text, names, rows, *first)?;
+            push_invariant(text, names, rows, b"", *first)?;
             push_more_invariants(text, names, rows, between, more)?;
             Ok(())
         }

@@ -100,15 +100,17 @@ fn push_clause(
     }
 }
 
-/// Appends a condition as an invariant of a loop.
+/// Appends these bytes and a condition as an invariant of a loop.
 pub(crate) fn push_invariant(
     text: &mut Vec<u8>,
     names: &[Name],
     rows: &[Coeffs],
+    between: &[u8],
     said: Said,
 ) -> Result<(), AllocError>
-    ensures { IfOk result (λ _. text.new.items ≡ text.old.items ++ invariant_text names.now (clause_of rows.now said)) }
+    ensures { IfOk result (λ _. text.new.items ≡ text.old.items ++ (between.now ++ invariant_text names.now (clause_of rows.now said))) }
 {
+    text.extend_from_slice(between)?;
     text.extend_from_slice(b"loop invariant ")?;
     push_clause(text, names, rows, said)?;
     text.extend_from_slice(b";")?;

@@ -12,6 +12,7 @@ use Rattle.ask_words.specs.declared.request.Domain.{Domain}
 use Rattle.ask_words.specs.declared.request.Domain.TheVariants.{Intervals, Zones, Octagons, Rows}
 use Rattle.ask_words.specs.declared.request.Request.{Request}
 use Rattle.ask_words.specs.declared.request.Policy.{Policy}
+use Rattle.ask_words.specs.declared.request.Policy.TheVariants.{Best, First}
 use Rattle.ask_words.specs.declared.request.Request.TheVariants.{Analyse, Check, Bench, Upgrade, Prove, Transitions, Equations, Points}
 use Rattle.ask_words.specs.declared.request.Purpose.{Purpose}
 use Rattle.ask_words.specs.declared.request.Purpose.TheVariants.{Report, Certificate}
@@ -196,3 +197,27 @@ unless_fault (kind ∷ kinds) asked = None
 unfoldable pub request_of : List Text → Option (Request Text)
 request_of words = unless_fault (fault_of tmpl_app words)
     (option_and_then command_in (subcommand_of tmpl_app words))
+
+-- ---- examples
+
+-- the analysis of a program over a domain, with the other options left out
+abbrev pub plain_analysis : Text → Domain Text → Analysis Text
+plain_analysis program domain = record { program = program; domain = domain; improvements = 1000; policy = Best }
+
+-- words of each command that asks for no report of a program, and what they ask for
+abbrev pub examples : List (List Text × Request Text)
+examples =
+    -- the file of the program comes first
+    (codes "check" ∷ codes "p" ∷ codes "c" ∷ [], Check (codes "p") (codes "c"))
+    ∷ (codes "bench" ∷ codes "--loops" ∷ codes "3" ∷ codes "--seed" ∷ codes "7" ∷ [], Bench 7 3)
+    -- the file of a certificate alone is upgraded
+    ∷ (codes "upgrade" ∷ codes "c" ∷ [], Upgrade (codes "c"))
+    -- the program comes before its claims, wherever the options stand
+    ∷ (codes "prove" ∷ codes "p" ∷ codes "--domain=zones" ∷ codes "c" ∷ [], Prove (codes "c") (plain_analysis (codes "p") Zones))
+    -- a transition system is analysed as a program is
+    ∷ (codes "transitions" ∷ codes "s" ∷ codes "--domain" ∷ codes "zones" ∷ [], Transitions (plain_analysis (codes "s") Zones))
+    -- equations are solved by the policy that is named, and by 1,000 improvements where none are
+    ∷ (codes "equations" ∷ codes "e" ∷ codes "--policy=first" ∷ [], Equations (codes "e") 1000 First)
+    -- the program alone has its points written
+    ∷ (codes "points" ∷ codes "p" ∷ [], Points (codes "p"))
+    ∷ []

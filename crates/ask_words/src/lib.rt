@@ -1,12 +1,10 @@
 //! The words of the command line, and what they ask for.
 #![tactic(auto)]
 
-mod commands;
 pub mod laws;
 mod request;
 mod values;
 mod words;
 
-pub use commands::usage_line;
-pub use request::{Analysis, Domain, Policy, Purpose, Request};
+pub use request::{Analysis, Domain, Policy, Purpose, Request, usage_line};
 pub use words::{WordsFault, read_words};

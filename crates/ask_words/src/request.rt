@@ -1,4 +1,17 @@
-//! What the words ask for.
+//! What the words ask for: the commands, the words that each takes, as they are built for `clap`, and the request that they make.
+
+ghost use Rattle.std.specs.Prelude.{◌≡◌, IfOk, false, option_and_then, option_map, unwrap_or};
+ghost use Rattle.clap.specs.Words.{app_of, first_of, found_of, rows_of, rule_of, subcommand_rows_of};
+ghost use Rattle.clap.specs.declared.Command.TheViews.{out-Command};
+ghost use Rattle.ask_words.specs.Request.{analyse_in, analysis_app, analysis_in, analysis_text, bench_app, bench_in, check_app, check_in};
+ghost use Rattle.ask_words.specs.Request.{command_in, equations_app, equations_in, improvements_in, option_rule, points_app, points_in};
+ghost use Rattle.ask_words.specs.Request.{policy_in, prove_app, prove_in, request_text, tmpl_app, top_app, transitions_in, upgrade_app};
+ghost use Rattle.ask_words.specs.Request.{upgrade_in, usage_text, word_rule};
+
+use crate::values::{domain, number, policy};
+use base_limits::MOST_IMPROVEMENTS;
+use clap::{Arg, ArgMatches, Command};
+use std::alloc::{AllocError, Global};
 
 /// By which rule an edge is picked for an unknown whose bound is improved.
 #[derive(Clone, Copy, Debug, PartialEq, Eq)]
@@ -79,4 +92,266 @@ pub enum Request<T> {
     Points {
         program: T,
     },
+}
+
+/// The line, with its line feed, that says which words make a command.
+pub fn usage_line() -> &'static [u8]
+    ensures { result.now ≡ usage_text }
+{
+    b"usage: tmpl solve PROGRAM [--domain D] [--rows FILE] [--improvements N] [--policy P] | certify (the same) \
+      | check PROGRAM CERT | bench --seed N --loops K | upgrade CERT \
+      | prove PROGRAM CLAIMS (the options of solve) | transitions FILE (the options of solve) \
+      | equations FILE [--improvements N] [--policy P] | points PROGRAM\n"
+}
+
+/// The whole command line.
+pub(crate) fn command_line<'a>(alloc: Global) -> Result<Command<'a>, AllocError>
+    ensures { IfOk result (λ command. app_of command ≡ tmpl_app) }
+{
+    let solve = top_command(alloc).subcommand(analysis_command(alloc, "solve")?)?;
+    let certify = solve.subcommand(analysis_command(alloc, "certify")?)?;
+    let check = certify.subcommand(check_command(alloc)?)?;
+    let bench = check.subcommand(bench_command(alloc)?)?;
+    let upgrade = bench.subcommand(upgrade_command(alloc)?)?;
+    let prove = upgrade.subcommand(prove_command(alloc)?)?;
+    let transitions = prove.subcommand(analysis_command(alloc, "transitions")?)?;
+    let equations = transitions.subcommand(equations_command(alloc)?)?;
+    Ok(equations.subcommand(points_command(alloc)?)?)
+}
+
+// The program, whose own name isn't among the words; one of the commands has to be.
+fn top_command<'a>(alloc: Global) -> Command<'a>
+    ensures { app_of result ≡ top_app }
+{
+    Command::new(alloc, "tmpl")
+        .no_binary_name(true)
+        .subcommand_required(true)
+}
+
+// `solve`, `certify` or `transitions`.
+fn analysis_command<'a>(alloc: Global, name: &'a str) -> Result<Command<'a>, AllocError>
+    ensures app { IfOk result (λ command. app_of command ≡ analysis_app name.entry.now) }
+    ensures local { IfOk result (λ command. (out-Command command).has_globals ≡ false) }
+{
+    let program = Command::new(alloc, name).arg(word(alloc, "program"))?;
+    let domain = program.arg(option(alloc, "domain"))?;
+    let rows = domain.arg(option(alloc, "rows"))?;
+    let improvements = rows.arg(option(alloc, "improvements"))?;
+    Ok(improvements.arg(option(alloc, "policy"))?)
+}
+
+fn check_command<'a>(alloc: Global) -> Result<Command<'a>, AllocError>
+    ensures app { IfOk result (λ command. app_of command ≡ check_app) }
+    ensures local { IfOk result (λ command. (out-Command command).has_globals ≡ false) }
+{
+    let program = Command::new(alloc, "check").arg(word(alloc, "program"))?;
+    Ok(program.arg(word(alloc, "certificate"))?)
+}
+
+fn bench_command<'a>(alloc: Global) -> Result<Command<'a>, AllocError>
+    ensures app { IfOk result (λ command. app_of command ≡ bench_app) }
+    ensures local { IfOk result (λ command. (out-Command command).has_globals ≡ false) }
+{
+    let seed = Command::new(alloc, "bench").arg(option(alloc, "seed"))?;
+    Ok(seed.arg(option(alloc, "loops"))?)
+}
+
+fn upgrade_command<'a>(alloc: Global) -> Result<Command<'a>, AllocError>
+    ensures app { IfOk result (λ command. app_of command ≡ upgrade_app) }
+    ensures local { IfOk result (λ command. (out-Command command).has_globals ≡ false) }
+{
+    Ok(Command::new(alloc, "upgrade").arg(word(alloc, "certificate"))?)
+}
+
+fn prove_command<'a>(alloc: Global) -> Result<Command<'a>, AllocError>
+    ensures app { IfOk result (λ command. app_of command ≡ prove_app) }
+    ensures local { IfOk result (λ command. (out-Command command).has_globals ≡ false) }
+{
+    Ok(analysis_command(alloc, "prove")?.arg(word(alloc, "claims"))?)
+}
+
+fn equations_command<'a>(alloc: Global) -> Result<Command<'a>, AllocError>
+    ensures app { IfOk result (λ command. app_of command ≡ equations_app) }
+    ensures local { IfOk result (λ command. (out-Command command).has_globals ≡ false) }
+{
+    let file = Command::new(alloc, "equations").arg(word(alloc, "file"))?;
+    let improvements = file.arg(option(alloc, "improvements"))?;
+    Ok(improvements.arg(option(alloc, "policy"))?)
+}
+
+fn points_command<'a>(alloc: Global) -> Result<Command<'a>, AllocError>
+    ensures app { IfOk result (λ command. app_of command ≡ points_app) }
+    ensures local { IfOk result (λ command. (out-Command command).has_globals ≡ false) }
+{
+    Ok(Command::new(alloc, "points").arg(word(alloc, "program"))?)
+}
+
+// A positional word that has to be there.
+fn word<'a>(alloc: Global, name: &'a str) -> Arg<'a>
+    ensures rule { rule_of result ≡ word_rule name.entry.now }
+    ensures local { result.global ≡ false }
+{
+    Arg::new(alloc, name).required(true)
+}
+
+// An option of one value.
+fn option<'a>(alloc: Global, name: &'a str) -> Arg<'a>
+    ensures rule { rule_of result ≡ option_rule name.entry.now }
+    ensures local { result.global ≡ false }
+{
+    Arg::new(alloc, name).long(name)
+}
+
+/// The request that these matches make.
+pub(crate) fn request_in<'a>(matches: &ArgMatches<'a>) -> Option<Request<&'a str>>
+    ensures { option_map request_text result
+        ≡ option_and_then command_in (subcommand_rows_of matches.now) }
+{
+    let (name, given) = matches.subcommand()?;
+    command(name, given)
+}
+
+// The request of a command by its name.
+fn command<'a>(name: &str, given: &ArgMatches<'a>) -> Option<Request<&'a str>>
+    ensures { option_map request_text result ≡ command_in (name.now, rows_of (found_of given.now)) }
+{
+    if name == "solve" {
+        analyse(Purpose::Report, given)
+    } else if name == "certify" {
+        analyse(Purpose::Certificate, given)
+    } else if name == "check" {
+        check(given)
+    } else if name == "bench" {
+        bench(given)
+    } else if name == "upgrade" {
+        upgrade(given)
+    } else if name == "prove" {
+        prove(given)
+    } else if name == "transitions" {
+        transitions(given)
+    } else if name == "equations" {
+        equations(given)
+    } else if name == "points" {
+        points(given)
+    } else {
+        None
+    }
+}
+
+// The request of `solve` or of `certify`.
+fn analyse<'a>(purpose: Purpose, given: &ArgMatches<'a>) -> Option<Request<&'a str>>
+    ensures { option_map request_text result ≡ analyse_in purpose (rows_of (found_of given.now)) }
+{
+    let analysis = analysis_in(given)?;
+    Some(Request::Analyse { purpose, analysis })
+}
+
+// What is analysed, and how.
+fn analysis_in<'a>(given: &ArgMatches<'a>) -> Option<Analysis<&'a str>>
+    ensures { option_map analysis_text result ≡ analysis_in (rows_of (found_of given.now)) }
+{
+    let program = value(given, "program")?;
+    let domain = domain(value_or(given, "domain", "intervals"), value(given, "rows"))?;
+    let improvements = improvements(given)?;
+    let policy = policy_in(given)?;
+    Some(Analysis {
+        program,
+        domain,
+        improvements,
+        policy,
+    })
+}
+
+fn check<'a>(given: &ArgMatches<'a>) -> Option<Request<&'a str>>
+    ensures { option_map request_text result ≡ check_in (rows_of (found_of given.now)) }
+{
+    let program = value(given, "program")?;
+    let certificate = value(given, "certificate")?;
+    Some(Request::Check {
+        program,
+        certificate,
+    })
+}
+
+fn bench<'a>(given: &ArgMatches<'_>) -> Option<Request<&'a str>>
+    ensures { option_map request_text result ≡ bench_in (rows_of (found_of given.now)) }
+{
+    let seed = number(value(given, "seed")?, 0, 2_147_483_647)?;
+    let loops = number(value(given, "loops")?, 1, 46)?;
+    Some(Request::Bench { seed, loops })
+}
+
+fn upgrade<'a>(given: &ArgMatches<'a>) -> Option<Request<&'a str>>
+    ensures { option_map request_text result ≡ upgrade_in (rows_of (found_of given.now)) }
+{
+    let certificate = value(given, "certificate")?;
+    Some(Request::Upgrade { certificate })
+}
+
+fn prove<'a>(given: &ArgMatches<'a>) -> Option<Request<&'a str>>
+    ensures { option_map request_text result ≡ prove_in (rows_of (found_of given.now)) }
+{
+    let analysis = analysis_in(given)?;
+    let claims = value(given, "claims")?;
+    Some(Request::Prove { claims, analysis })
+}
+
+fn transitions<'a>(given: &ArgMatches<'a>) -> Option<Request<&'a str>>
+    ensures { option_map request_text result ≡ transitions_in (rows_of (found_of given.now)) }
+{
+    let analysis = analysis_in(given)?;
+    Some(Request::Transitions { analysis })
+}
+
+fn equations<'a>(given: &ArgMatches<'a>) -> Option<Request<&'a str>>
+    ensures { option_map request_text result ≡ equations_in (rows_of (found_of given.now)) }
+{
+    let file = value(given, "file")?;
+    let improvements = improvements(given)?;
+    let policy = policy_in(given)?;
+    Some(Request::Equations {
+        file,
+        improvements,
+        policy,
+    })
+}
+
+fn points<'a>(given: &ArgMatches<'a>) -> Option<Request<&'a str>>
+    ensures { option_map request_text result ≡ points_in (rows_of (found_of given.now)) }
+{
+    let program = value(given, "program")?;
+    Some(Request::Points { program })
+}
+
+// How many improvements are made at most.
+fn improvements(given: &ArgMatches<'_>) -> Option<u32>
+    ensures { result ≡ improvements_in (rows_of (found_of given.now)) }
+{
+    number(
+        value_or(given, "improvements", "1000"),
+        0,
+        MOST_IMPROVEMENTS,
+    )
+}
+
+// By which rule an edge is picked.
+fn policy_in(given: &ArgMatches<'_>) -> Option<Policy>
+    ensures { result ≡ policy_in (rows_of (found_of given.now)) }
+{
+    policy(value_or(given, "policy", "best"))
+}
+
+// The value of a word or an option, where it was given.
+fn value<'a>(given: &ArgMatches<'a>, id: &str) -> Option<&'a str>
+    ensures { option_map (λ text. text.now) result ≡ first_of id.now (rows_of (found_of given.now)) }
+{
+    given.get_str(id)
+}
+
+// The value of an option, or its default.
+fn value_or<'a>(given: &ArgMatches<'a>, id: &str, absent: &'a str) -> &'a str
+    ensures { result.now
+        ≡ unwrap_or (first_of id.now (rows_of (found_of given.now))) absent.entry.now }
+{
+    value(given, id).unwrap_or(absent)
 }

@@ -3,8 +3,7 @@
 ghost use Rattle.std.specs.Prelude.{◌≡◌, IfOk, IsErrOf, None, Some, map, string_bytes};
 ghost use Rattle.ask_words.specs.Request.{request_of, request_text};
 
-use crate::commands::{command_line, request};
-use crate::request::Request;
+use crate::request::{Request, command_line, request_in};
 use clap::error::ErrorKind;
 use std::alloc::{AllocError, Global};
 
@@ -41,7 +40,7 @@ pub fn read_words<'a>(alloc: Global, words: &'a [String]) -> Result<Request<&'a 
 {
     let command = command_line(alloc)?;
     match command.try_get_matches_from(words) {
-        Ok(matches) => request(&matches).ok_or(WordsFault::Usage),
+        Ok(matches) => request_in(&matches).ok_or(WordsFault::Usage),
         Err(error) => match error.kind() {
             ErrorKind::OutOfMemory => Err(WordsFault::NoMemory),
             _ => Err(WordsFault::Usage),

@@ -1,7 +1,9 @@
 -- What is done to check steps.
-use Rattle.std.specs.Prelude.{◌≡◌, ℕ, suc, ℤ, List, [], ◌∷◌, ◌++◌, map}
+use Rattle.std.specs.Prelude.{◌≡◌, ℕ, suc, ℤ, List, [], ◌∷◌, ◌++◌, map, None}
 use Rattle.base_numbers.specs.Rational.{ℚ, zero_ℚ, ◌≤ℚ◌}
 use Rattle.base_numbers.specs.Extended.{Ext, neg_inf, fin, pos_inf, ◌<ᴱ◌}
+use Rattle.base_fractions.specs.Fits.{long_limit}
+use Rattle.base_fractions.specs.Operation.{first_wide}
 use Rattle.flow_edges.specs.declared.edge.Edge.{Edge}
 use Rattle.flow_systems.specs.declared.spot.Site.{Site}
 use Rattle.flow_systems.specs.declared.spot.Site.TheVariants.{Step as StepSite}
@@ -9,11 +11,12 @@ use Rattle.flow_systems.specs.Equations.{Equations, Vector}
 use Rattle.flow_systems.specs.TraceTests.{trace_operations}
 use Rattle.theory_validity.specs.Words.{lin, end_form, start_of}
 use Rattle.flow_systems.specs.Constants.{linear_action}
-use Rattle.theory_validity.specs.Steps.{Pieces, word, Item, Kind, Plain, Jump, Ray, Step, edge_of, row_of, put, new_value, after_step}
+use Rattle.theory_validity.specs.Steps.{Pieces, word, Item, Kind, Plain, Jump, Ray, Step}
+use Rattle.theory_validity.specs.Steps.{ValidStep, edge_of, row_of, put, new_value, after_step}
 use Rattle.theory_validity.specs.Steps.{item_value}
 use Rattle.theory_validity.specs.Decide.{dec_and, dec_le_ℚ, dec_lt_ℚ, dec_leᴱ, dec_ltᴱ, dec_finite, dec_falls}
 use Rattle.theory_validity.specs.Faults.{Fault, TraceFault, LowFault, HighFault, RayFault, dec_named, bound_at}
-use Rattle.cert_checker.specs.Events.{Event, Test, sums, decided}
+use Rattle.cert_checker.specs.Events.{Event, Test, sums, decided, operations_of}
 use Rattle.cert_checker.specs.Runs.{fit_events, run_events}
 
 -- the site of an item
@@ -114,6 +117,10 @@ second_pass_events kind system z all s k (item ∷ items) = second_events kind s
 unfoldable pub step_events : Equations → Vector → ℕ → Step → List Event
 step_events system z s step = first_pass_events step.kind system z s 0 [] step.items
     ++ second_pass_events step.kind system z step.items s 0 step.items
+
+-- a step passes at a vector: it is valid there, and no sum of its tests is wide
+abbrev pub StepPasses : Equations → Vector → Step → Type 0
+StepPasses system z step = ValidStep system z step × (first_wide long_limit (operations_of (step_events system z 0 step)) ≡ None)
 
 -- the steps from number s on, each at the vector to which those before lead
 unfoldable pub steps_events : Equations → Vector → ℕ → List Step → List Event

@@ -26,4 +26,4 @@ pub use certificate::check;
 pub use fault::CheckFault;
 pub use law::{evidence_is_summed, stops_are_faults, tests_are_faults, unstopped_is_valid};
 pub use scratch::Scratch;
-pub use steps::{check_steps, is_valid_step};
+pub use steps::{check_steps, step_passes};

@@ -1,16 +1,16 @@
 //! The steps of a certificate.
 
-ghost use Rattle.std.specs.Prelude.{◌≡◌, ◌*◌, ◌<◌, ◌^◌, ℕ, IfOk, IsTrue, MatchResult, Some, None, length, map};
+ghost use Rattle.std.specs.Prelude.{◌≡◌, ◌*◌, ◌<◌, ◌^◌, ◌↔◌, ℕ, IfOk, IsTrue, MatchResult, Some, None, length, map};
 ghost use Rattle.std.specs.List.{list_all};
 ghost use Rattle.base_fractions.specs.Extended.{extended};
 ghost use Rattle.flow_systems.specs.Equations.{Equations, Vector};
 ghost use Rattle.flow_systems.specs.View.{equations_of};
 ghost use Rattle.cert_types.specs.Certificates.{step_of};
-ghost use Rattle.theory_validity.specs.Steps.{ValidStep, after_step, new_value, put, start_vector};
+ghost use Rattle.theory_validity.specs.Steps.{after_step, new_value, put, start_vector};
 ghost use Rattle.theory_validity.specs.Certificates.{after_steps};
 ghost use Rattle.cert_checker.specs.Events.{IsRun, first_stop};
 ghost use Rattle.cert_checker.specs.Items.{item_count, item_at, is_short};
-ghost use Rattle.cert_checker.specs.StepEvents.{second_pass_events, step_events, steps_events};
+ghost use Rattle.cert_checker.specs.StepEvents.{StepPasses, second_pass_events, step_events, steps_events};
 ghost use Rattle.cert_checker.specs.Stands.{Stands, start_at};
 ghost use Rattle.cert_checker.specs.Rooms.{HasRoom};
 ghost use Rattle.cert_checker.specs.Usable.{IsUsable};
@@ -95,13 +95,13 @@ fn copied(alloc: Global, bounds: &Bounds) -> Result<Bounds, AllocError>
     Ok(Bounds::new(list))
 }
 
-/// Whether a step is valid where these are the bounds, by the tests of a certificate's steps: a `false` says that a test fails, or that
-/// a sum is too wide.
+/// Whether a step passes where these are the bounds, as a step of a certificate does: it is valid there, and no sum of its tests is too
+/// wide.
 ///
 /// # Errors
 ///
 /// Want of memory.
-pub fn is_valid_step(
+pub fn step_passes(
     alloc: Global,
     system: &System,
     step: &Step,
@@ -109,8 +109,8 @@ pub fn is_valid_step(
 ) -> Result<bool, AllocError>
     requires few { item_count step.now < 2 ^ 32 }
     requires bounds { length bounds.now ≡ length system.now.flow.points * length system.now.template }
-    ensures { IfOk result (λ valid. IsTrue valid → (z : Vector) → Stands (equations_of system.now) bounds.now z
-        → ValidStep (equations_of system.now) z (step_of (length system.now.template) step.now)) }
+    ensures { IfOk result (λ passes. (z : Vector) → Stands (equations_of system.now) bounds.now z
+        → IsTrue passes ↔ StepPasses (equations_of system.now) z (step_of (length system.now.template) step.now)) }
 {
     let mut base = copied(alloc, bounds)?;
     let mut next = copied(alloc, bounds)?;

@@ -1,7 +1,7 @@
 //! The items of steps.
 
 ghost use Rattle.std.specs.Prelude.{◌≡◌, ◌≤◌, ◌+◌, [], ◌∷◌, IfOk, IfSome, OnOk, codes, option_and_then, option_map};
-ghost use Rattle.serde_json.specs.Data.{member, no_members, object};
+ghost use Rattle.serde_json.specs.Data.{member, no_members, object, put};
 ghost use Rattle.serde_json.specs.Find.{get};
 ghost use Rattle.serde_json.specs.View.{members_view, view};
 ghost use Rattle.cert_text.specs.Keys.{index_data, passes_at};
@@ -125,33 +125,19 @@ fn read_two_traces(
     Ok(two_traces_of(edge, low, second, number, unknown))
 }
 
-// The last members of an item with a number at `to`.
-fn ending_to(
+// The last members of an item with a number at this key, which stands between `low` and `unknown`.
+fn ending(
     alloc: Global,
     low: usize,
-    to: Value,
+    key: &str,
+    number: Value,
     unknown: Value,
 ) -> Result<Map<String, Value>, AllocError>
-    ensures { IfOk result (λ m. members_view m.entries ≡ member (codes "low") (index_data low) (member (codes "to") (view to)
+    ensures { IfOk result (λ m. members_view m.entries ≡ put (codes "low") (index_data low) (put key.now (view number)
         (member (codes "unknown") (view unknown) no_members))) }
 {
     let members = with(alloc, Map::new(alloc), "unknown", unknown)?;
-    let members = with(alloc, members, "to", to)?;
-    with(alloc, members, "low", Value::from(low))
-}
-
-// The last members of an item with a number at `rate`.
-fn ending_rate(
-    alloc: Global,
-    low: usize,
-    rate: Value,
-    unknown: Value,
-) -> Result<Map<String, Value>, AllocError>
-    ensures { IfOk result (λ m. members_view m.entries ≡ member (codes "low") (index_data low) (member (codes "rate") (view rate)
-        (member (codes "unknown") (view unknown) no_members))) }
-{
-    let members = with(alloc, Map::new(alloc), "unknown", unknown)?;
-    let members = with(alloc, members, "rate", rate)?;
+    let members = with(alloc, members, key, number)?;
     with(alloc, members, "low", Value::from(low))
 }
 
@@ -167,7 +153,7 @@ fn plain_item_object(
         (member (codes "low") (index_data low) (member (codes "to") (view to)
         (member (codes "unknown") (view unknown) no_members))))) }
 {
-    let members = ending_to(alloc, low, to, unknown)?;
+    let members = ending(alloc, low, "to", to, unknown)?;
     let members = with(alloc, members, "edge", Value::from(edge))?;
     Ok(Value::Object(members))
 }
@@ -185,7 +171,7 @@ fn jump_item_object(
         (member (codes "high") (index_data high) (member (codes "low")
         (index_data low) (member (codes "to") (view to) (member (codes "unknown") (view unknown) no_members)))))) }
 {
-    let members = ending_to(alloc, low, to, unknown)?;
+    let members = ending(alloc, low, "to", to, unknown)?;
     let members = with(alloc, members, "high", Value::from(high))?;
     let members = with(alloc, members, "edge", Value::from(edge))?;
     Ok(Value::Object(members))
@@ -204,7 +190,7 @@ fn ray_item_object(
         (member (codes "low") (index_data low) (member (codes "rate") (view rate)
         (member (codes "unknown") (view unknown) no_members)))))) }
 {
-    let members = ending_rate(alloc, low, rate, unknown)?;
+    let members = ending(alloc, low, "rate", rate, unknown)?;
     let members = with(alloc, members, "edge", Value::from(edge))?;
     let members = with(alloc, members, "direction", Value::from(direction))?;
     Ok(Value::Object(members))

@@ -5,22 +5,8 @@ ghost use Rattle.serde_json.specs.Data.{Data};
 ghost use Rattle.serde_json.specs.Find.{as_i64, as_number, as_u64, get};
 ghost use Rattle.serde_json.specs.View.{view};
 ghost use Rattle.cert_text.specs.Naming.{capped, named_traces, values_of};
-ghost use Rattle.cert_text.specs.Certificates.{
-  IsWritable,
-  Spells,
-  SpellsCert,
-  and_then,
-  cert_in,
-  format_in,
-  format_of,
-  has_key,
-  has_traces,
-  is_top,
-  list_from,
-  rest_in,
-  steps_in,
-  traces_in,
-};
+ghost use Rattle.cert_text.specs.Certificates.{IsWritable, Spells, SpellsCert, and_then, cert_in, format_in, format_of, has_key};
+ghost use Rattle.cert_text.specs.Certificates.{has_traces, is_top, list_from, rest_in, steps_in, traces_in};
 
 use crate::bounds::{Line, joined};
 use crate::entry::{Entry, is_list, read_list};

@@ -4,19 +4,8 @@ ghost use Rattle.std.specs.Prelude.{◌≡◌, ◌+◌, IfOk, Some, codes, lengt
 ghost use Rattle.serde_json.specs.Data.{member, no_members, object};
 ghost use Rattle.serde_json.specs.View.{view};
 ghost use Rattle.cert_text.specs.Keys.{passes_at};
-ghost use Rattle.cert_text.specs.Traces.{
-  are_texts,
-  fracs_at,
-  fracs_data,
-  fracs_in,
-  is_trace,
-  is_trace_by,
-  numbered_trace,
-  trace_at,
-  trace_by,
-  trace_data,
-  trace_in,
-};
+ghost use Rattle.cert_text.specs.Traces.{are_texts, fracs_at, fracs_data, fracs_in, is_trace, is_trace_by};
+ghost use Rattle.cert_text.specs.Traces.{numbered_trace, trace_at, trace_by, trace_data, trace_in};
 ghost use Rattle.cert_text.specs.Naming.{capped};
 
 use crate::entry::{Entry, is_list, read_list, write_list};

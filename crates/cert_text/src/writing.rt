@@ -12,18 +12,8 @@ ghost use Rattle.cert_text.specs.Traces.{is_trace, listing, trace_data, trace_in
 ghost use Rattle.cert_text.specs.Naming.{is_listed, named_traces, step_traces, with_traces};
 ghost use Rattle.cert_text.specs.StepForms.{is_step, step_data, step_in};
 ghost use Rattle.cert_text.specs.Evidence.{is_upper, upper_data, upper_in};
-ghost use Rattle.cert_text.specs.Certificates.{
-  IsBeyond,
-  IsWithin,
-  IsWritable,
-  SpellsCert,
-  SpellsTooMany,
-  cert_data,
-  cert_in,
-  last_data,
-  listed_traces,
-  read_again,
-};
+ghost use Rattle.cert_text.specs.Certificates.{IsBeyond, IsWithin, IsWritable, SpellsCert, SpellsTooMany, cert_data};
+ghost use Rattle.cert_text.specs.Certificates.{cert_in, last_data, listed_traces, read_again};
 
 use crate::bounds::bounds_value;
 use crate::entry::write_list;

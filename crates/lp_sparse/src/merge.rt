@@ -122,8 +122,9 @@ pub fn merge<F: OrderedField>(
     let unit = unit_of(factor);
     let mut i = 0;
     for j in 0..above.len() {
-        let place = keep_before(merged, entries, i, above[j].col as u64, product, col)?;
-        i = merge_entry(merged, entries, above[j], place, factor, product, col, unit)?;
+        let entry = &above[j];
+        let place = keep_before(merged, entries, i, entry.col as u64, product, col)?;
+        i = merge_entry(merged, entries, *entry, place, factor, product, col, unit)?;
     }
     keep_before(merged, entries, i, 4294967296, product, col)?;
     Ok(())

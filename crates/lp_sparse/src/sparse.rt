@@ -5,7 +5,7 @@ ghost use Rattle.lp_sparse.specs.Unique.{EachRises-prop};
 
 use crate::build::first_rows;
 use crate::entry::{Entry, SparseRow};
-use crate::leave::leave_out_of_each;
+use crate::leave::leave_out_with_row;
 use crate::place::value_in;
 use crate::rows::exchange;
 use base_fractions::OrderedField;
@@ -128,8 +128,7 @@ impl<F: OrderedField> Tableau<F> for Sparse<F> {
         ensures no_zero { KeepsNoZero F.meaning self.old → KeepsNoZero F.meaning self.new }
     {
         let col = zero_place(&self.others);
-        leave_out_of_each(&mut self.rows, col as u32);
-        self.rows.remove(self.basics.len());
+        leave_out_with_row(&mut self.rows, col as u32, self.basics.len());
         self.others.remove(col);
         self.goals = 1;
     }

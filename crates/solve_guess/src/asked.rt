@@ -12,10 +12,15 @@ use solve_composition::Paths;
 /// A list of unknowns of a system, the edges that are picked for them, and the bounds above which they are to rise.
 #[derive(Clone, Copy)]
 pub struct Asked<'a> {
+    /// The system.
     pub system: &'a System,
+    /// The composed forms of its edges.
     pub paths: &'a Paths,
+    /// A bound for each unknown of the system.
     pub bounds: &'a Bounds,
+    /// An edge for each unknown that has one.
     pub pick: &'a Pick,
+    /// The unknowns by their numbers: point times rows plus row, all counted from 0.
     pub list: &'a [u32],
     ghost composed: { AreComposed (equations_of system.now) paths.now },
     ghost bounds_length: { length bounds.now ≡ length system.now.flow.points * length system.now.template },

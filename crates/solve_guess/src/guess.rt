@@ -1,8 +1,6 @@
 //! The search for the greatest vector that picked edges support.
 
 ghost use Rattle.std.specs.Prelude.{◌≡◌, ◌*◌, IfOk, IfSome, length};
-ghost use Rattle.flow_systems.specs.View.{equations_of};
-ghost use Rattle.solve_composition.specs.Composed.{AreComposed};
 ghost use Rattle.solve_guess.specs.Guesses.{HasNumbers};
 
 use crate::asked::{Asked, number_at};
@@ -15,13 +13,12 @@ use crate::receding::rates;
 use crate::seen::seen_at;
 use crate::shaped::Shaped;
 use base_fractions::Frac;
-use flow_systems::{Bounds, Pick, System, fraction};
-use solve_composition::Paths;
+use flow_systems::fraction;
 use solve_ray::Rates;
 use std::alloc::{AllocError, Global};
 
-// How many vectors are tried at most.
-const MOST_VECTORS: u32 = 64;
+/// How many vectors are tried for the joint problem of a turn.
+pub const MOST_VECTORS: u32 = 64;
 
 // What cuts a vector gave: none, as it is reached everywhere; some of which one excludes the vector; or only others.
 #[derive(Clone, Copy)]
@@ -125,14 +122,14 @@ fn go(
 }
 
 // Where the search ends.
-fn search(alloc: Global, asked: Asked<'_>) -> Result<Guess, Halt>
+fn search(alloc: Global, asked: Asked<'_>, vectors: u32) -> Result<Guess, Halt>
     ensures { IfOk result (HasNumbers (length asked.entry.list.now)) }
 {
     let columns = Columns::new(alloc, asked.bounds.as_slice().len(), asked.list)?;
     let mut master = master(alloc, asked.list.len())?;
     let base = Reached::by(alloc, asked, Vec::new(alloc))?;
     add_cuts(alloc, asked, &columns, &base, &mut master)?;
-    for _vector in 0..MOST_VECTORS {
+    for _vector in 0..vectors {
         if let Some(guess) = go(alloc, asked, &columns, &mut master)? {
             return Ok(guess);
         }
@@ -141,60 +138,19 @@ fn search(alloc: Global, asked: Asked<'_>) -> Result<Guess, Halt>
 }
 
 /// A guess of where the joint problem of a list of unknowns over bounds ends: at the greatest vector that the picked edges support
-/// on the list, or nowhere, along a ray. It is found by cuts (docs/METHOD.md, "Joint problems by cuts"), and nothing is promised of
-/// it: who asks tests it. `None` where it was given up: an operation was too wide for a fraction, a transformer had no greatest value,
-/// an unknown had no edge or no number, or there were too many cuts or vectors.
+/// on the list, or nowhere, along a ray. It is found by cuts (docs/METHOD.md, "Joint problems by cuts"), for which so many vectors
+/// are tried at most, and nothing is promised of it: who asks tests it. `None` where it was given up: an operation was too wide for a
+/// fraction, a transformer had no greatest value, an unknown had no edge or no number, or there were too many cuts or vectors.
 ///
 /// # Errors
 ///
 /// Want of memory.
-pub fn guess_end(
-    alloc: Global,
-    system: &System,
-    paths: &Paths,
-    bounds: &Bounds,
-    pick: &Pick,
-    list: &[u32],
-) -> Result<Option<Guess>, AllocError>
-    requires composed { AreComposed (equations_of system.now) paths.now }
-    requires bounds { length bounds.now ≡ length system.now.flow.points * length system.now.template }
-    requires pick { length pick.now ≡ length system.now.flow.points * length system.now.template }
-    ensures { IfOk result (λ guess. IfSome guess (HasNumbers (length list.now))) }
+pub fn guess_end(alloc: Global, asked: Asked<'_>, vectors: u32) -> Result<Option<Guess>, AllocError>
+    ensures { IfOk result (λ guess. IfSome guess (HasNumbers (length asked.entry.list.now))) }
 {
-    let asked = Asked {
-        system,
-        paths,
-        bounds,
-        pick,
-        list,
-    };
-    match search(alloc, asked) {
+    match search(alloc, asked, vectors) {
         Ok(guess) => Ok(Some(guess)),
         Err(Halt::GivenUp) => Ok(None),
         Err(Halt::NoMemory) => Err(AllocError),
-    }
-}
-
-/// The same where it ends at a vector: one number for each unknown of the list, in order.
-///
-/// # Errors
-///
-/// Want of memory.
-pub fn guess_point(
-    alloc: Global,
-    system: &System,
-    paths: &Paths,
-    bounds: &Bounds,
-    pick: &Pick,
-    list: &[u32],
-) -> Result<Option<Vec<Frac>>, AllocError>
-    requires composed { AreComposed (equations_of system.now) paths.now }
-    requires bounds { length bounds.now ≡ length system.now.flow.points * length system.now.template }
-    requires pick { length pick.now ≡ length system.now.flow.points * length system.now.template }
-    ensures { IfOk result (λ guess. IfSome guess (λ numbers. length numbers.items ≡ length list.now)) }
-{
-    match guess_end(alloc, system, paths, bounds, pick, list)? {
-        Some(Guess::Point(numbers)) => Ok(Some(numbers)),
-        _ => Ok(None),
     }
 }

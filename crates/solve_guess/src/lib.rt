@@ -1,4 +1,4 @@
-//! A guess of the point at which the joint problem of a list of unknowns ends, by cuts. What is guessed is checked by who asks.
+//! A guess of where the joint problem of a list of unknowns ends, at a point or along a ray, by cuts. Who asks checks what is guessed.
 #![tactic(auto)]
 
 mod asked;
@@ -12,4 +12,5 @@ mod receding;
 mod seen;
 mod shaped;
 
-pub use guess::{Guess, guess_end, guess_point};
+pub use asked::Asked;
+pub use guess::{Guess, MOST_VECTORS, guess_end};

@@ -1,44 +1,18 @@
 //! How the states before the picked edges go on along a ray.
 
-ghost use Rattle.std.specs.Prelude.{IsTrue};
-ghost use Rattle.lang_tree.specs.Numbers.{are_numbers};
-
 use crate::asked::Asked;
 use crate::columns::Columns;
 use crate::halt::Halt;
 use crate::reached::entry;
 use crate::shaped::Shaped;
 use base_fractions::{Ext, Frac, OrderedField};
-use flow_systems::{Fracs, Trace, fraction};
+use flow_systems::{Fracs, Trace};
 use lp_dictionary::Dict;
 use lp_simplex::{Outcome, Row};
 use solve_composition::Affine;
 use solve_ray::{RateList, RateOf, Rates};
-use std::alloc::{AllocError, Global};
-
-// Each coefficient and its negation.
-fn split(alloc: Global, coeffs: &[Frac]) -> Result<Vec<Frac>, AllocError> {
-    let mut list = Vec::with_capacity(alloc, coeffs.len().saturating_mul(2))?;
-    for coeff in coeffs {
-        list.push(*coeff)?;
-        list.push(coeff.negate())?;
-    }
-    Ok(list)
-}
-
-// The same of a template row, and zeros behind them up to so many columns.
-fn split_row(alloc: Global, row: &[i64], columns: usize) -> Result<Vec<Frac>, AllocError>
-    requires { IsTrue (are_numbers row.now) }
-{
-    let mut list = Vec::with_capacity(alloc, columns)?;
-    for place in 0..row.len() {
-        let coeff = fraction(row[place]);
-        list.push(coeff)?;
-        list.push(coeff.negate())?;
-    }
-    list.resize(columns, Frac::zero())?;
-    Ok(list)
-}
+use solve_transformer::{split_coeffs, split_row};
+use std::alloc::Global;
 
 // What the bound of an unknown changes by for each unit of a ray; nothing where it is no number.
 fn change(asked: Asked<'_>, columns: &Columns, ray: &[Frac], unknown: usize) -> Option<Frac> {
@@ -62,7 +36,7 @@ fn add_source(
 ) -> Result<(), Halt> {
     for (k, row) in asked.system.template.as_slice().iter().enumerate() {
         if let Some(side) = change(asked, columns, ray, first.saturating_add(k)) {
-            let coeffs = split_row(alloc, row.as_slice(), problem.columns())?;
+            let coeffs = split_row(alloc, row.as_slice(), problem.columns() / 2)?;
             problem.add(Row { coeffs, side })?;
         }
     }
@@ -72,7 +46,7 @@ fn add_source(
 // Adds the rows of guards, which don't change along a ray.
 fn add_guards(alloc: Global, guards: &[Affine], problem: &mut Shaped) -> Result<(), Halt> {
     for guard in guards {
-        let coeffs = split(alloc, guard.coeffs.as_slice())?;
+        let coeffs = split_coeffs(alloc, guard.coeffs.as_slice())?;
         let side = Frac::zero();
         problem.add(Row { coeffs, side })?;
     }
@@ -104,7 +78,7 @@ fn steepest(
     let path = asked.paths.path(edge);
     let row = unknown % rows as u32;
     let goal = match path.rows.as_slice().get(row as usize) {
-        Some(form) => split(alloc, form.coeffs.as_slice())?,
+        Some(form) => split_coeffs(alloc, form.coeffs.as_slice())?,
         None => return Err(Halt::GivenUp),
     };
     let mut problem = Shaped::new(alloc, goal)?;

@@ -8,3 +8,4 @@ pub mod Problems
 pub mod Layouts
 pub mod Joints
 pub mod Readings
+pub mod Sizes

@@ -3,6 +3,7 @@
 
 mod based;
 mod block;
+mod cells;
 mod closure;
 mod cut;
 mod joined;
@@ -19,6 +20,7 @@ mod solve;
 mod span;
 mod table;
 
+pub use cells::joint_cells;
 pub use cut::parts;
 pub use joined::Joined;
 pub use part_lists::Parts;

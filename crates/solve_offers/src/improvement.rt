@@ -15,6 +15,7 @@ use crate::chooser::{Chooser, Policy};
 use crate::found::solve_offer;
 use crate::known::Known;
 use crate::offer::{EdgeNumbers, Offer, Values};
+use crate::offering::Offering;
 use crate::stop::Stop;
 use crate::unlimited::is_unlimited;
 use base_fractions::Ext;
@@ -25,29 +26,24 @@ use std::alloc::Global;
 // The transformer of an edge and a row at the bounds: the known one, or else solved, and known from then on.
 fn offered_value(
     alloc: Global,
-    system: &System,
-    paths: &Paths,
-    bounds: &Bounds,
+    at: &Offering,
     edge: u32,
     row: u32,
-    round: u32,
     known: &mut Known,
 ) -> Result<Ext, Stop>
-    requires composed { AreComposed (equations_of system.now) paths.now }
-    requires bounds { length bounds.now ≡ length system.now.flow.points * length system.now.template }
-    requires edge { edge < length system.now.flow.edges }
-    requires row { row < length system.now.template }
-    requires known { AreKnown system.now bounds.now known.old }
-    ensures value { MatchResult result (IsTransformerAt system.now bounds.now edge row)
-        (IsSolvedStop system.now bounds.now edge row round) }
-    ensures known { AreKnown system.now bounds.now known.new }
+    requires edge { edge < length at.now.system.now.flow.edges }
+    requires row { row < length at.now.system.now.template }
+    requires known { AreKnown at.now.system.now at.now.bounds.now known.old }
+    ensures value { MatchResult result (IsTransformerAt at.now.system.now at.now.bounds.now edge row)
+        (IsSolvedStop at.now.system.now at.now.bounds.now edge row at.now.round) }
+    ensures known { AreKnown at.now.system.now at.now.bounds.now known.new }
 {
-    match known.value(system, edge, row) {
+    match known.value(at.system, edge, row) {
         Some(value) => Ok(value),
         None => {
-            let found = solve_offer(alloc, system, paths, bounds, edge, row, round)?;
+            let found = solve_offer(alloc, at.system, at.paths, at.bounds, edge, row, at.round)?;
             let value = found.value;
-            known.keep(system, edge, row, found);
+            known.keep(at.system, edge, row, found);
             Ok(value)
         }
     }
@@ -56,44 +52,31 @@ fn offered_value(
 // What the unknown of a point and a row is offered, where its bound is below `+inf`.
 fn make_offer(
     alloc: Global,
-    system: &System,
-    paths: &Paths,
-    bounds: &Bounds,
+    at: &Offering,
     point: u32,
     row: u32,
-    round: u32,
     known: &mut Known,
 ) -> Result<Offer, Stop>
-    requires composed { AreComposed (equations_of system.now) paths.now }
-    requires bounds { length bounds.now ≡ length system.now.flow.points * length system.now.template }
-    requires point { point < length system.now.flow.points }
-    requires row { row < length system.now.template }
-    requires limited { vector_at system.now bounds.now point row <ᴱ pos_inf }
-    requires known { AreKnown system.now bounds.now known.old }
-    ensures offer { MatchResult result (IsOfferAt system.now bounds.now point row) (IsOfferStop system.now bounds.now round) }
-    ensures known { AreKnown system.now bounds.now known.new }
+    requires point { point < length at.now.system.now.flow.points }
+    requires row { row < length at.now.system.now.template }
+    requires limited { vector_at at.now.system.now at.now.bounds.now point row <ᴱ pos_inf }
+    requires known { AreKnown at.now.system.now at.now.bounds.now known.old }
+    ensures offer { MatchResult result (IsOfferAt at.now.system.now at.now.bounds.now point row)
+        (IsOfferStop at.now.system.now at.now.bounds.now at.now.round) }
+    ensures known { AreKnown at.now.system.now at.now.bounds.now known.new }
 {
-    let rows = system.template.as_slice().len() as u32;
+    let rows = at.system.template.as_slice().len() as u32;
     let mut edges = Vec::new(alloc);
     let mut values = Vec::new(alloc);
-    for (number, edge) in system.flow.edges.as_slice().iter().enumerate() {
+    for (number, edge) in at.system.flow.edges.as_slice().iter().enumerate() {
         if edge.to == point {
-            let value = offered_value(
-                alloc,
-                system,
-                paths,
-                bounds,
-                number as u32,
-                row,
-                round,
-                known,
-            )?;
+            let value = offered_value(alloc, at, number as u32, row, known)?;
             edges.push(number as u32)?;
             values.push(value)?;
         }
     }
     Ok(Offer {
-        bound: bounds.at(point * rows + row),
+        bound: at.bounds.at(point * rows + row),
         edges: EdgeNumbers::new(edges),
         values: Values::new(values),
     })
@@ -102,69 +85,52 @@ fn make_offer(
 // What an unknown is offered. One at `+inf` asks for no offer: nothing exceeds it.
 fn asked_offer(
     alloc: Global,
-    system: &System,
-    paths: &Paths,
-    bounds: &Bounds,
+    at: &Offering,
     unknown: u32,
-    round: u32,
     known: &mut Known,
 ) -> Result<Option<Offer>, Stop>
-    requires composed { AreComposed (equations_of system.now) paths.now }
-    requires bounds { length bounds.now ≡ length system.now.flow.points * length system.now.template }
-    requires unknown { unknown < length system.now.flow.points * length system.now.template }
-    requires known { AreKnown system.now bounds.now known.old }
-    ensures top { IfOk result (λ asked. IsNone asked → is_top (get_or bounds.now unknown neg_inf) ≡ true) }
+    requires unknown { unknown < length at.now.system.now.flow.points * length at.now.system.now.template }
+    requires known { AreKnown at.now.system.now at.now.bounds.now known.old }
+    ensures top { IfOk result (λ asked. IsNone asked → is_top (get_or at.now.bounds.now unknown neg_inf) ≡ true) }
     ensures offer { IfOk result (λ asked. IfSome asked
-        (IsOfferAt system.now bounds.now (unknown / length system.now.template) (unknown % length system.now.template))) }
-    ensures stop { IfErr result (IsOfferStop system.now bounds.now round) }
-    ensures known { AreKnown system.now bounds.now known.new }
+        (IsOfferAt at.now.system.now at.now.bounds.now (unknown / length at.now.system.now.template)
+        (unknown % length at.now.system.now.template))) }
+    ensures stop { IfErr result (IsOfferStop at.now.system.now at.now.bounds.now at.now.round) }
+    ensures known { AreKnown at.now.system.now at.now.bounds.now known.new }
 {
-    let bound = bounds.at(unknown);
+    let bound = at.bounds.at(unknown);
     if is_unlimited(bound) {
         return Ok(None);
     }
-    let rows = system.template.as_slice().len() as u32;
-    let offer = make_offer(
-        alloc,
-        system,
-        paths,
-        bounds,
-        unknown / rows,
-        unknown % rows,
-        round,
-        known,
-    )?;
+    let rows = at.system.template.as_slice().len() as u32;
+    let offer = make_offer(alloc, at, unknown / rows, unknown % rows, known)?;
     Ok(Some(offer))
 }
 
 // Gives an unknown its next edge, and tells whether one was offered.
 fn improve_at(
     alloc: Global,
-    system: &System,
-    paths: &Paths,
-    bounds: &Bounds,
+    at: &Offering,
     pick: &Pick,
-    round: u32,
     chooser: &Chooser,
     unknown: u32,
     better: &mut Pick,
     known: &mut Known,
 ) -> Result<bool, Stop>
-    requires composed { AreComposed (equations_of system.now) paths.now }
-    requires bounds { length bounds.now ≡ length system.now.flow.points * length system.now.template }
-    requires pick { length pick.now ≡ length system.now.flow.points * length system.now.template }
-    requires better { length better.old ≡ length system.now.flow.points * length system.now.template }
-    requires unknown { unknown < length system.now.flow.points * length system.now.template }
-    requires known { AreKnown system.now bounds.now known.old }
+    requires pick { length pick.now ≡ length at.now.system.now.flow.points * length at.now.system.now.template }
+    requires better { length better.old ≡ length at.now.system.now.flow.points * length at.now.system.now.template }
+    requires unknown { unknown < length at.now.system.now.flow.points * length at.now.system.now.template }
+    requires known { AreKnown at.now.system.now at.now.bounds.now known.old }
     ensures size { length better.new ≡ length better.old }
     ensures others { IfOk result (λ offered. (u : _) → (u ≡ unknown → ⊥) → get_or better.new u None ≡ get_or better.old u None) }
-    ensures becomes { IfOk result (λ offered. UnknownBecomes (equations_of system.now) (vector_at system.now bounds.now)
+    ensures becomes { IfOk result (λ offered. UnknownBecomes (equations_of at.now.system.now)
+        (vector_at at.now.system.now at.now.bounds.now)
         (λ offer k. (shown : _) × Policy.post chooser.now.policy shown k × (shown.now ≡ offer))
         unknown (get_or pick.now unknown None) (get_or better.new unknown None) offered) }
-    ensures stop { IfErr result (IsOfferStop system.now bounds.now round) }
-    ensures known { AreKnown system.now bounds.now known.new }
+    ensures stop { IfErr result (IsOfferStop at.now.system.now at.now.bounds.now at.now.round) }
+    ensures known { AreKnown at.now.system.now at.now.bounds.now known.new }
 {
-    let asked = asked_offer(alloc, system, paths, bounds, unknown, round, known)?;
+    let asked = asked_offer(alloc, at, unknown, known)?;
     match asked {
         None => {
             better.set(unknown, pick.at(unknown));
@@ -216,21 +182,16 @@ pub fn improve_from(
     ensures known { AreKnown system.now bounds.now known.new }
 {
     let count = system.flow.points.as_slice().len() * system.template.as_slice().len();
+    let at = Offering {
+        system,
+        paths,
+        bounds,
+        round,
+    };
     let mut better = Pick::none(alloc, system)?;
     let mut improved = false;
     for unknown in 0..count as u32 {
-        if improve_at(
-            alloc,
-            system,
-            paths,
-            bounds,
-            pick,
-            round,
-            chooser,
-            unknown,
-            &mut better,
-            known,
-        )? {
+        if improve_at(alloc, &at, pick, chooser, unknown, &mut better, known)? {
             improved = true;
         }
     }

@@ -1,7 +1,6 @@
 pub mod FoundFacts
 pub mod LayoutReads
 pub mod OutcomeFacts
-pub mod ReadFacts
 pub mod TurnItems
 pub mod Turned
 pub mod TurnedBy

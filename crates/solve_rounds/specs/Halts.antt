@@ -11,11 +11,12 @@ use Rattle.solve_composition.specs.Faults.{IsPathFault}
 use Rattle.solve_offers.specs.declared.offer.Offer.{Offer}
 use Rattle.flow_systems.specs.declared.fault.Fault.TheVariants.{Wide as WideStop}
 use Rattle.solve_rounds.specs.declared.halt.Halt.{Halt}
-use Rattle.solve_rounds.specs.declared.halt.Halt.TheVariants.{Wide, Spent, NoMemory}
+use Rattle.solve_rounds.specs.declared.halt.Halt.TheVariants.{Wide, Large, Spent, NoMemory}
+use Rattle.solve_rounds.specs.declared.halt.RoundStop.TheVariants.{Wide as WideRound}
 use Rattle.solve_offers.specs.Improvement.{pick_of}
 use Rattle.solve_offers.specs.AtBounds.{vector_at}
 use Rattle.solve_offers.specs.Stops.{IsOfferStop}
-use Rattle.solve_rounds.specs.Round.{IsRoundStop}
+use Rattle.solve_rounds.specs.Round.{IsLargeTurn, IsRoundStop, IsTurnOf}
 use Rattle.solve_rounds.specs.Chains.{state_at, bounds_after, IsChain}
 
 -- a wide operation of an offer at the bounds after a chain of at most so many rounds, in the round that would be next
@@ -36,7 +37,7 @@ pub record IsRoundHalt (system : System) (policy : Offer → ℕ → Type 0) (li
   pub pick : List (Option ℕ)
   pub size : length pick ≡ length system.flow.points * length system.template
   pub is_pick : pick_of (length system.template) pick ≡ (state_at system choose (suc before)).pick
-  pub stop : IsRoundStop system (bounds_after system choose before) pick (suc before) (WideStop spot)
+  pub stop : IsRoundStop system (bounds_after system choose before) pick (suc before) (WideRound spot)
 
 -- the first wide operation of the composition, or a wide one of an offer or of a round
 abbrev pub IsSpotOf : System → (Offer → ℕ → Type 0) → ℕ → Spot → Type 0
@@ -51,8 +52,20 @@ pub record IsSpent (system : System) (policy : Offer → ℕ → Type 0) (limit 
   pub unsolved : PostSolution (equations_of system) (vector_at system bounds) → ⊥
   pub few : limit < pick_count (equations_of system)
 
--- such a spot, such bounds, or want of memory
+-- the joint problem of a turn of the last round of a chain of at most so many has so many cells, too many
+pub record IsLargeHalt (system : System) (policy : Offer → ℕ → Type 0) (limit cells : ℕ) : Type 0 where
+  pub choose : ℕ → Choice
+  pub before : ℕ
+  pub chain : IsChain system policy (suc before) choose
+  pub within : before < limit
+  pub pick : List (Option ℕ)
+  pub size : length pick ≡ length system.flow.points * length system.template
+  pub is_pick : pick_of (length system.template) pick ≡ (state_at system choose (suc before)).pick
+  pub turn : IsLargeTurn system pick (IsTurnOf system (bounds_after system choose before) pick) cells
+
+-- such a spot, such a turn, such bounds, or want of memory
 abbrev pub IsHalt : System → (Offer → ℕ → Type 0) → ℕ → Halt → Type 0
 IsHalt system policy limit (Wide spot) = IsSpotOf system policy limit spot
+IsHalt system policy limit (Large cells) = IsLargeHalt system policy limit cells
 IsHalt system policy limit (Spent bounds) = IsSpent system policy limit bounds
 IsHalt system policy limit NoMemory = Unit {0}

@@ -18,11 +18,13 @@ use Rattle.theory_rounds.specs.Rounds.{exact_grown, exact_round}
 use Rattle.theory_rounds.specs.RoundSteps.{IsRoundBy}
 use Rattle.solve_joint.specs.Joints.{IsJointFault}
 use Rattle.solve_raise.specs.Numbers.{fitting}
-use Rattle.flow_systems.specs.declared.fault.Fault.{Fault}
-use Rattle.flow_systems.specs.declared.fault.Fault.TheVariants.{Wide, NoMemory}
+use Rattle.flow_systems.specs.declared.fault.Fault.TheVariants.{Wide as WideStop}
+use Rattle.solve_rounds.specs.declared.halt.RoundStop.{RoundStop}
+use Rattle.solve_rounds.specs.declared.halt.RoundStop.TheVariants.{Wide, Large, NoMemory}
 use Rattle.solve_offers.specs.AtBounds.{transformers, vector_at}
 use Rattle.solve_offers.specs.Improvement.{pick_of}
 use Rattle.solve_rounds.specs.Growth.{IsGrowthStop}
+use Rattle.solve_rounds.specs.Turning.{IsLarge}
 
 -- these are the steps of a round by a pick from bounds: those of the growth, and then one for each turn, made by some outcome of its joint
 -- problem that has its facts
@@ -82,12 +84,28 @@ pub record IsTurnSpot (system : System) (pick : List (Option ℕ)) (comes : ℕ 
   pub site : spot.site ≡ Joint number part
   pub wide : IsJointFault system pick bounds (numbers_of (length system.template) list) (WideIn part spot.wide)
 
--- such a spot, or want of memory
-abbrev pub IsTurnStop : System → List (Option ℕ) → (ℕ → Vector → List Item → Type 0) → ℕ → Fault Spot → Type 0
+-- a turn comes up, and its list's joint problem has so many cells, too many
+pub record IsLargeTurn (system : System) (pick : List (Option ℕ)) (comes : ℕ → Vector → List Item → Type 0) (cells : ℕ) : Type 0 where
+  pub number : ℕ
+  pub bounds : List Extended
+  pub size : length bounds ≡ length system.flow.points * length system.template
+  pub list : List Item
+  pub turn : comes number (vector_at system bounds) list
+  pub large : IsLarge system pick (numbers_of (length system.template) list) cells
+
+-- such a spot, such a turn, or want of memory
+abbrev pub IsTurnStop : System → List (Option ℕ) → (ℕ → Vector → List Item → Type 0) → ℕ → RoundStop → Type 0
 IsTurnStop system pick comes round (Wide spot) = IsTurnSpot system pick comes round spot
+IsTurnStop system pick comes round (Large cells) = IsLargeTurn system pick comes cells
 IsTurnStop system pick comes round NoMemory = Unit {0}
 
--- a wide operation of the round's growth or of one of its turns, or want of memory
-abbrev pub IsRoundStop : System → List Extended → List (Option ℕ) → ℕ → Fault Spot → Type 0
-IsRoundStop system bounds pick round stop = IsGrowthStop system bounds pick round stop
+-- a wide operation of the round's growth, or want of memory
+abbrev pub IsGrowthStopped : System → List Extended → List (Option ℕ) → ℕ → RoundStop → Type 0
+IsGrowthStopped system bounds pick round (Wide spot) = IsGrowthStop system bounds pick round (WideStop spot)
+IsGrowthStopped system bounds pick round (Large cells) = ⊥
+IsGrowthStopped system bounds pick round NoMemory = Unit {0}
+
+-- the round's growth or one of its turns stops
+abbrev pub IsRoundStop : System → List Extended → List (Option ℕ) → ℕ → RoundStop → Type 0
+IsRoundStop system bounds pick round stop = IsGrowthStopped system bounds pick round stop
     ⊎ IsTurnStop system pick (IsTurnOf system bounds pick) round stop

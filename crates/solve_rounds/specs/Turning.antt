@@ -1,9 +1,11 @@
 -- The turns of a round, on the way.
-use Rattle.std.specs.Prelude.{◌≡◌, ℕ, ◌+◌, ◌<◌, ◌≤◌, Bool, true, false, List, [], ◌∷◌, ◌++◌, length, map, get_or, Option}
+use Rattle.std.specs.Prelude.{◌≡◌, ◌⊎◌, ℕ, ◌+◌, ◌<◌, ◌≤◌, Bool, true, false, List, [], ◌∷◌, ◌++◌, length, map, get_or, Option}
 use Rattle.std.specs.List.{range_with_len, filter}
 use Rattle.base_facts.specs.Elements.{In}
 use Rattle.base_numbers.specs.Rational.{ℚ, zero_ℚ}
 use Rattle.base_numbers.specs.Extended.{Ext as Extended, neg_inf, fin, pos_inf}
+use Rattle.base_limits.specs.declared.limits.TheConstants.{MOST_CELLS}
+use Rattle.flow_systems.specs.Cells.{cells_of}
 use Rattle.flow_systems.specs.Equations.{Vector}
 use Rattle.flow_systems.specs.View.{equations_of}
 use Rattle.flow_systems.specs.declared.system.System.{System}
@@ -27,11 +29,12 @@ use Rattle.theory_rounds.specs.ComingTurns.{ComesInPart, ComesUp}
 use Rattle.solve_joint.specs.Joints.{IsJointFault}
 use Rattle.solve_joint.specs.Numbers.{ArePicked, Rises}
 use Rattle.solve_joint.specs.PartLists.{part_numbers}
+use Rattle.solve_joint.specs.Sizes.{cells_in}
 use Rattle.solve_joint.specs.declared.joined.Joined.{Joined}
 use Rattle.solve_joint.specs.declared.joined.Joined.TheVariants.{Point, Ray}
 use Rattle.solve_rounds.specs.declared.turning.Turning.{Turning}
-use Rattle.flow_systems.specs.declared.fault.Fault.{Fault}
-use Rattle.flow_systems.specs.declared.fault.Fault.TheVariants.{Wide, NoMemory}
+use Rattle.solve_rounds.specs.declared.halt.RoundStop.{RoundStop}
+use Rattle.solve_rounds.specs.declared.halt.RoundStop.TheVariants.{Wide, Large, NoMemory}
 use Rattle.solve_offers.specs.AtBounds.{vector_at, transformers}
 use Rattle.solve_offers.specs.Improvement.{pick_of}
 use Rattle.solve_rounds.specs.Growing.{Agrees}
@@ -110,9 +113,20 @@ pub record IsJoinedSpot (system : System) (pick : List (Option ℕ)) (bounds : L
   pub site : spot.site ≡ Joint turn part
   pub wide : IsJointFault system pick bounds list (WideIn part spot.wide)
 
--- such a spot, or want of memory
-abbrev pub IsJoinedStop : System → List (Option ℕ) → List Extended → List ℕ → ℕ → ℕ → Fault Spot → Type 0
+-- the joint problem of a list is small enough to be solved: the largest one that the system can have is, or this one
+abbrev pub IsSmall : System → List (Option ℕ) → List ℕ → Type 0
+IsSmall system pick list = (cells_of (equations_of system) ≤ MOST_CELLS) ⊎ (cells_in system pick list ≤ MOST_CELLS)
+
+-- it has so many cells, and isn't
+pub record IsLarge (system : System) (pick : List (Option ℕ)) (list : List ℕ) (cells : ℕ) : Type 0 where
+  pub beyond : MOST_CELLS < cells_of (equations_of system)
+  pub above : MOST_CELLS < cells
+  pub counted : cells ≡ cells_in system pick list
+
+-- such a spot, so many cells, or want of memory
+abbrev pub IsJoinedStop : System → List (Option ℕ) → List Extended → List ℕ → ℕ → ℕ → RoundStop → Type 0
 IsJoinedStop system pick bounds list turn round (Wide spot) = IsJoinedSpot system pick bounds list turn round spot
+IsJoinedStop system pick bounds list turn round (Large cells) = IsLarge system pick list cells
 IsJoinedStop system pick bounds list turn round NoMemory = Unit {0}
 
 -- a list of a part rises, and each of it is picked and was raised

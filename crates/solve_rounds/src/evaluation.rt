@@ -11,13 +11,14 @@ ghost use Rattle.solve_rounds.specs.Round.{IsRoundAt, rounded_at, AreBoundsOf, A
 ghost use Rattle.solve_rounds.specs.Turning.{AreAllDone, ComesAfter, ComesAmong, IsDone, IsPart, IsPickAt, IsWaiting, PartsWait};
 
 use crate::growth::{Grown, grow_from};
+use crate::halt::RoundStop;
 use crate::lows::places;
 use crate::turning::{Turning, finite, own, turn};
 use base_watch::Watch;
 use cert_types::{Step, Steps};
 use flow_systems::{Bounds, Pick, System};
 use solve_joint::parts;
-use solve_offers::{Known, Stop};
+use solve_offers::Known;
 use solve_transformer::Paths;
 use std::alloc::Global;
 
@@ -33,7 +34,7 @@ fn part<W: Watch>(
     list: &[u32],
     turning: &mut Turning,
     watch: &mut W,
-) -> Result<(), Stop>
+) -> Result<(), RoundStop>
     requires composed { AreComposed (equations_of system.now) paths.now }
     requires bounds { length turning.old.bounds ≡ length system.now.flow.points * length system.now.template }
     requires pick { length pick.now ≡ length system.now.flow.points * length system.now.template }
@@ -75,7 +76,7 @@ fn turns<W: Watch>(
     list: &[u32],
     turning: &mut Turning,
     watch: &mut W,
-) -> Result<(), Stop>
+) -> Result<(), RoundStop>
     requires composed { AreComposed (equations_of system.now) paths.now }
     requires bounds { length turning.old.bounds ≡ length system.now.flow.points * length system.now.template }
     requires pick { length pick.now ≡ length system.now.flow.points * length system.now.template }
@@ -114,7 +115,8 @@ fn turns<W: Watch>(
 /// # Errors
 ///
 /// `Wide` only where an operation of this round's growth or of one of its turns is too wide for a fraction: at the sites of the
-/// growth, or at that of the turn, which are numbered from 0 through the round, with the part of its joint problem. `NoMemory`.
+/// growth, or at that of the turn, which are numbered from 0 through the round, with the part of its joint problem. `Large` only where
+/// the joint problem of one of its turns has so many cells, more than `MOST_CELLS`. `NoMemory`.
 pub(crate) fn round_from<W: Watch>(
     alloc: Global,
     system: &System,
@@ -124,7 +126,7 @@ pub(crate) fn round_from<W: Watch>(
     round: u32,
     known: &Known,
     watch: &mut W,
-) -> Result<Grown, Stop>
+) -> Result<Grown, RoundStop>
     requires composed { AreComposed (equations_of system.now) paths.now }
     requires bounds { length bounds.now ≡ length system.now.flow.points * length system.now.template }
     requires pick { length pick.now ≡ length system.now.flow.points * length system.now.template }

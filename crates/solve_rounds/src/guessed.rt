@@ -14,19 +14,19 @@ ghost use Rattle.solve_rounds.specs.Putting.{AreNumberedIn};
 use crate::putting::put_numbers;
 use crate::turning::ray_items;
 use base_fractions::{Ext, Frac};
-use cert_checker::is_valid_step;
+use cert_checker::step_passes;
 use cert_types::{RayItems, Step};
 use flow_systems::{Bounds, Fracs, MOST_UNKNOWNS, PartFault, Pick, System, Trace};
-use solve_guess::{Guess, guess_end};
+use solve_guess::{Asked, Guess, MOST_VECTORS, guess_end};
 use solve_joint::{Joined, Traces};
 use solve_offers::{Stop, exceeds, supremum};
 use solve_ray::{RateOf, Rates};
 use solve_transformer::{Paths, Value, operator};
 use std::alloc::Global;
 
-/// How many unknowns a list has at least for its joint problem to be guessed before it is solved. For fewer the exact problem
-/// takes no longer than a guess with its check; so their certificates and messages are those of its last dictionary.
-pub const FEWEST_GUESSED: usize = 8;
+// How many unknowns a list has at least for its joint problem to be guessed before it is solved. For fewer the exact problem
+// takes no longer than a guess with its check; so their certificates and messages are those of its last dictionary.
+const FEWEST_GUESSED: usize = 8;
 
 // The trace of a best value; none where there is none.
 fn best_trace(value: Value) -> Option<Trace>
@@ -195,7 +195,7 @@ fn checked_ray(
         return Ok(None);
     }
     let step = Step::Ray(RayItems::new(ray_items(alloc, raises, places, shown)?));
-    if is_valid_step(alloc, system, &step, bounds)? {
+    if step_passes(alloc, system, &step, bounds)? {
         Ok(Some(Joined::Ray(rates)))
     } else {
         Ok(None)
@@ -204,8 +204,8 @@ fn checked_ray(
 
 /// An end of a list of unknowns at the bounds that was guessed and passes its check. A point does where each number exceeds its
 /// unknown's bound, and is the transformer of its picked edge where all the numbers are in place, with the trace that reaches it; a
-/// ray where its step is valid, by the tests of certificates. None where there is no guess, or it doesn't pass; an operation that
-/// is too wide is no error here.
+/// ray where its step passes, by the tests of certificates. None of a short list, and where there is no guess, or it doesn't pass; an
+/// operation that is too wide is no error here.
 pub(crate) fn guessed(
     alloc: Global,
     system: &System,
@@ -225,7 +225,17 @@ pub(crate) fn guessed(
         ⊎ IsRayValid system.now raises.now places.now bounds.now list.now joined)) }
     ensures stop { IfErr result (λ stop. stop ≡ NoMemory) }
 {
-    match guess_end(alloc, system, paths, bounds, pick, list)? {
+    if list.len() < FEWEST_GUESSED {
+        return Ok(None);
+    }
+    let asked = Asked {
+        system,
+        paths,
+        bounds,
+        pick,
+        list,
+    };
+    match guess_end(alloc, asked, MOST_VECTORS)? {
         Some(Guess::Point(to)) => checked_point(alloc, system, paths, bounds, pick, list, to),
         Some(Guess::Ray(rates)) => checked_ray(alloc, system, bounds, raises, places, list, rates),
         None => Ok(None),

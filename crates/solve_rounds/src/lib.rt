@@ -18,7 +18,6 @@ mod solving_by;
 mod turning;
 mod uppers;
 
-pub use guessed::FEWEST_GUESSED;
 pub use halt::Halt;
 pub use law::{
     one_number, one_vector, policies_have_one_number, solutions_are_ends, spent_goes_on,

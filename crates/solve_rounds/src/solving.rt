@@ -2,11 +2,10 @@
 
 ghost use Rattle.std.specs.Prelude.{◌≡◌, ◌≤◌, ◌+◌, ◌*◌, length, map, count_by, drop, IfOk, IfErr, IsTrue};
 ghost use Rattle.std.specs.List.{list_all};
-ghost use Rattle.base_limits.specs.declared.limits.TheConstants.{MOST_CELLS, MOST_IMPROVEMENTS};
+ghost use Rattle.base_limits.specs.declared.limits.TheConstants.{MOST_IMPROVEMENTS};
 ghost use Rattle.lang_tree.specs.Numbers.{are_numbers};
 ghost use Rattle.flow_templates.specs.Rows.{is_template};
 ghost use Rattle.flow_systems.specs.Equations.{Least};
-ghost use Rattle.flow_systems.specs.Cells.{cells_of};
 ghost use Rattle.flow_systems.specs.View.{equations_of};
 ghost use Rattle.theory_validity.specs.Certificates.{ValidCertificate};
 ghost use Rattle.cert_types.specs.Shaped.{IsShaped};
@@ -23,7 +22,7 @@ ghost use Rattle.base_fractions.specs.Extended.{extended};
 ghost use Rattle.solve_rounds.specs.Solving.{IsBegun, IsAdvanced, IsFinished, is_above_bottom};
 
 use crate::evaluation::round_from;
-use crate::halt::Halt;
+use crate::halt::{Halt, RoundStop};
 use crate::solution::Solved;
 use crate::uppers::uppers_at;
 use base_fractions::Ext;
@@ -66,7 +65,7 @@ fn advance<W: Watch>(
     number: u32,
     progress: &mut Progress,
     watch: &mut W,
-) -> Result<(), Stop>
+) -> Result<(), RoundStop>
     requires composed { AreComposed (equations_of system.now) paths.now }
     requires bounds { length progress.old.bounds ≡ length system.now.flow.points * length system.now.template }
     requires pick { length better ≡ length system.now.flow.points * length system.now.template }
@@ -169,7 +168,8 @@ fn look_at_rows(system: &System)
 ///
 /// `Spent` with the bounds after `limit` rounds, only where these are no post-solution; the limit is then below the number of
 /// picks. `Wide` only where its operation is too wide for a fraction: one of the composition, in round 0, of an offer at the
-/// bounds after the rounds made, in the round that would be next, or of a round made. `NoMemory`.
+/// bounds after the rounds made, in the round that would be next, or of a round made. `Large` only where the joint problem of a turn
+/// of a round made has so many cells, more than `MOST_CELLS`. `NoMemory`.
 pub fn least<W: Watch>(
     alloc: Global,
     system: &System,
@@ -178,7 +178,6 @@ pub fn least<W: Watch>(
     watch: &mut W,
 ) -> Result<Solved, Halt>
     requires limit { limit ≤ MOST_IMPROVEMENTS }
-    requires cells { cells_of (equations_of system.now) ≤ MOST_CELLS }
     ensures solved { IfOk result (IsSolved system.now (λ offer k. (shown : _) × Policy.post chooser.now.policy shown k
         × (shown.now ≡ offer)) limit) }
     ensures least { IfOk result (λ solved. Least (equations_of system.now) (vector_at system.now solved.bounds)) }

@@ -1,41 +1,31 @@
 //! One turn of a round.
 
-ghost use Rattle.std.specs.Prelude.{◌≡◌, ◌*◌, ◌+◌, ◌<◌, ◌≤◌, ℕ, ◌∷◌, [], length, map, get_or, IfOk, IfErr};
+ghost use Rattle.std.specs.Prelude.{◌≡◌, ◌*◌, ◌+◌, ◌<◌, ◌≤◌, ℕ, ◌∷◌, [], List, Option, length, map, get_or, IfOk, IfErr};
+ghost use Rattle.base_numbers.specs.Extended.{Ext as Extended};
 ghost use Rattle.base_fractions.specs.Extended.{extended};
-ghost use Rattle.lp_theory.specs.Simplex.{lp};
 ghost use Rattle.flow_systems.specs.View.{equations_of, vector_of};
 ghost use Rattle.theory_transformers.specs.JointProblems.{AllRising};
 ghost use Rattle.solve_composition.specs.Composed.{AreComposed};
 ghost use Rattle.solve_joint.specs.Numbers.{all_listed, ArePicked, Rises};
-ghost use Rattle.solve_joint.specs.Problems.{problem_of};
-ghost use Rattle.solve_joint.specs.Joints.{IsReadFrom};
+ghost use Rattle.solve_joint.specs.Joints.{IsJointFault};
+ghost use Rattle.flow_systems.specs.declared.system.System.{System as SystemValue};
 ghost use Rattle.flow_systems.specs.declared.fault.Fault.TheVariants.{NoMemory};
 ghost use Rattle.solve_rounds.specs.Lows.{AreRaised, IsRaised};
 ghost use Rattle.solve_rounds.specs.Guessed.{IsFound};
 ghost use Rattle.solve_rounds.specs.Putting.{AreNumberedIn};
-ghost use Rattle.solve_rounds.specs.Turning.{
-  MeetsCondition,
-  IsPickAt,
-  IsJoinedStop,
-  IsPart,
-  IsTurned,
-  HasSizes,
-  IsTaken,
-  finite_in,
-  is_finite,
-  jump_item_at,
-  jump_items_at,
-  ray_item_of,
-};
+ghost use Rattle.solve_rounds.specs.Turning.{MeetsCondition, IsPickAt, IsJoinedStop, IsPart, IsSmall, IsTurned, HasSizes, IsTaken};
+ghost use Rattle.solve_rounds.specs.Turning.{finite_in, is_finite, jump_item_at, jump_items_at, ray_item_of};
 
-use crate::guessed::{FEWEST_GUESSED, guessed};
+use crate::guessed::guessed;
+use crate::halt::RoundStop;
 use crate::lows::{copied, edge_of, low_of};
 use crate::putting::{put_numbers, put_tops};
 use base_fractions::{Ext, Frac};
+use base_limits::MOST_CELLS;
 use base_watch::Watch;
 use cert_types::{JumpItem, JumpItems, RayItem, RayItems, Step};
 use flow_systems::{Bounds, PartFault, Pick, Site, Spot, System, Trace};
-use solve_joint::{Joined, joint};
+use solve_joint::{Joined, joint, joint_cells};
 use solve_offers::Stop;
 use solve_ray::RateOf;
 use solve_transformer::Paths;
@@ -168,42 +158,39 @@ pub(crate) fn ray_items(
     Ok(items)
 }
 
-// The outcome of the joint problem of a list at the bounds, after so many turns.
-fn joined<W: Watch>(
-    alloc: Global,
-    system: &System,
-    paths: &Paths,
-    bounds: &Bounds,
-    pick: &Pick,
-    list: &[u32],
-    turn: u32,
-    round: u32,
-    watch: &mut W,
-) -> Result<Joined, Stop>
-    requires composed { AreComposed (equations_of system.now) paths.now }
-    requires bounds { length bounds.now ≡ length system.now.flow.points * length system.now.template }
-    requires pick { length pick.now ≡ length system.now.flow.points * length system.now.template }
-    requires rises { Rises 0 list.now }
-    requires picked { ArePicked system.now pick.now list.now }
-    requires rising { AllRising (equations_of system.now) (vector_of (length system.now.template) bounds.now)
-        (all_listed system.now pick.now list.now) }
-    ensures joined { IfOk result (IsReadFrom system.now pick.now bounds.now list.now
-        (lp (problem_of system.now pick.now bounds.now list.now))) }
-    ensures stop { IfErr result (IsJoinedStop system.now pick.now bounds.now list.now turn round) }
+// The stop of a turn whose joint problem has this fault, after so many turns.
+fn stop_of(fault: PartFault, turn: u32, round: u32) -> RoundStop
+    ensures { (system : SystemValue) (pick : List (Option ℕ)) (bounds : List Extended) (list : List ℕ)
+        → IsJointFault system pick bounds list fault → IsJoinedStop system pick bounds list turn round result }
 {
-    match joint(alloc, system, paths, bounds, pick, list, watch) {
-        Ok(joined) => Ok(joined),
-        Err(PartFault::Wide { part, wide }) => Err(Stop::Wide(Spot {
+    match fault {
+        PartFault::Wide { part, wide } => RoundStop::Wide(Spot {
             round,
             site: Site::Joint { turn, part },
             wide,
-        })),
-        Err(PartFault::NoMemory) => Err(Stop::NoMemory),
+        }),
+        PartFault::NoMemory => RoundStop::NoMemory,
     }
 }
 
-// The outcome of a list at the bounds, after so many turns: of a longer list a guess that passes its check, and else that of the
-// joint problem. It has as many parameters as a turn has.
+// Nothing where the joint problem of a list is small enough to be solved, as any is of a system whose largest is.
+fn test_size(system: &System, paths: &Paths, pick: &Pick, list: &[u32]) -> Result<(), RoundStop>
+    requires composed { AreComposed (equations_of system.now) paths.now }
+    requires pick { length pick.now ≡ length system.now.flow.points * length system.now.template }
+    requires rises { Rises 0 list.now }
+    requires picked { ArePicked system.now pick.now list.now }
+    ensures small { IfOk result (λ _. IsSmall system.now pick.now list.now) }
+    ensures stop { (bounds : List Extended) (turn round : ℕ) → IfErr result (IsJoinedStop system.now pick.now bounds list.now turn round) }
+{
+    let cells = joint_cells(system, paths, pick, list);
+    if cells > MOST_CELLS && system.cells() > MOST_CELLS {
+        return Err(RoundStop::Large(cells));
+    }
+    Ok(())
+}
+
+// The outcome of a list at the bounds, after so many turns: a guess that passes its check, and else that of the joint problem.
+// It has as many parameters as a turn has.
 fn outcome<W: Watch>(
     alloc: Global,
     system: &System,
@@ -216,7 +203,7 @@ fn outcome<W: Watch>(
     turn: u32,
     round: u32,
     watch: &mut W,
-) -> Result<Joined, Stop>
+) -> Result<Joined, RoundStop>
     requires composed { AreComposed (equations_of system.now) paths.now }
     requires bounds { length bounds.now ≡ length system.now.flow.points * length system.now.template }
     requires pick { length pick.now ≡ length system.now.flow.points * length system.now.template }
@@ -228,12 +215,14 @@ fn outcome<W: Watch>(
     ensures found { IfOk result (IsFound system.now pick.now raises.now places.now bounds.now list.now) }
     ensures stop { IfErr result (IsJoinedStop system.now pick.now bounds.now list.now turn round) }
 {
-    if list.len() >= FEWEST_GUESSED {
-        if let Some(found) = guessed(alloc, system, paths, bounds, pick, raises, places, list)? {
-            return Ok(found);
-        }
+    if let Some(found) = guessed(alloc, system, paths, bounds, pick, raises, places, list)? {
+        return Ok(found);
     }
-    joined(alloc, system, paths, bounds, pick, list, turn, round, watch)
+    test_size(system, paths, pick, list)?;
+    match joint(alloc, system, paths, bounds, pick, list, watch) {
+        Ok(joined) => Ok(joined),
+        Err(fault) => Err(stop_of(fault, turn, round)),
+    }
 }
 
 // Takes the outcome of a list: puts its step behind the others and the new bounds in place, and gives what is
@@ -269,9 +258,8 @@ fn take(
 }
 
 /// A turn of a list of unknowns that were raised: a point sets them to their numbers, and nothing is left; a ray sets those
-/// with a rate above 0 to `+inf`, and the others are left. A list of at least `FEWEST_GUESSED` unknowns takes a guess, where that
-/// passes its check; else the joint problem is solved. The watch is told the turn's number, and of the joint
-/// problem's pivots.
+/// with a rate above 0 to `+inf`, and the others are left. A guess that passes its check is taken, and else the joint problem is
+/// solved, if it isn't too large. The watch is told the turn's number, and of the joint problem's pivots.
 pub(crate) fn turn<W: Watch>(
     alloc: Global,
     system: &System,
@@ -283,7 +271,7 @@ pub(crate) fn turn<W: Watch>(
     list: &[u32],
     turning: &mut Turning,
     watch: &mut W,
-) -> Result<Vec<u32>, Stop>
+) -> Result<Vec<u32>, RoundStop>
     requires composed { AreComposed (equations_of system.now) paths.now }
     requires bounds { length turning.old.bounds ≡ length system.now.flow.points * length system.now.template }
     requires pick { length pick.now ≡ length system.now.flow.points * length system.now.template }
@@ -310,5 +298,6 @@ pub(crate) fn turn<W: Watch>(
         round,
         watch,
     )?;
-    take(alloc, raises, places, list, found, turning)
+    let left = take(alloc, raises, places, list, found, turning)?;
+    Ok(left)
 }

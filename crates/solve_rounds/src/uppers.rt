@@ -13,35 +13,30 @@ ghost use Rattle.solve_rounds.specs.Uppers.{uppers_into, uppers_of_rows};
 
 use cert_types::{Upper, Uppers};
 use flow_systems::{Bounds, System};
-use solve_offers::{Known, Stop, is_unlimited, solve_offer};
+use solve_offers::{Known, Offering, Stop, is_unlimited, solve_offer};
 use solve_transformer::Paths;
 use std::alloc::Global;
 
 // The evidence for an edge and a row at the bounds: that of the offer, which is handed out, or else solved.
 fn shown(
     alloc: Global,
-    system: &System,
-    paths: &Paths,
-    bounds: &Bounds,
+    at: &Offering,
     edge: u32,
     row: u32,
-    round: u32,
     known: &mut Known,
 ) -> Result<Upper, Stop>
-    requires composed { AreComposed (equations_of system.now) paths.now }
-    requires bounds { length bounds.now ≡ length system.now.flow.points * length system.now.template }
-    requires edge { edge < length system.now.flow.edges }
-    requires row { row < length system.now.template }
-    requires known { AreKnown system.now bounds.now known.old }
-    ensures upper { IfOk result (λ upper. evidence_of upper ≡ exact_upper (equations_of system.now) (vector_at system.now bounds.now)
-        (edge_at system.now edge) (row_at system.now row)) }
-    ensures stop { IfErr result (IsSolvedStop system.now bounds.now edge row round) }
-    ensures known { AreKnown system.now bounds.now known.new }
+    requires edge { edge < length at.now.system.now.flow.edges }
+    requires row { row < length at.now.system.now.template }
+    requires known { AreKnown at.now.system.now at.now.bounds.now known.old }
+    ensures upper { IfOk result (λ upper. evidence_of upper ≡ exact_upper (equations_of at.now.system.now)
+        (vector_at at.now.system.now at.now.bounds.now) (edge_at at.now.system.now edge) (row_at at.now.system.now row)) }
+    ensures stop { IfErr result (IsSolvedStop at.now.system.now at.now.bounds.now edge row at.now.round) }
+    ensures known { AreKnown at.now.system.now at.now.bounds.now known.new }
 {
-    match known.take(system, edge, row) {
+    match known.take(at.system, edge, row) {
         Some(found) => Ok(found.upper),
         None => {
-            let found = solve_offer(alloc, system, paths, bounds, edge, row, round)?;
+            let found = solve_offer(alloc, at.system, at.paths, at.bounds, edge, row, at.round)?;
             Ok(found.upper)
         }
     }
@@ -50,37 +45,23 @@ fn shown(
 // Puts the evidence for each edge into a point, by edge number, behind the others, where the bound is below `+inf`.
 fn push_into(
     alloc: Global,
-    system: &System,
-    paths: &Paths,
-    bounds: &Bounds,
+    at: &Offering,
     point: u32,
     row: u32,
-    round: u32,
     known: &mut Known,
     uppers: &mut Vec<Upper>,
 ) -> Result<(), Stop>
-    requires composed { AreComposed (equations_of system.now) paths.now }
-    requires bounds { length bounds.now ≡ length system.now.flow.points * length system.now.template }
-    requires row { row < length system.now.template }
-    requires limited { vector_at system.now bounds.now point row <ᴱ pos_inf }
-    requires known { AreKnown system.now bounds.now known.old }
+    requires row { row < length at.now.system.now.template }
+    requires limited { vector_at at.now.system.now at.now.bounds.now point row <ᴱ pos_inf }
+    requires known { AreKnown at.now.system.now at.now.bounds.now known.old }
     ensures uppers { IfOk result (λ done. map evidence_of uppers.new.items ≡ map evidence_of uppers.old.items
-        ++ uppers_into (equations_of system.now) (vector_at system.now bounds.now) point row) }
-    ensures stop { IfErr result (IsOfferStop system.now bounds.now round) }
-    ensures known { AreKnown system.now bounds.now known.new }
+        ++ uppers_into (equations_of at.now.system.now) (vector_at at.now.system.now at.now.bounds.now) point row) }
+    ensures stop { IfErr result (IsOfferStop at.now.system.now at.now.bounds.now at.now.round) }
+    ensures known { AreKnown at.now.system.now at.now.bounds.now known.new }
 {
-    for (number, edge) in system.flow.edges.as_slice().iter().enumerate() {
+    for (number, edge) in at.system.flow.edges.as_slice().iter().enumerate() {
         if edge.to == point {
-            let upper = shown(
-                alloc,
-                system,
-                paths,
-                bounds,
-                number as u32,
-                row,
-                round,
-                known,
-            )?;
+            let upper = shown(alloc, at, number as u32, row, known)?;
             uppers.push(upper)?;
         }
     }
@@ -90,29 +71,23 @@ fn push_into(
 // Puts the evidence for the unknowns of a point, by row, behind the others. An unknown at `+inf` needs none.
 fn push_point(
     alloc: Global,
-    system: &System,
-    paths: &Paths,
-    bounds: &Bounds,
+    at: &Offering,
     point: u32,
-    round: u32,
     known: &mut Known,
     uppers: &mut Vec<Upper>,
 ) -> Result<(), Stop>
-    requires composed { AreComposed (equations_of system.now) paths.now }
-    requires bounds { length bounds.now ≡ length system.now.flow.points * length system.now.template }
-    requires point { point < length system.now.flow.points }
-    requires known { AreKnown system.now bounds.now known.old }
+    requires point { point < length at.now.system.now.flow.points }
+    requires known { AreKnown at.now.system.now at.now.bounds.now known.old }
     ensures uppers { IfOk result (λ done. map evidence_of uppers.new.items ≡ map evidence_of uppers.old.items
-        ++ uppers_of_rows (equations_of system.now) (vector_at system.now bounds.now) point (length system.now.template)) }
-    ensures stop { IfErr result (IsOfferStop system.now bounds.now round) }
-    ensures known { AreKnown system.now bounds.now known.new }
+        ++ uppers_of_rows (equations_of at.now.system.now) (vector_at at.now.system.now at.now.bounds.now) point
+        (length at.now.system.now.template)) }
+    ensures stop { IfErr result (IsOfferStop at.now.system.now at.now.bounds.now at.now.round) }
+    ensures known { AreKnown at.now.system.now at.now.bounds.now known.new }
 {
-    let rows = system.template.as_slice().len() as u32;
+    let rows = at.system.template.as_slice().len() as u32;
     for row in 0..rows {
-        if !is_unlimited(bounds.at(point * rows + row)) {
-            push_into(
-                alloc, system, paths, bounds, point, row, round, known, uppers,
-            )?;
+        if !is_unlimited(at.bounds.at(point * rows + row)) {
+            push_into(alloc, at, point, row, known, uppers)?;
         }
     }
     Ok(())
@@ -141,18 +116,15 @@ pub(crate) fn uppers_at(
         (vector_at system.now bounds.now)) }
     ensures stop { IfErr result (IsOfferStop system.now bounds.now round) }
 {
+    let at = Offering {
+        system,
+        paths,
+        bounds,
+        round,
+    };
     let mut uppers = Vec::new(alloc);
     for point in 1..system.flow.points.as_slice().len() as u32 {
-        push_point(
-            alloc,
-            system,
-            paths,
-            bounds,
-            point,
-            round,
-            known,
-            &mut uppers,
-        )?;
+        push_point(alloc, &at, point, known, &mut uppers)?;
     }
     Ok(Uppers::new(uppers))
 }

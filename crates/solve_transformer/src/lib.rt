@@ -10,5 +10,6 @@ mod stay;
 mod transform;
 
 pub use solve_composition::{PathFault, Paths, Value, compose_all};
+pub use split::{split_coeffs, split_row};
 pub use stay::guarded_value;
 pub use transform::operator;

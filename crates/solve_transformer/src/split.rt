@@ -10,7 +10,11 @@ use base_fractions::{Frac, OrderedField};
 use flow_systems::fraction;
 use std::alloc::{AllocError, Global};
 
-// Each coefficient and its negation.
+/// Each coefficient and its negation: columns of any sign as two columns each.
+///
+/// # Errors
+///
+/// Want of memory.
 pub fn split_coeffs(alloc: Global, coeffs: &[Frac]) -> Result<Vec<Frac>, AllocError>
     ensures { IfOk result (λ list. list.items ≡ pairs coeffs.now) }
 {
@@ -34,7 +38,11 @@ fn row_entry(row: &[i64], column: usize) -> Frac
     }
 }
 
-// Each coefficient of a template row and its negation, over all columns of an edge.
+/// Each coefficient of a template row and its negation, and zeros behind them: over `width` columns of any sign, as two columns each.
+///
+/// # Errors
+///
+/// Want of memory.
 pub fn split_row(alloc: Global, row: &[i64], width: usize) -> Result<Vec<Frac>, AllocError>
     requires { IsTrue (are_numbers row.now) }
     ensures { IfOk result (λ list. list.items ≡ pairs (first_entries width (map whole row.now))) }

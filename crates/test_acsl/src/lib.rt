@@ -7,16 +7,6 @@ mod cases;
 #[cfg(test)]
 mod faults;
 #[cfg(test)]
-mod fractions;
-#[cfg(test)]
-mod labels;
-#[cfg(test)]
-mod lines;
-#[cfg(test)]
-mod loops;
-#[cfg(test)]
 mod refusals;
 #[cfg(test)]
-mod scopes;
-#[cfg(test)]
-mod templates;
+mod written;

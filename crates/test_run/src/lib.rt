@@ -3,34 +3,8 @@
 #![tactic(auto)]
 
 #[cfg(test)]
-mod bytes;
-#[cfg(test)]
 mod cases;
 #[cfg(test)]
-mod certificates;
+mod done;
 #[cfg(test)]
-mod claims;
-#[cfg(test)]
-mod counts;
-#[cfg(test)]
-mod equations;
-#[cfg(test)]
-mod faults;
-#[cfg(test)]
-mod generated;
-#[cfg(test)]
-mod loops;
-#[cfg(test)]
-mod points;
-#[cfg(test)]
-mod refusals;
-#[cfg(test)]
-mod reports;
-#[cfg(test)]
-mod texts;
-#[cfg(test)]
-mod transitions;
-#[cfg(test)]
-mod upgrades;
-#[cfg(test)]
-mod words;
+mod refused;

@@ -1,5 +1,6 @@
 //! Calls over rounds: offers, whole solutions, and the steps of their rounds.
 
+mod guesses;
 mod lines;
 mod offers;
 mod solved;

@@ -197,20 +197,59 @@ impl Case for (&str, &str) {
 // A loop; edges in order of their points, then of the text, then of the cases; words of the format as names; two variables.
 const SYSTEMS: &[(&str, &str)] = &[
     (
-        "vars x; points s, l, e; // a loop\nedge s l { x = 0; }\nedge l l { assume(x < 100); x = x + 1; }\nedge l e { assume(x >= 100); }",
-        "entry 0\nlabel 1\nlabel 1\n0>1 x=0x+0\n1>1 1x-99 x=1x+1\n1>2 -1x+100\n",
+        "vars x; points s, l, e; // a loop
+edge s l { x = 0; }
+edge l l { assume(x < 100); x = x + 1; }
+edge l e { assume(x >= 100); }",
+        "entry 0
+label 1
+label 1
+0>1 x=0x+0
+1>1 1x-99 x=1x+1
+1>2 -1x+100
+",
     ),
     (
-        "vars x;\npoints s,\na, b;\nedge a b { assume(x != 3); x = 7; assume(x != 5); }\nedge s a { x = nondet(); }\nedge a a { assume(x); assume(nondet()); }\nedge b b { }",
-        "entry 0\nlabel 3\nlabel 3\n0>1 x=?\n1>2 1x-2 x=0x+7 1x-4\n1>2 1x-2 x=0x+7 -1x+6\n1>2 -1x+4 x=0x+7 1x-4\n1>2 -1x+4 x=0x+7 -1x+6\n1>1 1x+1\n1>1 -1x+1\n2>2\n",
+        "vars x;
+points s,
+a, b;
+edge a b { assume(x != 3); x = 7; assume(x != 5); }
+edge s a { x = nondet(); }
+edge a a { assume(x); assume(nondet()); }
+edge b b { }",
+        "entry 0
+label 3
+label 3
+0>1 x=?
+1>2 1x-2 x=0x+7 1x-4
+1>2 1x-2 x=0x+7 -1x+6
+1>2 -1x+4 x=0x+7 1x-4
+1>2 -1x+4 x=0x+7 -1x+6
+1>1 1x+1
+1>1 -1x+1
+2>2
+",
     ),
     (
         "vars vars, edge; points points, edge; edge points edge { edge = vars; vars = edge - 2 * vars; }",
-        "entry 0\nlabel 1\n0>1 x=1x+0 x=-2x+0\n",
+        "entry 0
+label 1
+0>1 x=1x+0 x=-2x+0
+",
     ),
     (
-        "vars x, y;\npoints start, loop, end;\nedge start loop { x = 0; y = 0; }\nedge loop loop { assume(x < 10); x = x + 1; y = y + 1; }\nedge loop end { assume(x >= 10); }",
-        "entry 0\nlabel 2\nlabel 2\n0>1 x=0x+0 x=0x+0\n1>1 1x-9 x=1x+1 x=0x+1\n1>2 -1x+10\n",
+        "vars x, y;
+points start, loop, end;
+edge start loop { x = 0; y = 0; }
+edge loop loop { assume(x < 10); x = x + 1; y = y + 1; }
+edge loop end { assume(x >= 10); }",
+        "entry 0
+label 2
+label 2
+0>1 x=0x+0 x=0x+0
+1>1 1x-9 x=1x+1 x=0x+1
+1>2 -1x+10
+",
     ),
 ];
 

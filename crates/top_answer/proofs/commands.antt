@@ -4,9 +4,8 @@ pub mod Asking
 pub mod Analyses
 pub mod Checks
 pub mod Generated
-pub mod Upgrades
+pub mod Plain
 pub mod Claims
 pub mod Transitions
 pub mod Equations
-pub mod Points
 pub mod Table

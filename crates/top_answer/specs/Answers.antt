@@ -1,13 +1,13 @@
 -- What an answer says of the words and of the contents of the files that they name.
 use Rattle.std.specs.Prelude.{◌≡◌, ℕ, List, [], Some, None}
-use Rattle.flow_systems.specs.declared.spot.Spot.{Spot}
 use Rattle.ask_words.specs.Request.{request_of}
 use Rattle.ask_files.specs.Files.{with_texts}
 use Rattle.top_answer.specs.Commands.{Commands, command_of}
 use Rattle.ask_files.specs.Files.{Request, files_of, unread}
 use Rattle.ask_files.specs.declared.which.ReadCause.{ReadCause}
+use Rattle.top_status.specs.declared.status.Excess.{Excess}
 use Rattle.top_status.specs.declared.status.Status.{Status}
-use Rattle.top_status.specs.declared.status.Status.TheVariants.{Done, Usage, Read, Wide, Spent, Memory}
+use Rattle.top_status.specs.declared.status.Status.TheVariants.{Done, Usage, Read, Exceeded, Spent, Memory}
 use Rattle.top_texts.specs.Meanings.{Meanings}
 
 -- the words ask for this command over these texts: their request, with the contents in place of the names of its files, each of which is
@@ -18,7 +18,7 @@ pub record Asks (words contents : List (List ℕ)) (asked : Request) : Type 0 wh
   pub all_read : unread (files_of request) contents ≡ None
   pub asked_is : asked ≡ with_texts request contents
 
--- ---- the ending that stands, where there is memory and no operation of an analysis is too wide
+-- ---- the ending that stands, where there is memory and nothing exceeds exact work
 
 -- the words ask for nothing; or a file of their request isn't read; or the texts decide
 pub data Ends (commands : Commands) (words contents : List (List ℕ)) (ending : Status) : Type 0 where
@@ -27,17 +27,18 @@ pub data Ends (commands : Commands) (words contents : List (List ℕ)) (ending :
       → ending ≡ Read cause → Ends commands words contents ending
   decided : (asked : Request) → Asks words contents asked → (commands asked).ends ending → Ends commands words contents ending
 
--- an operation on the way of what the words ask for is too wide
-pub record IsTooWide (commands : Commands) (words contents : List (List ℕ)) (spot : Spot) : Type 0 where
+-- this exceeds exact work on the way of what the words ask for: an operation that is too wide, or a joint problem that is too large
+pub record IsExceeded (commands : Commands) (words contents : List (List ℕ)) (excess : Excess) : Type 0 where
   pub asked : Request
   pub asks : Asks words contents asked
-  pub too_wide : (commands asked).too_wide spot
+  pub exceeds : (commands asked).exceeds excess
 
 -- the answer is an ending of the words over these contents; or what may come in place of one, for a cause that stands; want of memory
 -- needs none
 pub data IsAnswer (commands : Commands) (words contents : List (List ℕ)) (status : Status) : Type 0 where
   is_ending : Ends commands words contents status → IsAnswer commands words contents status
-  is_wide : (spot : Spot) → status ≡ Wide spot → IsTooWide commands words contents spot → IsAnswer commands words contents status
+  is_exceeded : (excess : Excess) → status ≡ Exceeded excess → IsExceeded commands words contents excess
+      → IsAnswer commands words contents status
   is_memory : status ≡ Memory → IsAnswer commands words contents status
 
 -- ---- what is answered where an ending stands
@@ -47,11 +48,11 @@ pub data IsOfRounds (ending : Status) : Type 0 where
   of_ended : ending ≡ Done → IsOfRounds ending
   of_spent : (number : ℕ) → ending ≡ Spent number → IsOfRounds ending
 
--- the ending is answered; or, in its place, want of memory, or for an ending that improvements decide an operation that is too wide
+-- the ending is answered; or, in its place, want of memory, or for an ending that improvements decide what exceeds exact work
 pub data IsAnsweredBy (commands : Commands) (words contents : List (List ℕ)) (ending status : Status) : Type 0 where
   given : status ≡ ending → IsAnsweredBy commands words contents ending status
   no_memory : status ≡ Memory → IsAnsweredBy commands words contents ending status
-  too_wide : (spot : Spot) → status ≡ Wide spot → IsTooWide commands words contents spot → IsOfRounds ending
+  exceeded : (excess : Excess) → status ≡ Exceeded excess → IsExceeded commands words contents excess → IsOfRounds ending
       → IsAnsweredBy commands words contents ending status
 
 -- ---- the bytes

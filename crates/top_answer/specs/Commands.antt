@@ -1,5 +1,5 @@
--- What the commands do with the texts of their files, each in one record: which endings the texts have, where an operation may be too wide,
--- which bytes are written, what its messages name, and within which limits its numbers and texts are.
+-- What the commands do with the texts of their files, each in one record: which endings the texts have, what may exceed exact work, which
+-- bytes are written, what its messages name, and within which limits its numbers and texts are.
 use Rattle.std.specs.Prelude.{◌≡◌, ◌≤◌, ◌<◌, ℕ, ℤ, List, [], length}
 use Rattle.base_limits.specs.declared.limits.TheConstants.{MOST_IMPROVEMENTS}
 use Rattle.lang_tree.specs.Tree.{Statements}
@@ -21,16 +21,17 @@ use Rattle.cert_text.specs.declared.fault.FormFault.TheVariants.{Expanded}
 use Rattle.ask_files.specs.Files.{Request}
 use Rattle.top_status.specs.declared.status.CertCause.{CertCause}
 use Rattle.top_status.specs.declared.status.CertCause.TheVariants.{Form}
+use Rattle.top_status.specs.declared.status.Excess.{Excess}
+use Rattle.top_status.specs.declared.status.Excess.TheVariants.{Wide}
 use Rattle.top_status.specs.declared.status.Status.{Status}
-use Rattle.top_status.specs.declared.status.Status.TheVariants.{Done, Certificate, Text, Wide}
+use Rattle.top_status.specs.declared.status.Status.TheVariants.{Done, Certificate, Text, Exceeded}
 use Rattle.top_status.specs.declared.status.TextCause.{TextCause}
 use Rattle.top_status.specs.declared.status.TextCause.TheVariants.{Claims}
 use Rattle.top_texts.specs.ClaimTexts.{AreVerdictsOf}
 use Rattle.top_texts.specs.EquationTexts.{AreValuesOf}
-use Rattle.top_texts.specs.LeastReports.{IsLeastReport, IsReportOf}
+use Rattle.top_texts.specs.LeastReports.{ArePointsOf, IsLeastReport, IsReportOf}
 use Rattle.top_texts.specs.Meanings.{Meanings}
-use Rattle.top_texts.specs.PointTexts.{ArePointsOf}
-use Rattle.top_texts.specs.Questions.{IsWideIn, Question, QuestionEnds, analysis_question, bench_question, claims_question}
+use Rattle.top_texts.specs.Questions.{IsExcessIn, Question, QuestionEnds, analysis_question, bench_question, claims_question}
 use Rattle.top_texts.specs.Questions.{equations_question, transitions_question}
 use Rattle.top_texts.specs.Rounds.{HasRounds}
 use Rattle.top_texts.specs.Short.{HasShortRows, IsShort}
@@ -44,7 +45,7 @@ use Rattle.top_texts.specs.TransitionTexts.{IsAutoReport}
 pub data CheckEnds (m : Meanings) (text bytes : List ℕ) (ending : Status) : Type 0 where
   program_refused : (cause : TextCause) → ending ≡ Text cause → IsRefusedProgram text cause → CheckEnds m text bytes ending
   certificate_refused : (cause : CertCause) → ending ≡ Certificate cause → m.refuses text bytes cause → CheckEnds m text bytes ending
-  sum_too_wide : (spot : Spot) → ending ≡ Wide spot → m.is_wide_in text bytes spot → CheckEnds m text bytes ending
+  sum_too_wide : (spot : Spot) → ending ≡ Exceeded (Wide spot) → m.is_wide_in text bytes spot → CheckEnds m text bytes ending
   accepted : (names : List (List ℕ)) (body : Statements) (rows : List (List ℤ)) (vector : Vector) → ending ≡ Done
       → m.accepts text bytes names body rows vector
       → CheckEnds m text bytes ending
@@ -119,13 +120,13 @@ text_of_proof program claims _ = program
 
 -- ---- the commands
 
--- what a command does with its texts: the endings that they have where there is memory and no operation is too wide; the operations that
--- may be too wide instead; and the bytes that are written where it is done. For its message: the text in which that of an ending names a
+-- what a command does with its texts: the endings that they have where there is memory and nothing exceeds exact work; what may exceed it
+-- instead; and the bytes that are written where it is done. For its message: the text in which that of an ending names a
 -- line, and how many rows each point has, by which it numbers an unknown. And the limits that its words and its loads keep: of its
 -- numbers, and of these and its texts
 pub record Command : Type 1 where
   pub ends : Status → Type 0
-  pub too_wide : Spot → Type 0
+  pub exceeds : Excess → Type 0
   pub writes : List ℕ → Type 0
   pub named : Status → List ℕ
   pub has_rows : ℕ → Type 0
@@ -136,12 +137,12 @@ pub record Command : Type 1 where
 abbrev pub Commands : Type 1
 Commands = Request → Command
 
--- a command that decides about its texts, where no operation may be too wide: its messages name no line and no unknown, and it has no
--- number and no text that needs a limit, unless it says otherwise
+-- a command that decides about its texts, where nothing may come in place of its endings: its messages name no line and no unknown, and it
+-- has no number and no text that needs a limit, unless it says otherwise
 abbrev pub deciding : (Status → Type 0) → (List ℕ → Type 0) → Command
 deciding ends writes = record {
   ends = ends;
-  too_wide = λ spot. ⊥;
+  exceeds = λ excess. ⊥;
   writes = writes;
   named = λ status. [];
   has_rows = λ count. ⊥;
@@ -151,7 +152,8 @@ deciding ends writes = record {
 
 -- a command that asks a question about an equation system
 abbrev pub asking : Question → (List ℕ → Type 0) → Command
-asking question writes = record (deciding (λ status. QuestionEnds question status) writes) { too_wide = λ spot. IsWideIn question spot }
+asking question writes =
+    record (deciding (λ status. QuestionEnds question status) writes) { exceeds = λ excess. IsExcessIn question excess }
 
 -- the commands of the program
 abbrev pub command_of : Meanings → Commands

@@ -69,14 +69,14 @@ fn answer_words<W: Watch>(
 /// than `most_bytes` is enough. Further contents change nothing. Nothing is read, and nothing is written.
 ///
 /// The first cause in this order decides: the words; the program's file, then the file of rows or the certificate, and then that of the
-/// claims; the tokens, the grammar, the points and edges. An analysis goes on with the rows, the unknowns, the cells, the composition of
+/// claims; the tokens, the grammar, the points and edges. An analysis goes on with the rows, the unknowns, the composition of
 /// the edges, and the rounds; a check with the form of the certificate, its rows, the unknowns, the composition of the
 /// edges, and the tests; an upgrade reads no program, and has the form of the certificate alone; a proof of
-/// claims goes on from the cells with the faults of the claims, and from the rounds with the problems of the claims; a transition
+/// claims goes on from the unknowns with the faults of the claims, and from the rounds with the problems of the claims; a transition
 /// system has the faults of its text and of its edges, and goes on as an analysis does; equations have the faults of their text, the
 /// composition of the edges, and the rounds; the points of a program end with its edges. `Memory` may come at any time, and takes the
-/// place of any other answer. A wide operation of an analysis or of a proof may take the place of a report and of improvements that are
-/// spent.
+/// place of any other answer. A wide operation of an analysis or of a proof, or a joint problem of its rounds that is too large, may
+/// take the place of a report and of improvements that are spent.
 ///
 /// While it works, `watch` is told of rounds, turns and pivots. No clause mentions it: what is answered is said of the words and the
 /// contents alone, and `ending_is_one` and `output_is_one`, by which there is one ending and one output, speak of no watch.
@@ -94,7 +94,7 @@ pub fn answer<W: Watch>(
         result.status
         result.bytes.items }
 
-    // Complete: the ending that stands is answered, but for want of memory, or a wide operation that stands.
+    // Complete: the ending that stands is answered, but for want of memory, or an excess that stands in its place.
     ensures complete { (ending : StatusValue)
         → Ends (command_of ⟦<Exact as Meaning>⟧.means) (map string_bytes words.now) (texts_of contents.now) ending
         → IsAnsweredBy (command_of ⟦<Exact as Meaning>⟧.means) (map string_bytes words.now) (texts_of contents.now) ending result.status }

@@ -2,9 +2,9 @@
 
 ghost use Rattle.top_texts.specs.Meanings.{Meanings};
 
-/// Who says what the answers of a run mean that aren't reports of least bounds: which operations are too wide, which
-/// certificates are made, accepted and refused, which text a certificate has, which verdicts are given on claims, which programs are
-/// generated, and how messages read.
+/// Who says what the answers of a run mean that aren't reports of least bounds: which operations are too wide and which joint problems
+/// too large, which certificates are made, accepted and refused, which text a certificate has, which verdicts are given on claims, which
+/// programs are generated, and how messages read.
 /// The contract of `run` speaks of these meanings alone, so that it can be read without them; `accepted_is_least`, `ending_is_one`
 /// and their like are laws of them.
 pub trait Meaning {

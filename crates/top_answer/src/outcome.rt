@@ -1,13 +1,11 @@
 //! What the texts of a command come to: the bytes that are written, or the status of their refusal; and the text whose line is named.
 
 ghost use Rattle.std.specs.Prelude.{◌≡◌, ◌≤◌, ℕ, List, [], IfOk, IfErr, length};
-ghost use Rattle.base_limits.specs.declared.limits.TheConstants.{MOST_CELLS, MOST_IMPROVEMENTS, MOST_TEXT_BYTES};
+ghost use Rattle.base_limits.specs.declared.limits.TheConstants.{MOST_IMPROVEMENTS, MOST_TEXT_BYTES};
 ghost use Rattle.lang_tree.specs.Tree.{Statements};
 ghost use Rattle.flow_edges.specs.Edges.{edges_of_program};
 ghost use Rattle.flow_edges.specs.Points.{points_of_program};
 ghost use Rattle.flow_systems.specs.declared.system.System.{System as SystemValue};
-ghost use Rattle.flow_systems.specs.Cells.{cells_of};
-ghost use Rattle.flow_systems.specs.View.{equations_of};
 ghost use Rattle.ask_words.specs.Request.{analysis_text, request_text};
 ghost use Rattle.ask_words.specs.declared.request.Request.TheVariants.{Analyse, Check};
 ghost use Rattle.top_answer.specs.Commands.{IsWithin, command_of, text_of_proof};
@@ -84,7 +82,6 @@ fn made_of<W: Watch>(
     watch: &mut W,
 ) -> Result<Vec<u8>, Refusal>
     requires limit { limit ≤ MOST_IMPROVEMENTS }
-    requires cells { cells_of (equations_of system.now) ≤ MOST_CELLS }
     ensures ok { IfOk result (λ bytes. IsOutputOf purpose system.now policy limit bytes.items) }
     ensures err { IfErr result (λ refusal. IsHalted purpose system.now policy limit refusal) }
 {

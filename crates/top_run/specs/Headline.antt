@@ -10,13 +10,13 @@ use Rattle.ask_words.specs.declared.request.Purpose.TheVariants.{Report}
 use Rattle.ask_words.specs.declared.request.Request.TheVariants.{Analyse}
 use Rattle.base_files.specs.Faults.{Rose, next_count}
 use Rattle.base_files.specs.Loads.{LoadedFile}
-use Rattle.flow_systems.specs.declared.spot.Spot.{Spot}
 use Rattle.top_run.specs.Seen.{ShelfSeen, SinkSeen}
+use Rattle.top_status.specs.declared.status.Excess.{Excess}
 use Rattle.top_status.specs.declared.status.Status.{Status}
-use Rattle.top_status.specs.declared.status.Status.TheVariants.{Done, Memory, Read, Wide, Write}
+use Rattle.top_status.specs.declared.status.Status.TheVariants.{Done, Exceeded, Memory, Read, Write}
 use Rattle.top_texts.specs.LeastReports.{IsReportOf}
 use Rattle.top_texts.specs.Meanings.{Meanings}
-use Rattle.top_texts.specs.Questions.{IsWideIn, analysis_question}
+use Rattle.top_texts.specs.Questions.{IsExcessIn, analysis_question}
 use Rattle.top_texts.specs.Texts.{IsSolvable}
 
 -- the output gets the whole report of the least vector of these texts
@@ -25,16 +25,16 @@ pub record Prints (texts : Analysis (List ℕ)) (out out_now : SinkSeen) : Type 
   pub is_report : IsReportOf texts.program texts.domain texts.policy texts.improvements bytes
   pub appended : Appends out.held out_now.held bytes
 
--- an operation of their analysis is too wide
-abbrev pub IsWideAt : Meanings → Analysis (List ℕ) → Spot → Type 0
-IsWideAt m texts spot = IsWideIn (analysis_question m Report texts.program texts.domain texts.policy texts.improvements) spot
+-- this exceeds exact work in their analysis
+abbrev pub IsExcessAt : Meanings → Analysis (List ℕ) → Excess → Type 0
+IsExcessAt m texts excess = IsExcessIn (analysis_question m Report texts.program texts.domain texts.policy texts.improvements) excess
 
--- what may come of texts whose improvements end within the limit: their report, or want of memory, an operation that is too wide, or an
--- output that failed in this call
+-- what may come of texts whose improvements end within the limit: their report, or want of memory, an operation that is too wide or a joint
+-- problem that is too large, or an output that failed in this call
 pub data IsGiven (m : Meanings) (texts : Analysis (List ℕ)) (out out_now : SinkSeen) (status : Status) : Type 0 where
   done : status ≡ Done → IsGiven m texts out out_now status
   no_memory : status ≡ Memory → IsGiven m texts out out_now status
-  too_wide : (spot : Spot) → status ≡ Wide spot → IsWideAt m texts spot → IsGiven m texts out out_now status
+  exceeded : (excess : Excess) → status ≡ Exceeded excess → IsExcessAt m texts excess → IsGiven m texts out out_now status
   unwritten : status ≡ Write → Rose out.faults out_now.faults → IsGiven m texts out out_now status
 
 -- the answer to the texts of an analysis: it is sound and complete

@@ -48,7 +48,7 @@ pub record IsRun (commands : Commands) (m : Meanings) (words : List (List ℕ)) 
   -- Sound: what is answered is so of the words and of the contents of these loads, and so is what is put.
   pub answer : IsEnding commands words (contents_of made) status
   pub output : OutputGets (IsOutput commands words (contents_of made)) words status out out_now
-  -- Complete: the ending that stands is given, but for want of memory, a wide operation that stands, or a put that failed.
+  -- Complete: the ending that stands is given, but for want of memory, what exceeds exact work, or a put that failed.
   pub complete : (ending : Status) → Ends commands words (contents_of made) ending
       → Gives commands words (contents_of made) ending status out out_now
   -- A file that wasn't read failed in this run; the message names the cause.

@@ -14,7 +14,7 @@ use top_answer::{Exact, Meaning};
 use top_status::Status;
 
 /// What `run` does over files and bytes in memory. There no file fails that the shelf has, and no put fails: each ending of the words over
-/// these files is answered wherever there is memory, but for a wide operation that stands in place of one that improvements decide.
+/// these files is answered wherever there is memory, but for what exceeds exact work in place of one that improvements decide.
 pub fn run_in_memory<L: Sink>(
     alloc: Global,
     words: &[String],
@@ -31,7 +31,7 @@ pub fn run_in_memory<L: Sink>(
         (contents_for files (map string_bytes words.now))) result
         (⟦<PlainSink as Sink>⟧.held out.old) (⟦<PlainSink as Sink>⟧.held out.new) }
 
-    // Complete: the ending that stands is answered, but for want of memory, or a wide operation that stands.
+    // Complete: the ending that stands is answered, but for want of memory, or what exceeds exact work.
     ensures complete { (files : Contents) (ending : StatusValue) → ⟦<PlainShelf as Shelf>⟧.files shelf.old ≡ Some files
         → Ends (command_of ⟦<Exact as Meaning>⟧.means) (map string_bytes words.now) (contents_for files (map string_bytes words.now)) ending
         → IsAnsweredBy (command_of ⟦<Exact as Meaning>⟧.means) (map string_bytes words.now)

@@ -19,8 +19,8 @@ use top_status::Status;
 ///
 /// The files are loaded in this call. Where all are read, these are the texts: where it is done, the output gets the report of the least
 /// vector over the template, which every run of the program keeps to, with the number of improvements by the policy. Where the
-/// improvements end within the limit, it is done, but for want of memory, a fraction that is too wide, or an output that failed in this
-/// call. Where they aren't all read, a file failed in this call or is too long, or memory was wanted.
+/// improvements end within the limit, it is done, but for want of memory, a fraction that is too wide, a joint problem that is too large,
+/// or an output that failed in this call. Where they aren't all read, a file failed in this call or is too long, or memory was wanted.
 pub fn headline<S: Shelf, K: Sink, L: Sink>(
     alloc: Global,
     words: &[String],

@@ -17,6 +17,7 @@ use Rattle.cert_checker.specs.declared.fault.CheckFault.{CheckFault}
 use Rattle.cert_checker.specs.declared.fault.CheckFault.TheVariants as check
 use Rattle.top_status.specs.declared.status.CertCause.{CertCause}
 use Rattle.top_status.specs.declared.status.CertCause.TheVariants.{Form, Rows, Unknowns, Check}
+use Rattle.top_status.specs.declared.status.Excess.TheVariants as excess
 use Rattle.top_status.specs.declared.status.Status.{Status}
 use Rattle.top_status.specs.declared.status.Status.TheVariants as status
 
@@ -54,7 +55,8 @@ has_unknown (status.Certificate cause) = cause_has_unknown cause
 has_unknown status.Usage = false
 has_unknown (status.Read cause) = false
 has_unknown (status.Text cause) = false
-has_unknown (status.Wide spot) = site_has_unknown spot.site
+has_unknown (status.Exceeded (excess.Wide spot)) = site_has_unknown spot.site
+has_unknown (status.Exceeded (excess.Large cells)) = false
 has_unknown (status.Spent number) = false
 has_unknown status.Memory = false
 has_unknown status.Write = false

@@ -22,10 +22,11 @@ use Rattle.top_status.specs.CheckMessages.{certificate_message, wide_message}
 use Rattle.ask_files.specs.declared.which.Which.TheVariants as which
 use Rattle.ask_files.specs.declared.which.ReadCause.{ReadCause}
 use Rattle.ask_files.specs.declared.which.ReadCause.TheVariants.{Failed, TooLong}
+use Rattle.top_status.specs.declared.status.Excess.TheVariants.{Wide, Large}
 use Rattle.top_status.specs.declared.status.TextCause.{TextCause}
-use Rattle.top_status.specs.declared.status.TextCause.TheVariants.{Lex, Parse, Flow, Rows, Unknowns, Cells, Claims, Equ, Auto}
+use Rattle.top_status.specs.declared.status.TextCause.TheVariants.{Lex, Parse, Flow, Rows, Unknowns, Claims, Equ, Auto}
 use Rattle.top_status.specs.declared.status.Status.{Status}
-use Rattle.top_status.specs.declared.status.Status.TheVariants.{Done, Certificate, Usage, Read, Text, Wide, Spent, Memory, Write}
+use Rattle.top_status.specs.declared.status.Status.TheVariants.{Done, Certificate, Usage, Read, Text, Exceeded, Spent, Memory, Write}
 
 -- ---- where a cause stands
 
@@ -92,7 +93,6 @@ place_of (Parse fault) = parse_place fault
 place_of (Flow fault) = None
 place_of (Rows fault) = None
 place_of (Unknowns count) = None
-place_of (Cells count) = None
 place_of (Claims fault) = claim_place fault
 place_of (Equ fault) = equation_place fault
 place_of (Auto fault) = auto_place fault
@@ -108,7 +108,7 @@ line_in text Done = 0
 line_in text (Certificate cause) = 0
 line_in text Usage = 0
 line_in text (Read cause) = 0
-line_in text (Wide spot) = 0
+line_in text (Exceeded excess) = 0
 line_in text (Spent number) = 0
 line_in text Memory = 0
 line_in text Write = 0
@@ -232,7 +232,6 @@ text_words line (Parse fault) = parse_words program_refused line fault
 text_words line (Flow fault) = flow_words fault
 text_words line (Rows fault) = row_words fault
 text_words line (Unknowns count) = counted_in program_refused [] count (codes " unknowns\n")
-text_words line (Cells count) = counted_in program_refused [] count (codes " cells\n")
 text_words line (Claims fault) = claim_words line fault
 text_words line (Equ fault) = equation_words line fault
 text_words line (Auto fault) = auto_words line fault
@@ -258,7 +257,8 @@ words_of line (Certificate cause) = words []
 words_of line Usage = record { subject = []; before = usage_text; number = None; after = [] }
 words_of line (Read cause) = read_words cause
 words_of line (Text cause) = text_words line cause
-words_of line (Wide spot) = words []
+words_of line (Exceeded (Wide spot)) = words []
+words_of line (Exceeded (Large cells)) = counted_in program_refused [] cells (codes " cells\n")
 words_of line (Spent number) = counted_in [] (codes "spent: ") number (codes " improvements\n")
 words_of line Memory = words (codes "out of memory")
 words_of line Write = words (codes "cannot write")
@@ -278,7 +278,8 @@ message_of line rows (Certificate cause) = certificate_message rows cause
 message_of line rows Usage = line_text (words_of line Usage)
 message_of line rows (Read cause) = line_text (words_of line (Read cause))
 message_of line rows (Text cause) = line_text (words_of line (Text cause))
-message_of line rows (Wide spot) = wide_message rows spot
+message_of line rows (Exceeded (Wide spot)) = wide_message rows spot
+message_of line rows (Exceeded (Large cells)) = line_text (words_of line (Exceeded (Large cells)))
 message_of line rows (Spent number) = line_text (words_of line (Spent number))
 message_of line rows Memory = line_text (words_of line Memory)
 message_of line rows Write = line_text (words_of line Write)

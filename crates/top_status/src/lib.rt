@@ -9,4 +9,4 @@ pub use ask_files::{ReadCause, Which};
 pub use ending::{Ending, plain_ending};
 pub use message::place::{answer_line, answer_rows};
 pub use message::{Message, make_message};
-pub use status::{CertCause, Status, TextCause};
+pub use status::{CertCause, Excess, Status, TextCause};

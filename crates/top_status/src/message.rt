@@ -9,7 +9,7 @@ ghost use Rattle.top_status.specs.Parts.{told};
 mod check;
 pub(crate) mod place;
 
-use crate::status::{Status, TextCause};
+use crate::status::{Excess, Status, TextCause};
 use ask_claims::ClaimFault;
 use ask_files::{ReadCause, Which};
 use ask_words::usage_line;
@@ -207,7 +207,6 @@ fn text_parts(line: u32, cause: TextCause) -> Parts
         TextCause::Flow(fault) => flow_parts(fault),
         TextCause::Rows(fault) => row_parts(fault),
         TextCause::Unknowns(count) => counted_in(PROGRAM, b"", count as u64, b" unknowns\n"),
-        TextCause::Cells(count) => counted_in(PROGRAM, b"", count, b" cells\n"),
         TextCause::Claims(fault) => claim_parts(line, fault),
         TextCause::Equ(fault) => equation_parts(line, fault),
         TextCause::Auto(fault) => auto_parts(line, fault),
@@ -239,7 +238,8 @@ fn make_parts(line: u32, status: &Status) -> Parts
     ensures { told result ≡ words_of line status.now }
 {
     match status {
-        Status::Done | Status::Certificate(_) | Status::Wide(_) => plain(b""),
+        Status::Done | Status::Certificate(_) | Status::Exceeded(Excess::Wide(_)) => plain(b""),
+        Status::Exceeded(Excess::Large(cells)) => counted_in(PROGRAM, b"", *cells, b" cells\n"),
         Status::Usage => Parts {
             subject: b"",
             before: usage_line(),
@@ -332,7 +332,7 @@ pub fn make_message(line: u32, rows: usize, status: &Status) -> Message
 {
     match status {
         Status::Certificate(cause) => certificate_message(rows, cause),
-        Status::Wide(spot) => wide_message(rows, spot),
+        Status::Exceeded(Excess::Wide(spot)) => wide_message(rows, spot),
         _ => plain_message(line, status),
     }
 }

@@ -30,8 +30,6 @@ pub enum TextCause {
     Rows(RowFault),
     /// There are more unknowns than `flow_systems::MOST_UNKNOWNS`, so many.
     Unknowns(u32),
-    /// The largest joint problem has more than 134,217,728 cells, so many.
-    Cells(u64),
     /// The text of the claims doesn't read as claims about the program.
     Claims(ClaimFault),
     /// The text doesn't read as equations.
@@ -53,6 +51,15 @@ pub enum CertCause {
     Check(CheckFault),
 }
 
+/// What was more than exact work may take (docs/FORMATS.md, "Messages").
+#[derive(Clone, Copy, Debug, PartialEq, Eq)]
+pub enum Excess {
+    /// The result of an operation on fractions was too wide, at this spot.
+    Wide(Spot),
+    /// The joint problem of a turn had more than `base_limits::MOST_CELLS` cells, so many.
+    Large(u64),
+}
+
 /// How a run ended.
 #[derive(Clone, Copy, Debug, PartialEq, Eq)]
 pub enum Status {
@@ -66,8 +73,8 @@ pub enum Status {
     Read(ReadCause),
     /// The texts are refused.
     Text(TextCause),
-    /// An operation on fractions was too wide, at this spot.
-    Wide(Spot),
+    /// More than exact work may take came up on the way.
+    Exceeded(Excess),
     /// More improvements are needed than this number, which was asked for.
     Spent(u32),
     /// Memory was wanted.
@@ -87,7 +94,8 @@ impl Status {
             Status::Usage => 2,
             Status::Read(_) => 3,
             Status::Text(_) => 4,
-            Status::Wide(_) => 5,
+            Status::Exceeded(Excess::Wide(_)) => 5,
+            Status::Exceeded(Excess::Large(_)) => 4,
             Status::Spent(_) => 6,
             Status::Memory => 7,
             Status::Write => 8,

@@ -39,7 +39,7 @@ pub record IsUnput (status : Status) : Type 0 where
   pub undone : status ≡ Done → ⊥
   pub unwritten : status ≡ Write → ⊥
 
--- the ending where the improvements over a system don't end, or an operation is too wide
+-- the ending where the improvements over a system don't end, or something exceeds exact work
 pub record IsHaltedEnding (system : System) (policy : Policy) (limit : ℕ) (ending : Ending) : Type 0 where
   pub answer : IsAnswerToSystem Report system policy limit ending.status
   pub unput : IsUnput ending.status

@@ -23,7 +23,7 @@ use Rattle.top_texts.specs.Meanings.{Meanings}
 use Rattle.top_texts.specs.Rounds.{HasRounds}
 use Rattle.top_texts.specs.Texts.{IsReady, IsRefused, IsSolvedSystem}
 use Rattle.top_status.specs.declared.status.TextCause.{TextCause}
-use Rattle.top_status.specs.declared.status.TextCause.TheVariants.{Lex, Parse, Flow, Rows, Unknowns, Cells, Claims, Equ, Auto}
+use Rattle.top_status.specs.declared.status.TextCause.TheVariants.{Lex, Parse, Flow, Rows, Unknowns, Claims}
 
 -- ---- what the texts are
 
@@ -41,7 +41,6 @@ AreNoClaims text rows given (Parse fault) = IsRefused text rows (Parse fault)
 AreNoClaims text rows given (Flow fault) = IsRefused text rows (Flow fault)
 AreNoClaims text rows given (Rows fault) = IsRefused text rows (Rows fault)
 AreNoClaims text rows given (Unknowns count) = IsRefused text rows (Unknowns count)
-AreNoClaims text rows given (Cells count) = IsRefused text rows (Cells count)
 AreNoClaims text rows given (Claims fault) =
     (names : List (List ℕ)) × (body : Statements) × (template : List (List ℤ)) × IsReady text rows names body template
     × FileMeans given names (points_of_program body) (Err fault)

@@ -13,7 +13,7 @@ use Rattle.out_report.specs.Values.{values_text}
 use Rattle.ask_words.specs.declared.request.Policy.{Policy}
 use Rattle.top_texts.specs.Rounds.{HasRounds}
 use Rattle.top_status.specs.declared.status.TextCause.{TextCause}
-use Rattle.top_status.specs.declared.status.TextCause.TheVariants.{Lex, Parse, Flow, Rows, Unknowns, Cells, Claims, Equ, Auto}
+use Rattle.top_status.specs.declared.status.TextCause.TheVariants.{Equ}
 
 -- the text reads as equations, and this is their system
 pub record IsEquationSystem (text : List ℕ) (system : System) : Type 0 where

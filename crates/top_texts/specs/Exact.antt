@@ -10,11 +10,11 @@ use Rattle.top_texts.specs.Generated.{IsGenerated}
 use Rattle.top_texts.specs.MadeCertificates.{IsCertificateOf}
 use Rattle.top_texts.specs.Meanings.{Meanings}
 use Rattle.top_status.specs.Messages.{line_in, message_of}
-use Rattle.top_texts.specs.Spots.{HasSpot, IsClaimSpot}
+use Rattle.top_texts.specs.Spots.{HasExcess, IsClaimSpot}
 use Rattle.top_texts.specs.Upgrades.{IsUpgradeOf}
 
 -- the first operation of the composition, one of the rounds, for a certificate one of its check, and for claims the first of their
--- problems, whose exact result doesn't fit;
+-- problems, whose exact result doesn't fit; the joint problem of a turn of the rounds that has too many cells;
 -- the certificate of the rounds by the policy; certificates that are valid and in whose check no sum is too wide, and the first cause of
 -- others;
 -- the first fault of the form of bytes, and the text of the certificate that they spell; verdicts by the linear problem of each case
@@ -22,7 +22,7 @@ use Rattle.top_texts.specs.Upgrades.{IsUpgradeOf}
 -- over intervals
 abbrev pub exact : Meanings
 exact = record {
-  too_wide = λ purpose system policy limit spot. HasSpot purpose system policy limit spot;
+  exceeds = λ purpose system policy limit excess. HasExcess purpose system policy limit excess;
   too_wide_for = λ given system policy limit spot. IsClaimSpot given system policy limit spot;
   certifies = λ text rows policy limit bytes. IsCertificateOf text rows policy limit bytes;
   accepts = λ text bytes names body rows vector. IsAcceptedWith text bytes names body rows vector;

@@ -1,4 +1,4 @@
--- Reports of least vectors.
+-- Reports of least vectors, and the heads of points alone.
 use Rattle.std.specs.Prelude.{◌≡◌, ◌≤◌, ℕ, ℤ, List, length}
 use Rattle.lang_tree.specs.Tree.{Statements}
 use Rattle.flow_edges.specs.Points.{points_of_program}
@@ -8,10 +8,11 @@ use Rattle.flow_systems.specs.declared.system.System.{System}
 use Rattle.flow_systems.specs.Equations.{Least, Vector}
 use Rattle.flow_systems.specs.Report.{report_text}
 use Rattle.flow_systems.specs.Solutions.{Holds, equations_of_program}
+use Rattle.out_report.specs.Heads.{head_lines}
 use Rattle.ask_words.specs.declared.request.Domain.{Domain}
 use Rattle.ask_words.specs.declared.request.Policy.{Policy}
 use Rattle.top_texts.specs.Rounds.{HasRounds, IsSystemFor}
-use Rattle.top_texts.specs.Texts.{IsReady}
+use Rattle.top_texts.specs.Texts.{IsAnalysed, IsReady}
 
 -- the bytes are the report of a vector of a program over a template; this vector is the least one, and holds in every run of the program
 pub record IsLeastReport (names : List (List ℕ)) (body : Statements) (template : List (List ℤ)) (vector : Vector) (footer : Footer)
@@ -34,3 +35,11 @@ pub record IsReportOf (text : List ℕ) (rows : Domain (List ℕ)) (policy : Pol
   pub vector : Vector
   pub has_rounds : HasRounds system policy rounds vector
   pub least : IsLeastReport names body template vector (Improvements rounds) bytes
+
+-- the text is a program whose points and edges are within the limits, and the bytes are the heads of its points in order, as its report
+-- has them
+pub record ArePointsOf (text bytes : List ℕ) : Type 0 where
+  pub names : List (List ℕ)
+  pub body : Statements
+  pub analysed : IsAnalysed text names body
+  pub heads : bytes ≡ head_lines 0 (points_of_program body)

@@ -7,7 +7,6 @@ pub mod Upgrades
 pub mod Meanings
 pub mod ClaimTexts
 pub mod EquationTexts
-pub mod PointTexts
 pub mod TransitionTexts
 pub mod Generated
 pub mod Questions

@@ -11,9 +11,11 @@ use Rattle.ask_words.specs.declared.request.Policy.{Policy}
 use Rattle.ask_words.specs.declared.request.Purpose.{Purpose}
 use Rattle.cert_text.specs.declared.fault.FormFault.{FormFault}
 use Rattle.top_status.specs.declared.status.CertCause.{CertCause}
+use Rattle.top_status.specs.declared.status.Excess.{Excess}
 use Rattle.top_status.specs.declared.status.Status.{Status}
 
--- the solver: where an operation of the analysis of a system is too wide, by policy and limit, and where one for the claims of a text;
+-- the solver: what exceeds exact work in the analysis of a system, by policy and limit, and where an operation for the claims of a text is
+-- too wide;
 -- which bytes are the certificate that its rounds make of texts the checker: which bytes are a certificate of a text that it accepts,
 -- with the program, the rows and the vector of bounds; by which cause it refuses them, at which operation they are too wide; and how many
 -- rows a certificate has the form of certificates: by which fault bytes spell none; and which bytes are written of the certificate that
@@ -22,7 +24,7 @@ use Rattle.top_status.specs.declared.status.Status.{Status}
 -- of each ending by a line and a number of rows; the line that it names in a text, and the rows that it counts by where each point has so
 -- many
 pub record Meanings : Type 1 where
-  pub too_wide : Purpose → System → Policy → ℕ → Spot → Type 0
+  pub exceeds : Purpose → System → Policy → ℕ → Excess → Type 0
   pub too_wide_for : (given : List ℕ) → System → Policy → ℕ → Spot → Type 0
   pub certifies : List ℕ → Domain (List ℕ) → Policy → ℕ → List ℕ → Type 0
   pub accepts : (text bytes : List ℕ) → List (List ℕ) → Statements → List (List ℤ) → Vector → Type 0

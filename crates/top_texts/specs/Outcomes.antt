@@ -21,19 +21,20 @@ use Rattle.ask_words.specs.declared.request.Policy.{Policy}
 use Rattle.top_texts.specs.Checks.{IsCheckSpot, IsCompositionSpot, IsFormFault, IsRefusedCertificate, NoneIsWide, IsStopped, system_with}
 use Rattle.top_texts.specs.Checks.{theirs}
 use Rattle.top_texts.specs.Endings.{CheckEnd, UpgradeEnd}
-use Rattle.top_texts.specs.Questions.{IsWideIn, Question, QuestionEnds}
+use Rattle.top_texts.specs.Questions.{IsExcessIn, Question, QuestionEnds}
 use Rattle.top_texts.specs.Policies.{rule_of}
 use Rattle.top_texts.specs.Rounds.{EndsWithin, HasRounds, RunsOut}
-use Rattle.top_texts.specs.Spots.{HasSpot, IsWideFor}
+use Rattle.top_texts.specs.Spots.{HasExcess, IsWideFor}
 use Rattle.top_texts.specs.TransitionTexts.{AreNoTransitions}
 use Rattle.top_texts.specs.Texts.{IsRefused, IsRefusedProgram, unknowns}
 use Rattle.ask_words.specs.declared.request.Purpose.{Purpose}
 use Rattle.ask_words.specs.declared.request.Purpose.TheVariants.{Report, Certificate as AsCertificate}
 use Rattle.top_status.specs.declared.status.CertCause.TheVariants as form
+use Rattle.top_status.specs.declared.status.Excess.TheVariants.{Wide}
 use Rattle.top_status.specs.declared.status.Status.{Status}
 use Rattle.top_status.specs.declared.status.Status.TheVariants as status
 use Rattle.top_texts.specs.declared.refusal.Refusal.{Refusal}
-use Rattle.top_texts.specs.declared.refusal.Refusal.TheVariants.{Text, Certificate, Wide, Spent, NoMemory}
+use Rattle.top_texts.specs.declared.refusal.Refusal.TheVariants.{Text, Certificate, Exceeded, Spent, NoMemory}
 use Rattle.flow_systems.specs.declared.limits.TheConstants.{MOST_UNKNOWNS}
 
 -- the text of a program is refused by this cause; want of memory needs none
@@ -56,7 +57,7 @@ IsRefusedAlong text rows _ = ⊥
 
 -- why the analysis of a system has no end; want of memory needs none
 abbrev pub IsHalted : Purpose → System → Policy → ℕ → Refusal → Type 0
-IsHalted purpose system policy limit (Wide spot) = HasSpot purpose system policy limit spot
+IsHalted purpose system policy limit (Exceeded excess) = HasExcess purpose system policy limit excess
 IsHalted purpose system policy limit (Spent number) = RunsOut system policy limit × (number ≡ limit)
 IsHalted purpose system policy limit NoMemory = Unit {0}
 IsHalted purpose system policy limit _ = ⊥
@@ -108,14 +109,14 @@ pub record FitsProgram (names : List (List ℕ)) (body : Statements) (cert : Cer
 
 -- why there are no verdicts on claims at a vector; want of memory needs none
 abbrev pub AreUnjudged : Equations → Vector → List Claim → Refusal → Type 0
-AreUnjudged system vector claims (Wide spot) = IsWideFor system vector claims spot
+AreUnjudged system vector claims (Exceeded (Wide spot)) = IsWideFor system vector claims spot
 AreUnjudged system vector claims NoMemory = Unit {0}
 AreUnjudged system vector claims _ = ⊥
 
 -- why a system and a certificate aren't accepted
 abbrev pub IsUnaccepted : Equations → TheoryCertificate → Refusal → Type 0
 IsUnaccepted system certificate (Certificate (form.Check fault)) = IsStopped system certificate fault
-IsUnaccepted system certificate (Wide spot) = IsCompositionSpot system spot ⊎ IsCheckSpot system certificate spot
+IsUnaccepted system certificate (Exceeded (Wide spot)) = IsCompositionSpot system spot ⊎ IsCheckSpot system certificate spot
 IsUnaccepted system certificate NoMemory = Unit {0}
 IsUnaccepted system certificate _ = ⊥
 
@@ -136,14 +137,14 @@ GetsNoReport names body cert refusal =
 abbrev pub refused : Refusal → Status
 refused (Text cause) = status.Text cause
 refused (Certificate cause) = status.Certificate cause
-refused (Wide spot) = status.Wide spot
+refused (Exceeded excess) = status.Exceeded excess
 refused (Spent number) = status.Spent number
 refused NoMemory = status.Memory
 
 -- what an answer to the analysis of a system says of it
 abbrev pub IsAnswerToSystem : Purpose → System → Policy → ℕ → Status → Type 0
 IsAnswerToSystem purpose system policy limit status.Done = EndsWithin system policy limit
-IsAnswerToSystem purpose system policy limit (status.Wide spot) = HasSpot purpose system policy limit spot
+IsAnswerToSystem purpose system policy limit (status.Exceeded excess) = HasExcess purpose system policy limit excess
 IsAnswerToSystem purpose system policy limit (status.Spent number) = RunsOut system policy limit × (number ≡ limit)
 IsAnswerToSystem purpose system policy limit status.Memory = Unit {0}
 IsAnswerToSystem purpose system policy limit status.Write = EndsWithin system policy limit
@@ -153,7 +154,7 @@ IsAnswerToSystem purpose system policy limit _ = ⊥
 abbrev pub QuestionAnswer : Question → Status → Type 0
 QuestionAnswer question status.Done = QuestionEnds question status.Done
 QuestionAnswer question (status.Text cause) = question.is_refused cause
-QuestionAnswer question (status.Wide spot) = IsWideIn question spot
+QuestionAnswer question (status.Exceeded excess) = IsExcessIn question excess
 QuestionAnswer question (status.Spent number) = QuestionEnds question (status.Spent number)
 QuestionAnswer question status.Memory = Unit {0}
 QuestionAnswer question status.Write = QuestionEnds question status.Done
@@ -163,7 +164,7 @@ QuestionAnswer question _ = ⊥
 abbrev pub IsUnanswered : Question → Refusal → Type 0
 IsUnanswered question (Text cause) = question.is_refused cause
 IsUnanswered question (Certificate cause) = ⊥
-IsUnanswered question (Wide spot) = IsWideIn question spot
+IsUnanswered question (Exceeded excess) = IsExcessIn question excess
 IsUnanswered question (Spent number) = QuestionEnds question (status.Spent number)
 IsUnanswered question NoMemory = Unit {0}
 
@@ -172,7 +173,7 @@ abbrev pub IsAnswerToCheck : List ℕ → List ℕ → Status → Type 0
 IsAnswerToCheck text bytes status.Done = CheckEnd text bytes status.Done
 IsAnswerToCheck text bytes (status.Certificate cause) = CheckEnd text bytes (status.Certificate cause)
 IsAnswerToCheck text bytes (status.Text cause) = CheckEnd text bytes (status.Text cause)
-IsAnswerToCheck text bytes (status.Wide spot) = CheckEnd text bytes (status.Wide spot)
+IsAnswerToCheck text bytes (status.Exceeded excess) = CheckEnd text bytes (status.Exceeded excess)
 IsAnswerToCheck text bytes status.Memory = Unit {0}
 IsAnswerToCheck text bytes status.Write = CheckEnd text bytes status.Done
 IsAnswerToCheck text bytes _ = ⊥

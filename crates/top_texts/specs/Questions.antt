@@ -14,21 +14,23 @@ use Rattle.top_texts.specs.Meanings.{Meanings}
 use Rattle.top_texts.specs.Rounds.{EndsWithin, RunsOut}
 use Rattle.top_texts.specs.Texts.{IsRefused, IsSolvedSystem}
 use Rattle.top_texts.specs.TransitionTexts.{AreNoTransitions, IsTransitionSystem}
+use Rattle.top_status.specs.declared.status.Excess.{Excess}
+use Rattle.top_status.specs.declared.status.Excess.TheVariants.{Wide, Large}
 use Rattle.top_status.specs.declared.status.Status.{Status}
 use Rattle.top_status.specs.declared.status.Status.TheVariants.{Done, Text, Spent}
 use Rattle.top_status.specs.declared.status.TextCause.{TextCause}
 
--- which texts are refused, by which cause; which system they mean otherwise; where an operation on the way is too wide; by which policy
+-- which texts are refused, by which cause; which system they mean otherwise; what exceeds exact work on the way; by which policy
 -- improvements over the system are made, and at most how many
 pub record Question : Type 1 where
   pub is_refused : TextCause → Type 0
   pub means : System → Type 0
-  pub too_wide : System → Spot → Type 0
+  pub exceeds : System → Excess → Type 0
   pub policy : Policy
   pub limit : ℕ
 
 -- texts are refused by a cause, or mean a system over which the improvements end within the limit, or are spent; this is the ending where
--- nothing fails outside, there is memory, and no operation is too wide
+-- nothing fails outside, there is memory, and nothing exceeds exact work
 pub data QuestionEnds (question : Question) (ending : Status) : Type 0 where
   is_refused : (cause : TextCause) → ending ≡ Text cause → question.is_refused cause → QuestionEnds question ending
   rounds_end : (system : System) → ending ≡ Done → question.means system → EndsWithin system question.policy question.limit
@@ -36,11 +38,16 @@ pub data QuestionEnds (question : Question) (ending : Status) : Type 0 where
   rounds_spent : (system : System) → ending ≡ Spent question.limit → question.means system → RunsOut system question.policy question.limit
       → QuestionEnds question ending
 
--- an operation on the way is too wide
-pub record IsWideIn (question : Question) (spot : Spot) : Type 0 where
+-- this exceeds exact work on the way
+pub record IsExcessIn (question : Question) (excess : Excess) : Type 0 where
   pub system : System
   pub meant : question.means system
-  pub too_wide : question.too_wide system spot
+  pub exceeds : question.exceeds system excess
+
+-- what exceeds is an operation that is too wide, by these spots; never a joint problem
+abbrev pub IsOnlyWide : (Spot → Type 0) → Excess → Type 0
+IsOnlyWide is_wide (Wide spot) = is_wide spot
+IsOnlyWide is_wide (Large cells) = ⊥
 
 -- ---- the questions
 
@@ -49,17 +56,17 @@ abbrev pub analysis_question : Meanings → Purpose → (text : List ℕ) → Do
 analysis_question m purpose text rows policy limit = record {
   is_refused = λ cause. IsRefused text rows cause;
   means = λ system. IsSolvedSystem text rows system;
-  too_wide = λ system spot. m.too_wide purpose system policy limit spot;
+  exceeds = λ system excess. m.exceeds purpose system policy limit excess;
   policy = policy;
   limit = limit;
 }
 
--- the analysis of a generated program over intervals, by 1,000 improvements
+-- the analysis of a generated program over intervals, by 1,000 improvements; its joint problems are small
 abbrev pub bench_question : Meanings → (seed loops : ℕ) → Question
 bench_question m seed loops = record {
   is_refused = λ cause. ⊥;
   means = λ system. m.generates seed loops system;
-  too_wide = λ system spot. m.too_wide Report system Best 1000 spot;
+  exceeds = λ system excess. IsOnlyWide (λ spot. m.exceeds Report system Best 1000 (Wide spot)) excess;
   policy = Best;
   limit = 1000;
 }
@@ -69,7 +76,8 @@ abbrev pub claims_question : Meanings → (text : List ℕ) → Domain (List ℕ
 claims_question m text rows given policy limit = record {
   is_refused = λ cause. AreNoClaims text rows given cause;
   means = λ system. IsClaimedSystem text rows given system;
-  too_wide = λ system spot. m.too_wide Report system policy limit spot ⊎ m.too_wide_for given system policy limit spot;
+  exceeds = λ system excess.
+      m.exceeds Report system policy limit excess ⊎ IsOnlyWide (λ spot. m.too_wide_for given system policy limit spot) excess;
   policy = policy;
   limit = limit;
 }
@@ -79,17 +87,17 @@ abbrev pub transitions_question : Meanings → (text : List ℕ) → Domain (Lis
 transitions_question m text rows policy limit = record {
   is_refused = λ cause. AreNoTransitions text rows cause;
   means = λ system. IsTransitionSystem text rows system;
-  too_wide = λ system spot. m.too_wide Report system policy limit spot;
+  exceeds = λ system excess. m.exceeds Report system policy limit excess;
   policy = policy;
   limit = limit;
 }
 
--- the least solution of equations
+-- the least solution of equations, whose joint problems are small
 abbrev pub equations_question : Meanings → (text : List ℕ) → Policy → ℕ → Question
 equations_question m text policy limit = record {
   is_refused = λ cause. IsNoEquations text cause;
   means = λ system. IsEquationSystem text system;
-  too_wide = λ system spot. m.too_wide Report system policy limit spot;
+  exceeds = λ system excess. IsOnlyWide (λ spot. m.exceeds Report system policy limit (Wide spot)) excess;
   policy = policy;
   limit = limit;
 }

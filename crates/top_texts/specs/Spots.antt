@@ -1,4 +1,5 @@
--- Where an operation of the rounds, of the check of their certificate, or for claims about where they end, is wide.
+-- What exceeds exact work: an operation of the rounds, of the check of their certificate, or for claims about where they end, that is wide;
+-- or a joint problem of the rounds that is too large.
 use Rattle.std.specs.Prelude.{◌≡◌, ◌⊎◌, ◌≤◌, ℕ, List, Some}
 use Rattle.flow_systems.specs.declared.spot.Part.{Part}
 use Rattle.flow_systems.specs.declared.spot.Site.TheVariants.{Claim as AtClaim}
@@ -10,7 +11,7 @@ use Rattle.cert_checker.specs.CheckEvents.{check_events}
 use Rattle.cert_checker.specs.Events.{first_stop}
 use Rattle.cert_checker.specs.declared.fault.CheckFault.TheVariants.{Wide}
 use Rattle.solve_rounds.specs.declared.solution.Solved.{Solved}
-use Rattle.solve_rounds.specs.Halts.{IsSpotOf}
+use Rattle.solve_rounds.specs.Halts.{IsLargeHalt, IsSpotOf}
 use Rattle.solve_rounds.specs.Solutions.{IsSolved, made_certificate}
 use Rattle.ask_claims.specs.AllVerdicts.{IsClaimsFault}
 use Rattle.ask_claims.specs.declared.claim.Claim.{Claim}
@@ -18,6 +19,8 @@ use Rattle.ask_claims.specs.declared.outcome.ClaimsFault.TheVariants.{Wide as Wi
 use Rattle.ask_words.specs.declared.request.Policy.{Policy}
 use Rattle.ask_words.specs.declared.request.Purpose.{Purpose}
 use Rattle.ask_words.specs.declared.request.Purpose.TheVariants.{Report, Certificate}
+use Rattle.top_status.specs.declared.status.Excess.{Excess}
+use Rattle.top_status.specs.declared.status.Excess.TheVariants as excess
 use Rattle.top_texts.specs.ClaimTexts.{AreClaimsOf}
 use Rattle.top_texts.specs.Policies.{rule_of}
 use Rattle.top_texts.specs.Rounds.{HasRounds}
@@ -32,6 +35,11 @@ pub record IsCertifySpot (system : System) (policy : Policy) (limit : ℕ) (spot
 abbrev pub HasSpot : Purpose → System → Policy → ℕ → Spot → Type 0
 HasSpot Report system policy limit spot = IsSpotOf system (rule_of policy) limit spot
 HasSpot Certificate system policy limit spot = IsSpotOf system (rule_of policy) limit spot ⊎ IsCertifySpot system policy limit spot
+
+-- what exceeds exact work in an analysis: such a spot, or the cells of the joint problem of a turn
+abbrev pub HasExcess : Purpose → System → Policy → ℕ → Excess → Type 0
+HasExcess purpose system policy limit (excess.Wide spot) = HasSpot purpose system policy limit spot
+HasExcess purpose system policy limit (excess.Large cells) = IsLargeHalt system (rule_of policy) limit cells
 
 -- the spot is that of the first operation for claims that is wide at a vector, in the problem of this case of this claim; it is in no round
 pub record IsWideFor (system : Equations) (vector : Vector) (claims : List Claim) (spot : Spot) : Type 0 where

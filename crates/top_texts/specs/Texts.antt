@@ -1,7 +1,6 @@
 -- What texts are: a system to be solved, or refused by a cause. Tokens come first, then the program, its points and edges, the template,
 -- and the unknowns.
 use Rattle.std.specs.Prelude.{◌≡◌, ◌*◌, ◌≤◌, ◌<◌, ℕ, ℤ, List, Result, Ok, Err, Some, None, length}
-use Rattle.base_limits.specs.declared.limits.TheConstants.{MOST_CELLS}
 use Rattle.lang_tokens.specs.declared.token.Token.{Token}
 use Rattle.lang_tokens.specs.Reading.{Reads}
 use Rattle.lang_tokens.specs.Faults.{HasFault}
@@ -14,13 +13,11 @@ use Rattle.flow_templates.specs.Domains.{intervals_of, zones_of, octagons_of}
 use Rattle.flow_templates.specs.RowFiles.{Answers}
 use Rattle.flow_templates.specs.declared.fault.RowFault.{RowFault}
 use Rattle.flow_systems.specs.declared.system.System.{System}
-use Rattle.flow_systems.specs.Cells.{cells_of}
-use Rattle.flow_systems.specs.Solutions.{equations_of_program}
 use Rattle.ask_words.specs.declared.request.Domain.{Domain}
 use Rattle.ask_words.specs.declared.request.Policy.{Policy}
 use Rattle.ask_words.specs.declared.request.Domain.TheVariants as domain
 use Rattle.top_status.specs.declared.status.TextCause.{TextCause}
-use Rattle.top_status.specs.declared.status.TextCause.TheVariants.{Lex, Parse, Flow, Rows, Unknowns, Cells, Claims, Equ, Auto}
+use Rattle.top_status.specs.declared.status.TextCause.TheVariants.{Lex, Parse, Flow, Rows, Unknowns}
 use Rattle.top_texts.specs.Rounds.{EndsWithin, IsSystemFor}
 use Rattle.flow_systems.specs.declared.limits.TheConstants.{MOST_UNKNOWNS}
 
@@ -50,16 +47,11 @@ pub record IsSystemOf (text : List ℕ) (rows : Domain (List ℕ)) (names : List
 abbrev pub unknowns : Statements → List (List ℤ) → ℕ
 unknowns body template = length (points_of_program body) * length template
 
--- the number of cells of the largest joint problem
-abbrev pub cells : List (List ℕ) → Statements → List (List ℤ) → ℕ
-cells names body template = cells_of (equations_of_program (length names) body template)
-
 -- a program and a template of these texts that are solved
 pub record IsReady (text : List ℕ) (rows : Domain (List ℕ)) (names : List (List ℕ)) (body : Statements) (template : List (List ℤ)) :
     Type 0 where
   pub system : IsSystemOf text rows names body template
   pub within : unknowns body template ≤ MOST_UNKNOWNS
-  pub cells_within : cells names body template ≤ MOST_CELLS
 
 -- the system of these texts, which is solved
 pub record IsSolvedSystem (text : List ℕ) (rows : Domain (List ℕ)) (system : System) : Type 0 where
@@ -87,9 +79,6 @@ IsRefused text rows (Rows fault) =
 IsRefused text rows (Unknowns count) =
     (names : List (List ℕ)) × (body : Statements) × (template : List (List ℤ)) × IsSystemOf text rows names body template
     × (MOST_UNKNOWNS < unknowns body template) × (count ≡ unknowns body template)
-IsRefused text rows (Cells count) =
-    (names : List (List ℕ)) × (body : Statements) × (template : List (List ℤ)) × IsSystemOf text rows names body template
-    × (unknowns body template ≤ MOST_UNKNOWNS) × (MOST_CELLS < cells names body template) × (count ≡ cells names body template)
 IsRefused text rows _ = ⊥
 
 -- the texts are a system whose rounds end within the limit

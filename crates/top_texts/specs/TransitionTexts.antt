@@ -1,6 +1,5 @@
 -- What texts of transition systems are, and what is written of them.
 use Rattle.std.specs.Prelude.{◌≡◌, ◌⊎◌, ◌*◌, ◌≤◌, ◌<◌, ℕ, ℤ, List, Ok, Err, Some, None, length}
-use Rattle.base_limits.specs.declared.limits.TheConstants.{MOST_CELLS}
 use Rattle.flow_transitions.specs.declared.auto.Auto.{Auto}
 use Rattle.flow_transitions.specs.AutoFaults.{fault_of}
 use Rattle.flow_transitions.specs.AutoSystem.{HoldsAlong, equations_of_auto}
@@ -9,7 +8,6 @@ use Rattle.flow_transitions.specs.Choices.{edges_of}
 use Rattle.flow_systems.specs.declared.footer.Footer.TheVariants.{Improvements}
 use Rattle.flow_systems.specs.declared.limits.TheConstants.{MOST_UNKNOWNS}
 use Rattle.flow_systems.specs.declared.system.System.{System}
-use Rattle.flow_systems.specs.Cells.{cells_of}
 use Rattle.flow_systems.specs.Equations.{Least, Vector}
 use Rattle.flow_systems.specs.Report.{report_text}
 use Rattle.ask_words.specs.declared.request.Domain.{Domain}
@@ -17,7 +15,7 @@ use Rattle.ask_words.specs.declared.request.Policy.{Policy}
 use Rattle.top_texts.specs.Rounds.{HasRounds}
 use Rattle.top_texts.specs.Texts.{HasTemplate}
 use Rattle.top_status.specs.declared.status.TextCause.{TextCause}
-use Rattle.top_status.specs.declared.status.TextCause.TheVariants.{Lex, Parse, Flow, Rows, Unknowns, Cells, Claims, Equ, Auto as AutoCause}
+use Rattle.top_status.specs.declared.status.TextCause.TheVariants.{Rows, Unknowns, Auto as AutoCause}
 
 -- the text reads as this transition system, whose edges are within the limits
 pub record IsAutoText (text : List ℕ) (auto : Auto) : Type 0 where
@@ -35,7 +33,6 @@ pub record IsTransitionSystem (text : List ℕ) (rows : Domain (List ℕ)) (syst
   pub template : List (List ℤ)
   pub over : IsAutoOver text rows auto template
   pub within : length auto.points * length template ≤ MOST_UNKNOWNS
-  pub cells_within : cells_of (equations_of_auto auto template) ≤ MOST_CELLS
   pub names_are : system.flow.names ≡ auto.names
   pub points_are : system.flow.points ≡ auto.points
   pub edges_are : system.flow.edges ≡ edges_of (length auto.points) auto.edges
@@ -49,10 +46,6 @@ AreNoTransitions text rows (Rows fault) = (auto : Auto) × IsAutoText text auto 
 AreNoTransitions text rows (Unknowns count) =
     (auto : Auto) × (template : List (List ℤ)) × IsAutoOver text rows auto template
     × (MOST_UNKNOWNS < length auto.points * length template) × (count ≡ length auto.points * length template)
-AreNoTransitions text rows (Cells count) =
-    (auto : Auto) × (template : List (List ℤ)) × IsAutoOver text rows auto template
-    × (length auto.points * length template ≤ MOST_UNKNOWNS) × (MOST_CELLS < cells_of (equations_of_auto auto template))
-    × (count ≡ cells_of (equations_of_auto auto template))
 AreNoTransitions text rows _ = ⊥
 
 -- the bytes are the report of the least vector of the system of these texts, which holds at every configuration of every run along the

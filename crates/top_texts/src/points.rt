@@ -3,7 +3,7 @@
 ghost use Rattle.std.specs.Prelude.{◌≤◌, IfOk, IfErr, length};
 ghost use Rattle.base_limits.specs.declared.limits.TheConstants.{MOST_TEXT_BYTES};
 ghost use Rattle.top_texts.specs.Outcomes.{IsUnread};
-ghost use Rattle.top_texts.specs.PointTexts.{ArePointsOf};
+ghost use Rattle.top_texts.specs.LeastReports.{ArePointsOf};
 
 use crate::program::{flow_of, program_of};
 use crate::refusal::Refusal;

@@ -30,7 +30,7 @@ use ask_words::{Domain, Policy};
 use base_watch::Watch;
 use flow_systems::{Bounds, Site, Spot, System};
 use std::alloc::Global;
-use top_status::TextCause;
+use top_status::{Excess, TextCause};
 
 // The refusal of a text of claims that has this fault over a system's names and points.
 fn claim_refusal(fault: ClaimFault) -> Refusal
@@ -69,11 +69,11 @@ fn verdict_refusal(fault: ClaimsFault) -> Refusal
             case,
             part,
             wide,
-        } => Refusal::Wide(Spot {
+        } => Refusal::Exceeded(Excess::Wide(Spot {
             round: 0,
             site: Site::Claim { claim, case, part },
             wide,
-        }),
+        })),
         ClaimsFault::NoMemory => Refusal::NoMemory,
     }
 }
@@ -102,7 +102,7 @@ fn verdicts_at(
 /// # Errors
 ///
 /// The first cause that stands: one of the analysis, a fault of the claims, or improvements that are spent; or a wide operation,
-/// or want of memory.
+/// a joint problem that is too large, or want of memory.
 pub fn prove_text<W: Watch>(
     alloc: Global,
     text: &[u8],

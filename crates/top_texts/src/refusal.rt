@@ -3,9 +3,8 @@
 ghost use Rattle.std.specs.Prelude.{◌≡◌};
 ghost use Rattle.top_texts.specs.Outcomes.{refused};
 
-use flow_systems::Spot;
 use std::alloc::AllocError;
-use top_status::{CertCause, Status, TextCause};
+use top_status::{CertCause, Excess, Status, TextCause};
 
 /// Why texts have no answer.
 #[derive(Clone, Copy, Debug, Drop)]
@@ -14,8 +13,8 @@ pub enum Refusal {
     Text(TextCause),
     /// The certificate is refused by this cause.
     Certificate(CertCause),
-    /// An operation is too wide at this spot.
-    Wide(Spot),
+    /// More than exact work may take comes up on the way.
+    Exceeded(Excess),
     /// This number of improvements is too small.
     Spent(u32),
     /// Memory was wanted.
@@ -40,7 +39,7 @@ pub fn refused(refusal: Refusal) -> Status
     match refusal {
         Refusal::Text(cause) => Status::Text(cause),
         Refusal::Certificate(cause) => Status::Certificate(cause),
-        Refusal::Wide(spot) => Status::Wide(spot),
+        Refusal::Exceeded(excess) => Status::Exceeded(excess),
         Refusal::Spent(number) => Status::Spent(number),
         Refusal::NoMemory => Status::Memory,
     }

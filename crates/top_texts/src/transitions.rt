@@ -1,13 +1,11 @@
 //! The system of the texts of a transition system and of its rows, and the report of its least bounds.
 
 ghost use Rattle.std.specs.Prelude.{◌≡◌, ◌≢◌, ◌≤◌, ℕ, List, IfOk, IfErr, IsTrue, None, Ok, Err, length};
-ghost use Rattle.base_limits.specs.declared.limits.TheConstants.{MOST_CELLS, MOST_IMPROVEMENTS, MOST_TEXT_BYTES};
+ghost use Rattle.base_limits.specs.declared.limits.TheConstants.{MOST_IMPROVEMENTS, MOST_TEXT_BYTES};
 ghost use Rattle.flow_transitions.specs.AutoFaults.{fault_of};
 ghost use Rattle.flow_transitions.specs.AutoTexts.{IsAuto, content};
 ghost use Rattle.flow_transitions.specs.Choices.{edges_of};
-ghost use Rattle.flow_systems.specs.Cells.{cells_of};
 ghost use Rattle.flow_systems.specs.SystemLimits.{is_over};
-ghost use Rattle.flow_systems.specs.View.{equations_of};
 ghost use Rattle.flow_templates.specs.declared.fault.RowFault.TheVariants as row_fault;
 ghost use Rattle.ask_words.specs.declared.request.Domain.{Domain as DomainValue};
 ghost use Rattle.top_texts.specs.Exact.{exact};
@@ -19,7 +17,7 @@ ghost use Rattle.top_texts.specs.Texts.{HasTemplate};
 ghost use Rattle.top_texts.specs.TransitionTexts.{AreNoTransitions, IsAutoReport, IsAutoText, IsTransitionSystem};
 
 use crate::analyse::rounds::report_of;
-use crate::analyse::system::{count_cells, system_of};
+use crate::analyse::system::system_of;
 use crate::analyse::template::template_of;
 use crate::refusal::Refusal;
 use ask_words::{Domain, Policy};
@@ -99,14 +97,12 @@ fn system_along(alloc: Global, text: &[u8], rows: Domain<&[u8]>) -> Result<Syste
     requires short { length text.now ≤ MOST_TEXT_BYTES }
     requires short_rows { HasShortRows (domain_text rows) }
     ensures ok { IfOk result (λ system. IsTransitionSystem text.now (domain_text rows.entry) system) }
-    ensures cells { IfOk result (λ system. cells_of (equations_of system) ≤ MOST_CELLS) }
     ensures err { IfErr result (λ refusal. IsRefusedAlong text.now (domain_text rows.entry) refusal) }
 {
     let auto = auto_of(alloc, text)?;
     let flow = flow_along(alloc, &auto)?;
     let template = rows_along(alloc, rows, &auto)?;
     let system = system_of(flow, template)?;
-    count_cells(&system)?;
     Ok(system)
 }
 
@@ -115,8 +111,8 @@ fn system_along(alloc: Global, text: &[u8], rows: Domain<&[u8]>) -> Result<Syste
 ///
 /// # Errors
 ///
-/// The first cause that stands: a fault of the text, of its edges or of the rows, too many unknowns or cells, or improvements that
-/// are spent; or a wide operation, or want of memory.
+/// The first cause that stands: a fault of the text, of its edges or of the rows, too many unknowns, or improvements that are
+/// spent; or a wide operation, a joint problem that is too large, or want of memory.
 pub fn transitions_text<W: Watch>(
     alloc: Global,
     text: &[u8],

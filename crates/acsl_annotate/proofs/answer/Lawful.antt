@@ -19,7 +19,7 @@ written_ends asked bytes h = (lawful asked).written_ends bytes h
 pub annotating_lawful : IsLawful (annotating exact)
 annotating_lawful asked = record {
   ends_once = (lawful asked).ends_once;
-  wide_ends = (lawful asked).wide_ends;
+  exceeded_ends = (lawful asked).exceeded_ends;
   written_ends = written_ends asked;
   never_unread = (lawful asked).never_unread;
   never_unwritten = (lawful asked).never_unwritten;

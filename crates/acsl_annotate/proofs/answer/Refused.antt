@@ -11,7 +11,7 @@ use Rattle.top_status.specs.CheckMessages.{rows_of}
 use Rattle.top_status.specs.Messages.{line_in, message_of}
 use Rattle.top_status.specs.declared.ending.Ending.{Ending}
 use Rattle.top_status.specs.declared.status.Status.{Status}
-use Rattle.top_status.specs.declared.status.Status.TheVariants.{Done, Certificate, Usage, Read, Text, Wide, Spent, Memory, Write}
+use Rattle.top_status.specs.declared.status.Status.TheVariants.{Done, Certificate, Usage, Read, Text, Exceeded, Spent, Memory, Write}
 use Rattle.top_texts.specs.Analyses.{IsFoundIn, IsRefusedText, IsUnput}
 use Rattle.top_texts.specs.Exact.{exact}
 use Rattle.top_texts.specs.Outcomes.{QuestionAnswer}
@@ -29,7 +29,7 @@ refused_says a (Certificate c) h u = absurd h
 refused_says a Usage h u = absurd h
 refused_says a (Read c) h u = absurd h
 refused_says a (Text c) h u = (is_refused c refl h, refl)
-refused_says a (Wide spot) h u = (inr h, refl)
+refused_says a (Exceeded excess) h u = (inr h, refl)
 refused_says a (Spent n) h u = (h, refl)
 refused_says a Memory h u = refl
 refused_says a Write h u = absurd (u.unwritten refl)

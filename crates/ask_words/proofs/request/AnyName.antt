@@ -3,9 +3,7 @@ use Rattle.std.proofs.Common.{◌≡◌, ℕ, [], ◌∷◌, Some, None, false, 
 use Rattle.clap.specs.Words.{Text, fault_of, subcommand_of}
 use Rattle.clap.specs.Lexer.{short_of}
 use Rattle.clap.proofs.OnLiterals.{clap_on_literals}
-use Rattle.ask_words.specs.Request.{tmpl_app}
-use Rattle.ask_words.specs.Laws.{plain_analysis}
-use Rattle.ask_words.specs.Request.{command_in, request_of, unless_fault}
+use Rattle.ask_words.specs.Request.{command_in, plain_analysis, request_of, tmpl_app, unless_fault}
 use Rattle.ask_words.specs.declared.request.Domain.TheVariants.{Intervals}
 use Rattle.ask_words.specs.declared.request.Purpose.TheVariants.{Report}
 use Rattle.ask_words.specs.declared.request.Request.TheVariants.{Analyse}

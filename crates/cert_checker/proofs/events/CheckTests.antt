@@ -16,7 +16,6 @@ use Rattle.flow_systems.specs.declared.spot.Site.TheVariants.{Upper}
 use Rattle.flow_systems.specs.Equations.{Equations, Vector, Least}
 use Rattle.theory_validity.specs.Words.{width, end_form}
 use Rattle.theory_validity.specs.Steps.{Item, Kind, Plain, Jump, Ray, Step, put, new_value, after_step, start_vector, Distinct, Placed}
-use Rattle.theory_validity.specs.Steps.{ValidStep}
 use Rattle.theory_validity.specs.Certificates.{Evidence, Bound, Empty, Unreached, combination, side, Need, needs, after_steps, Certificate}
 use Rattle.theory_validity.specs.Certificates.{bounds_vector, ValidCertificate, PointsInRange}
 use Rattle.theory_validity.specs.Decide.{dec_and, dec_lt_ℚ, dec_leᴱ, dec_finite, ext_same}
@@ -27,7 +26,7 @@ use Rattle.theory_validity.proofs.faults.CertificateFaults.{certificate_fault_no
 use Rattle.theory_validity.proofs.steps.StepFaults.{step_fault_none}
 use Rattle.theory_validity.proofs.steps.CertificateLaw.{certificate_least}
 use Rattle.cert_checker.specs.Events.{Event, Test, sums, decided, fault_answer, first_stop, first_fault, operations_of}
-use Rattle.cert_checker.specs.StepEvents.{first_pass_events, second_pass_events, step_events, steps_events}
+use Rattle.cert_checker.specs.StepEvents.{StepPasses, first_pass_events, second_pass_events, step_events, steps_events}
 use Rattle.cert_checker.specs.EvidenceEvents.{column_operations, side_operations, dec_multipliers, columns_events, columns_of}
 use Rattle.cert_checker.specs.EvidenceEvents.{evidence_events}
 use Rattle.cert_checker.specs.CheckEvents.{number_of, final_events, uppers_events, check_events}
@@ -90,11 +89,14 @@ step_then system z s step =
         ap (λ a. and_then a (first_fault (second_pass_events step.kind system z step.items s 0 step.items))) e
         ∙ sym (ap (λ a. and_then a (second_pass step.kind system z step.items s 0 step.items)) e)
 
--- a step at which nothing stops is valid
-pub unstopped_step : (system : Equations) (z : Vector) (s : ℕ) (step : Step) → first_stop (step_events system z s step) ≡ None
-    → ValidStep system z step
-unstopped_step system z s step e =
-    (step_fault_none system z s step).0 (sym (step_then system z s step) ∙ ((stop_none (step_events system z s step)).0 e).0)
+-- nothing stops at a step exactly where it passes
+pub unstopped_passes : (system : Equations) (z : Vector) (step : Step)
+    → (first_stop (step_events system z 0 step) ≡ None) ↔ StepPasses system z step
+unstopped_passes system z step =
+    let stops = stop_none (step_events system z 0 step) in
+    let tests = step_then system z 0 step in
+    let valid = step_fault_none system z 0 step in
+    ((λ e. let r = stops.0 e in (valid.0 (sym tests ∙ r.0), r.1)), (λ h. stops.1 (tests ∙ valid.1 h.0, h.1)))
 
 -- steps
 steps_then : (system : Equations) (z : Vector) (s : ℕ) (steps : List Step)

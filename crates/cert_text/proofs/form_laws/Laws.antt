@@ -102,7 +102,7 @@ module _ (bytes : List ℕ) (a : Result Cert FormFault) (d : Data) (s : Spells b
   refused_with f h = answer_same (Err f) h.0 h.1 h.2
 
   -- bytes that spell a value are read as what that value is, or memory is wanted
-  pub one_answer : (r : Result Cert FormFault) → IfOk r (λ e. SpellsCert bytes e) → (IsErrOf r NotJson → (e : Data) → Spells bytes e → ⊥)
+  one_answer : (r : Result Cert FormFault) → IfOk r (λ e. SpellsCert bytes e) → (IsErrOf r NotJson → (e : Data) → Spells bytes e → ⊥)
       → IfErr r (λ f. f ≢ NotJson → f ≢ NoMemory → (e : Data) × Spells bytes e × (cert_in e ≡ Err f)) → (r ≡ a) ⊎ (r ≡ Err NoMemory)
   one_answer (Ok e) h n k = inl (answer_same (Ok e) h.data_is h.spells h.reads)
   one_answer (Err NotJson) h n k = absurd (n refl d s)
@@ -123,13 +123,23 @@ module _ (c : Cert) where
   over = nat_lt MOST_VALUES (values_of (named_traces c.steps))
 
   -- bytes that a certificate is written as spell a value that is read as the certificate, or as one that expands too far
-  pub read_as : (bytes : List ℕ) → (IsWithin c → SpellsCert bytes c) → (IsBeyond c → SpellsTooMany bytes)
+  read_as : (bytes : List ℕ) → (IsWithin c → SpellsCert bytes c) → (IsBeyond c → SpellsTooMany bytes)
       → (d : Data) × Spells bytes d × (cert_in d ≡ read_again c)
   read_as bytes w b = by over refl
     where
       by : (o : Bool) → over ≡ o → (d : Data) × Spells bytes d × (cert_in d ≡ (if o then Err Expanded else Ok c))
       by true h = b (lt_from MOST_VALUES (values_of (named_traces c.steps)) h)
       by false h = let k = w (le_from MOST_VALUES (values_of (named_traces c.steps)) h) in (k.data_is, k.spells, k.reads)
+
+  -- what a certificate was written as is read as the certificate, or as one that expands too far, unless memory is wanted
+  pub read_back : {written bytes : List ℕ} → bytes ≡ written → (IsWithin c → SpellsCert written c) → (IsBeyond c → SpellsTooMany written)
+      → (r : Result Cert FormFault) → IfOk r (λ e. SpellsCert bytes e) → (IsErrOf r NotJson → (e : Data) → Spells bytes e → ⊥)
+      → IfErr r (λ f. f ≢ NotJson → f ≢ NoMemory → (e : Data) × Spells bytes e × (cert_in e ≡ Err f))
+      → (r ≡ read_again c) ⊎ (r ≡ Err NoMemory)
+  read_back {bytes = bytes} same w b =
+      let k = read_as bytes (subst (λ (x : List ℕ). IsWithin c → SpellsCert x c) (sym same) w)
+      (subst (λ (x : List ℕ). IsBeyond c → SpellsTooMany x) (sym same) b) in
+      one_answer bytes (read_again c) k.0 k.1 k.2
 
   -- a certificate that is read again is the same
   pub again_same : (r : Result Cert FormFault) → (r ≡ read_again c) ⊎ (r ≡ Err NoMemory) → IfOk r (λ e. e ≡ c)

@@ -1,6 +1,7 @@
 -- One more column in the merge of a row and the pivot's row.
 use Rattle.std.proofs.Common.{◌≡◌, ℕ, ◌+◌, ◌<◌, ◌≤◌, Bool, true, false, cond, eqb, ℤ, List, [], ◌∷◌, Some, None, refl, ap, ap₂, sym, ◌∙◌}
-use Rattle.std.proofs.Common.{subst, subst₂, arith}
+use Rattle.std.proofs.Common.{subst, subst₂, arith, length, drop, get_or}
+use Rattle.std.proofs.lemmas.List.{drop_more}
 use Rattle.std.proofs.lemmas.Bool.{eqb-true, eq-eqb}
 use Rattle.base_numbers.specs.Rational.{ℚ, zero_ℚ, ◌+ℚ◌, ◌*ℚ◌}
 use Rattle.base_fractions.specs.Operation.{Operation, first_wide}
@@ -11,7 +12,7 @@ use Rattle.lp_sparse.specs.declared.entry.Entry.{Entry}
 use Rattle.lp_sparse.specs.Entries.{head_value, behind, pushed}
 use Rattle.lp_sparse.specs.Keeps.{Keeps}
 use Rattle.lp_sparse.specs.Rows.{merged}
-use Rattle.lp_sparse.specs.Merge.{kept, StartsAt, Left, Merging}
+use Rattle.lp_sparse.specs.Merge.{kept, StartsAt, Left, Merging, MergesOn}
 use Rattle.lp_sparse.proofs.merge.SingleEntries.{combined_none, merged_kept}
 use Rattle.lp_sparse.proofs.merge.Lists.{keeps_none, keeps_gap, keeps_pushed}
 use Rattle.lp_sparse.proofs.merge.Gaps.{joined_gap, left_to, left_zero, left_head, left_behind, left_none, starts_value, starts_behind}
@@ -115,6 +116,15 @@ module _ {F : Type 0} (m : F → ℚ) (L : ℤ) (a b : ℕ → ℚ) (f : ℚ) (c
     entry_refused o w = merging_refused r e.col da (e ∷ es) out h h.above.rises.0 h.above.rises.1 s (omega arith) (head_value m da e.col)
         (m e.value) refl (sym (head_read m e es)) o w
 
+  -- the entries of the row that stand before an entry e of the pivot's row
+  pub merging_before : (p : ℚ) → p ≡ f *ℚ b c → (bs : List (Entry F)) (j : ℕ) (e : Entry F) → j < length bs → e ≡ get_or bs j e
+      → {r : ℕ} {da out : List (Entry F)} (da' more : List (Entry F)) → MergesOn m L p c e.col da da' out more
+      → Merging m L a b f c n r da (drop j bs) out → (q : ℕ) × Merging m L a b f c n q da' (e ∷ drop (j + 1) bs) more
+  merging_before p p_is bs j e l is {r} da' more on h =
+      let drop_is : drop j bs ≡ e ∷ drop (j + 1) bs = drop_more bs j e l ∙ ap (λ x. x ∷ drop (j + 1) bs) (sym is) in
+      let k = on a b f n r (drop j bs) f_is p_is (subst (StartsAt e.col) (sym drop_is) (omega arith)) h in
+      (k.0, subst (λ ys. Merging m L a b f c n k.0 da' ys more) drop_is k.1)
+
   -- no column is merged
   pub merging_none : (da db : List (Entry F)) → Left m a 0 n da → Left m b 0 n db → Merging m L a b f c n 0 da db []
   unfolding added_row_operations
@@ -128,7 +138,7 @@ module _ {F : Type 0} (m : F → ℚ) (L : ℤ) (a b : ℕ → ℚ) (f : ℚ) (c
   }
 
   -- all columns are
-  pub merging_end : (r : ℕ) (da db out : List (Entry F)) → Merging m L a b f c n r da db out → da ≡ [] → db ≡ []
+  merging_end : (r : ℕ) (da db out : List (Entry F)) → Merging m L a b f c n r da db out → da ≡ [] → db ≡ []
       → Keeps m (combined_row a b c) n out × (first_wide L (added_row_operations n a f b c) ≡ None)
   unfolding added_row_operations
   merging_end r da db out h s t =
@@ -138,3 +148,11 @@ module _ {F : Type 0} (m : F → ℚ) (L : ℤ) (a b : ℕ → ℚ) (f : ℚ) (c
         keeps_gap m (combined_row a b c) r n out h.kept h.reach (λ k l d. (none k l).0),
         joined_gap L r n made h.fits h.reach (λ k l d. (none k l).1),
       )
+
+  -- they are after the entries of the row that stand behind those of the pivot's row
+  pub merging_last : (p : ℚ) → p ≡ f *ℚ b c → (u : ℕ) {r : ℕ} {da da' db out : List (Entry F)} (more : List (Entry F))
+      → MergesOn m L p c u da da' out more → Merging m L a b f c n r da db out → da' ≡ [] → db ≡ []
+      → Keeps m (combined_row a b c) n more × (first_wide L (added_row_operations n a f b c) ≡ None)
+  merging_last p p_is u {r} {da' = da'} {db = db} more on h s t =
+      let k = on a b f n r db f_is p_is (subst (StartsAt u) (sym t) tt) h in
+      merging_end k.0 da' db more k.1 s t

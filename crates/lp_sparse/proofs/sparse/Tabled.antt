@@ -19,7 +19,7 @@ use Rattle.lp_sparse.specs.Entries.{value_at, Rises, HasNoZero, left_out}
 use Rattle.lp_sparse.specs.Rows.{row_at, numbers, EachRises, NoZeros, Exchanges, rows_operations, exchange_operations}
 use Rattle.lp_sparse.specs.Named.{named_table}
 use Rattle.lp_sparse.proofs.place.RowsAt.{row_past}
-use Rattle.lp_sparse.proofs.entries.Leaving.{left_out_rises, value_left, no_zero_left, row_removed}
+use Rattle.lp_sparse.proofs.entries.Leaving.{left_out_rises, value_left, no_zero_left}
 
 -- names don't depend on entries: those of dictionaries with no entry but 0
 abbrev nothing : ℕ → ℚ
@@ -83,12 +83,8 @@ pub pivot_operations_are : (bs ns : List ℕ) (goals n : ℕ) (a : ℕ → ℕ �
 unfolding pivot_operations exchange_operations rows_operations
 pivot_operations_are bs ns goals n a r c e = ap (λ N. exchange_operations a N r (suc (length ns)) c) (sym e)
 
-module _ {F : Type 0} (m : F → ℚ) (bs ns ms : List ℕ) (rows ys zs : List (SparseRow F)) (z : ℕ) (z_in : z < length ns)
-    (ms_is : ms ≡ remove ns z) (left : (i : ℕ) → row_at ys i ≡ left_out z (row_at rows i)) (zs_is : zs ≡ remove ys (length bs))
-    (sized : length bs < length ys) where
-  row_left : (i : ℕ) → row_at zs i ≡ left_out z (row_at rows (skip (length bs) i))
-  row_left i = ap (λ (xs : List (SparseRow F)). row_at xs i) zs_is ∙ row_removed ys (length bs) i sized ∙ left (skip (length bs) i)
-
+module _ {F : Type 0} (m : F → ℚ) (bs ns ms : List ℕ) (rows zs : List (SparseRow F)) (z : ℕ) (z_in : z < length ns)
+    (ms_is : ms ≡ remove ns z) (row_left : (i : ℕ) → row_at zs i ≡ left_out z (row_at rows (skip (length bs) i))) where
   -- the table is the one that is left
   pub sparse_leaves : z ≡ place_of (λ k. get_or ns k 0) (length ns) 0 →
       Agree (leave_table (named_table bs ns 2 (numbers m rows))) (named_table bs ms 1 (numbers m zs))

@@ -1,8 +1,8 @@
 -- What the tokens of a generated text mean, token by token.
-use Rattle.std.proofs.Common.{◌≡◌, ◌≤◌, ◌<◌, ◌+◌, ◌*◌, ◌%◌, ℕ, zero, suc, pos, true, List, [], ◌∷◌, ◌++◌, length, Option, Some, None, Ok}
+use Rattle.std.proofs.Common.{◌≡◌, ◌≤◌, ◌<◌, ◌+◌, ◌*◌, ℕ, zero, suc, pos, true, List, [], ◌∷◌, ◌++◌, length, Option, Some, None, Ok}
 use Rattle.std.proofs.Common.{refl, sym, ap, ap₂, ◌∙◌, arith}
 use Rattle.std.proofs.lemmas.Int.{ints}
-use Rattle.std.specs.Prelude.{nat_le, nat_lt, nat_abs, neg_ℤ, ◌-ℤ◌, get_or, decimal}
+use Rattle.std.specs.Prelude.{ℤ, nat_le, nat_lt, nat_abs, neg_ℤ, ◌+ℤ◌, ◌-ℤ◌, get_or, decimal}
 use Rattle.std.proofs.lemmas.Bool.{lt-ltb, le-leb}
 use Rattle.std.proofs.lemmas.List.{append_assoc, length-append}
 use Rattle.lang_tokens.specs.Lines.{line_at}
@@ -11,10 +11,11 @@ use Rattle.lang_grammar.specs.Machine.{Goal, statement, in_main, only, text_end,
 use Rattle.lang_grammar.specs.Verdicts.{scan}
 use Rattle.lang_grammar.specs.Faults.{whole}
 use Rattle.lang_tree.specs.declared.cond.Rel.TheVariants.{Lt}
-use Rattle.lang_tree.specs.Tree.{Statements, compare, while_loop, set, loop, nil, cons}
-use Rattle.lang_meaning.specs.Forms.{constant_form, variable_form}
-use Rattle.lang_meaning.specs.Walk.{State, followed_by, one}
-use Rattle.lang_meaning.specs.Feed.{Machine, at, under, of_items, stands, feed, begin, result_of}
+use Rattle.lang_tree.specs.Numbers.{is_number}
+use Rattle.lang_tree.specs.Tree.{Condition, Statements, compare, while_loop, set, loop, nil, cons}
+use Rattle.lang_meaning.specs.Forms.{constant_form, variable_form, plus, minus}
+use Rattle.lang_meaning.specs.Walk.{State, followed_by, one, known_number, ranged}
+use Rattle.lang_meaning.specs.Feed.{Machine, at, under, of_items, of_loop, after, stands, feed, begin, result_of}
 use Rattle.lang_meaning.specs.Results.{◌>>=◌}
 use Rattle.out_workload.specs.declared.draws.Loop.{Loop}
 use Rattle.out_workload.specs.Draws.{following}
@@ -60,102 +61,61 @@ abbrev pub next : Option (List ℕ) → g.Kind
 next (Some x) = g.a_name x
 next None = g.return_word
 
-fed_case : (v w : ℕ) → v < 3 → w ≡ (v + 1) % 3 → (line : ℕ → ℕ) (p k bound step : ℕ) (bs ss : List ℕ) (ns : Statements)
+-- what is true of three variables is true of each
+each_variable : (P : ℕ → Type 0) → P 0 → P 1 → P 2 → (v : ℕ) → v < 3 → P v
+each_variable P a b c zero h = a
+each_variable P a b c (suc zero) h = b
+each_variable P a b c (suc (suc zero)) h = c
+each_variable P a b c (suc (suc (suc v))) h = absurd (omega arith)
+
+-- the name of a variable is known
+known_at : (v a k : ℕ) → v < 3 → known_number ((97 + v) ∷ []) a (state_at k) ≡ Ok v
+known_at v a k = each_variable (λ (x : ℕ). known_number ((97 + x) ∷ []) a (state_at k) ≡ Ok x) refl refl refl v
+
+-- a variable less a number is in its range where their constant is
+less_number : (v a : ℕ) (z y : ℤ) → pos 0 -ℤ z ≡ y → is_number y ≡ true → v < 3
+    → ranged a (minus (variable_form 3 v (pos 0)) (constant_form 3 z)) ≡ Ok (variable_form 3 v y)
+less_number v a z y d e = each_variable (λ (x : ℕ). ranged a (minus (variable_form 3 x (pos 0)) (constant_form 3 z))
+    ≡ Ok (variable_form 3 x y)) (rw (d, e)) (rw (d, e)) (rw (d, e)) v
+
+-- so is one with a number
+plus_number : (v a : ℕ) (z y : ℤ) → pos 0 +ℤ z ≡ y → is_number y ≡ true → v < 3
+    → ranged a (plus (variable_form 3 v (pos 0)) (constant_form 3 z)) ≡ Ok (variable_form 3 v y)
+plus_number v a z y d e = each_variable (λ (x : ℕ). ranged a (plus (variable_form 3 x (pos 0)) (constant_form 3 z))
+    ≡ Ok (variable_form 3 x y)) (rw (d, e)) (rw (d, e)) (rw (d, e)) v
+
+-- a loop ends where a name or `return` follows
+loop_ends : (line : ℕ → ℕ) (st : State) (c : Condition) (b : ℕ) (ms ns : Statements) (o : Option (List ℕ)) (a : ℕ) (rest : List g.Token) →
+    feed line 3 (g.token (next o) a ∷ rest) (at st (under (of_loop c b) nil ∷ under (of_items 0) ns ∷ []) (after ms))
+    ≡ feed line 3 (g.token (next o) a ∷ rest) (at st
+    (under (of_items 0) (followed_by ns (one (loop while_loop c ms (line b)))) ∷ []) stands)
+loop_ends line st c b ms ns (Some x) a rest = refl
+loop_ends line st c b ms ns None a rest = refl
+
+-- the tokens of a loop, whatever its two variables are, add its nodes to those so far
+fed_case : (v w : ℕ) → v < 3 → w < 3 → (line : ℕ → ℕ) (p k bound step : ℕ) (bs ss : List ℕ) (ns : Statements)
     (o : Option (List ℕ)) (a : ℕ) (rest : List g.Token) → Small k bound step →
     feed line 3 (tokens_at p (parts_of v w bound bs step ss) ++ g.token (next o) a ∷ rest) (machine_at k ns)
     ≡ feed line 3 (g.token (next o) a ∷ rest)
     (machine_at (suc (suc (suc (suc k)))) (followed_by (followed_by ns
     (first_node v (lines_of line (tokens_at p (parts_of v w bound bs step ss)))))
     (second_node v w bound step (lines_of line (tokens_at p (parts_of v w bound bs step ss))))))
-fed_case zero w h e line p k bound step bs ss ns (Some x) a rest s = rw (
-  e,
+fed_case v w h i line p k bound step bs ss ns o a rest s = rw (
+  known_at v _ _ h,
   s.first,
+  known_at v _ _ h,
   s.bound_fits,
-  s.minus_bound,
-  s.minus_fits,
+  less_number v _ (pos bound) _ s.minus_bound s.minus_fits h,
   s.comparable,
   s.second,
+  known_at v _ _ h,
   s.third,
   s.step_fits,
-  s.plus_step,
-  s.step_fits,
+  plus_number v _ (pos step) _ (ap pos s.plus_step) s.step_fits h,
+  known_at w _ _ i,
   s.fourth,
-) refl
-fed_case zero w h e line p k bound step bs ss ns None a rest s = rw (
-  e,
-  s.first,
-  s.bound_fits,
-  s.minus_bound,
-  s.minus_fits,
-  s.comparable,
-  s.second,
-  s.third,
-  s.step_fits,
-  s.plus_step,
-  s.step_fits,
-  s.fourth,
-) refl
-fed_case (suc zero) w h e line p k bound step bs ss ns (Some x) a rest s =
-    rw (
-      e,
-      s.first,
-      s.bound_fits,
-      s.minus_bound,
-      s.minus_fits,
-      s.comparable,
-      s.second,
-      s.third,
-      s.step_fits,
-      s.plus_step,
-      s.step_fits,
-      s.fourth,
-    ) refl
-fed_case (suc zero) w h e line p k bound step bs ss ns None a rest s =
-    rw (
-      e,
-      s.first,
-      s.bound_fits,
-      s.minus_bound,
-      s.minus_fits,
-      s.comparable,
-      s.second,
-      s.third,
-      s.step_fits,
-      s.plus_step,
-      s.step_fits,
-      s.fourth,
-    ) refl
-fed_case (suc (suc zero)) w h e line p k bound step bs ss ns (Some x) a rest s =
-    rw (
-      e,
-      s.first,
-      s.bound_fits,
-      s.minus_bound,
-      s.minus_fits,
-      s.comparable,
-      s.second,
-      s.third,
-      s.step_fits,
-      s.plus_step,
-      s.step_fits,
-      s.fourth,
-    ) refl
-fed_case (suc (suc zero)) w h e line p k bound step bs ss ns None a rest s =
-    rw (
-      e,
-      s.first,
-      s.bound_fits,
-      s.minus_bound,
-      s.minus_fits,
-      s.comparable,
-      s.second,
-      s.third,
-      s.step_fits,
-      s.plus_step,
-      s.step_fits,
-      s.fourth,
-    ) refl
-fed_case (suc (suc (suc v))) w h e line p k bound step bs ss ns o a rest s = absurd (omega arith)
+  known_at v _ _ h,
+) (loop_ends line _ _ _ _ _ o a rest)
 
 abs_minus : (n : ℕ) → nat_abs (neg_ℤ (pos n)) ≡ n
 abs_minus zero = refl
@@ -220,25 +180,25 @@ nodes_are n l ls m e ns =
     ∙ rw (two, e) refl
 
 -- the loops of a text, where they stand after a front
-pub loops_fed : (text front after : List ℕ) (p n : ℕ) (ls : List Loop) → AreDrawn ls → front ++ (spelled (loops_parts ls) ++ after) ≡ text
+pub loops_fed : (text front back : List ℕ) (p n : ℕ) (ls : List Loop) → AreDrawn ls → front ++ (spelled (loops_parts ls) ++ back) ≡ text
     → length front ≡ p → 1 + feeds front ≡ n →
     (k : ℕ) → k + 4 * length ls ≤ 512 → (ns : Statements) (o : Option (List ℕ)) (a : ℕ) (rest : List g.Token) →
     feed (line_at text) 3 (tokens_at p (loops_parts ls) ++ g.token (next o) a ∷ rest) (machine_at k ns)
     ≡ feed (line_at text) 3 (g.token (next o) a ∷ rest) (machine_at (count_behind k ls) (followed_by ns (loops_body n ls)))
-loops_fed text front after p n [] d e f h k c ns o a rest = ap (λ (x : Statements). feed (line_at text) 3 (g.token (next o) a ∷ rest)
+loops_fed text front back p n [] d e f h k c ns o a rest = ap (λ (x : Statements). feed (line_at text) 3 (g.token (next o) a ∷ rest)
     (machine_at k x)) (sym (followed_none ns))
-loops_fed text front after p n (l ∷ ls) d e f h k c ns o a rest =
+loops_fed text front back p n (l ∷ ls) d e f h k c ns o a rest =
     let line = line_at text in
     let q = p + length (spelled (loop_parts l)) in
     let last = g.token (next o) a ∷ rest in
-    let one : front ++ (spelled (loop_parts l) ++ (spelled (loops_parts ls) ++ after)) ≡ text =
-    ap (λ (x : List ℕ). front ++ x) (sym (append_assoc (spelled (loop_parts l)) (spelled (loops_parts ls)) after)
-    ∙ ap (λ (x : List ℕ). x ++ after) (sym (spelled_append (loop_parts l) (loops_parts ls)))) ∙ e in
-    let more : (front ++ spelled (loop_parts l)) ++ (spelled (loops_parts ls) ++ after) ≡ text =
-    append_assoc front (spelled (loop_parts l)) (spelled (loops_parts ls) ++ after) ∙ one in
+    let one : front ++ (spelled (loop_parts l) ++ (spelled (loops_parts ls) ++ back)) ≡ text =
+    ap (λ (x : List ℕ). front ++ x) (sym (append_assoc (spelled (loop_parts l)) (spelled (loops_parts ls)) back)
+    ∙ ap (λ (x : List ℕ). x ++ back) (sym (spelled_append (loop_parts l) (loops_parts ls)))) ∙ e in
+    let more : (front ++ spelled (loop_parts l)) ++ (spelled (loops_parts ls) ++ back) ≡ text =
+    append_assoc front (spelled (loop_parts l)) (spelled (loops_parts ls) ++ back) ∙ one in
     let size : length (front ++ spelled (loop_parts l)) ≡ q = omega (arith, length-append front (spelled (loop_parts l))) in
     let lines : lines_of line (tokens_at p (loop_parts l)) ≡ lines_at n (loop_parts l) =
-    lines_are text front (spelled (loops_parts ls) ++ after) p n (loop_parts l) (one_good l d.0) one f h in
+    lines_are text front (spelled (loops_parts ls) ++ back) p n (loop_parts l) (one_good l d.0) one f h in
     let behind : 1 + feeds (front ++ spelled (loop_parts l)) ≡ line_after n (loop_parts l) =
     behind_all front n (loop_parts l) (one_good l d.0) h in
     let five : line_after n (loop_parts l) ≡ n + 5 = omega arith in
@@ -249,12 +209,12 @@ loops_fed text front after p n (l ∷ ls) d e f h k c ns o a rest =
     (ap (λ (x : List g.Token). x ++ last) (tokens_append p (loop_parts l) (loops_parts ls))
     ∙ append_assoc (tokens_at p (loop_parts l)) (tokens_at q (loops_parts ls)) last
     ∙ ap (λ (x : List g.Token). tokens_at p (loop_parts l) ++ x) start.3)
-    ∙ fed_case l.variable (following l.variable) d.0.variable refl line p k l.bound l.step (decimal l.bound) (decimal l.step) ns start.0
-    start.1 start.2 (small k l.bound l.step (omega arith) d.0.bound d.0.step)
+    ∙ fed_case l.variable (following l.variable) d.0.variable (omega arith) line p k l.bound l.step (decimal l.bound) (decimal l.step) ns
+    start.0 start.1 start.2 (small k l.bound l.step (omega arith) d.0.bound d.0.step)
     ∙ ap₂ (λ (x : List g.Token) (y : List ℕ). feed line 3 x (machine_at (suc (suc (suc (suc k))))
     (followed_by (followed_by ns (first_node l.variable y)) (second_node l.variable (following l.variable) l.bound l.step y))))
     (sym start.3) lines
-    ∙ loops_fed text (front ++ spelled (loop_parts l)) after q (line_after n (loop_parts l)) ls d.1 more size behind
+    ∙ loops_fed text (front ++ spelled (loop_parts l)) back q (line_after n (loop_parts l)) ls d.1 more size behind
     (suc (suc (suc (suc k)))) (omega arith) ms o a rest
     ∙ ap (λ (x : Statements). feed line 3 last (machine_at (count_behind (suc (suc (suc (suc k)))) ls) x))
     (nodes_are n l ls (line_after n (loop_parts l)) five ns)

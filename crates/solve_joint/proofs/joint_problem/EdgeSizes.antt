@@ -46,7 +46,8 @@ edge_from system edge l =
     let e = edge_at system edge in
     ltb-true e.from (length system.flow.points) (both (nat_lt e.from (length system.flow.points)) _ (edge_is system edge l)).0
 
-few_actions : (system : System) (edge : ℕ) → edge < length system.flow.edges → length (edge_at system edge).actions ≤ 256
+-- an edge has few actions
+pub few_actions : (system : System) (edge : ℕ) → edge < length system.flow.edges → length (edge_at system edge).actions ≤ 256
 few_actions system edge l =
     let e = edge_at system edge in
     let a = both (nat_lt e.from (length system.flow.points)) _ (edge_is system edge l) in
@@ -95,7 +96,8 @@ forms_count k fs (Guard form ∷ actions) = omega (arith, forms_count k fs actio
 forms_count k fs (Assign var form ∷ actions) = omega (arith, forms_count k (slice_set fs var (composed form fs)) actions)
 forms_count k fs (Havoc var ∷ actions) = omega (arith, forms_count (suc k) (slice_set fs var (column k)) actions)
 
-few_guards : (n : ℕ) (actions : List Action) → length (guard_forms n actions) ≤ length actions
+-- and no more guards than actions
+pub few_guards : (n : ℕ) (actions : List Action) → length (guard_forms n actions) ≤ length actions
 unfolding guard_forms
 few_guards n actions = forms_count n (columns n) actions
 

@@ -47,7 +47,18 @@ few_listed system pick list r p =
     let k = rising_length system pick 0 list r p (omega arith) in
     omega (arith, s, k)
 
+-- a listed unknown has a place in the pick
+pub listed_within : (system : System) (pick : List (Option ℕ)) (list : List ℕ) (i : ℕ)
+    → length pick ≡ length system.flow.points * length system.template → ArePicked system pick list → i < length list
+    → get_or list i 0 < length pick
+listed_within system pick list i size h l = let p = picked_at system pick list i h l in omega (arith, p.in_range, size)
+
 -- the picked edge of an unknown is one of the system
 pub edge_within : (system : System) (pick : List (Option ℕ)) (u edge : ℕ) → IsPicked system pick u → edge ≡ edge_of (get_or pick u None)
     → edge < length system.flow.edges
 edge_within system pick u edge p e = subst (λ j. j < length system.flow.edges) (sym (e ∙ ap edge_of p.picks)) p.is_edge
+
+-- so is that of a listed one
+pub listed_edge : (system : System) (pick : List (Option ℕ)) (list : List ℕ) (i edge : ℕ) → ArePicked system pick list → i < length list
+    → edge ≡ edge_of (get_or pick (get_or list i 0) None) → edge < length system.flow.edges
+listed_edge system pick list i edge h l e = edge_within system pick (get_or list i 0) edge (picked_at system pick list i h l) e

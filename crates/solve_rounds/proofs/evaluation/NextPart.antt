@@ -1,8 +1,7 @@
 -- The part that comes next, as the code reads it from the parts that it was given.
 use Rattle.std.proofs.Common.{◌≡◌, ◌∙◌, ℕ, ◌+◌, ◌<◌, ◌≤◌, List, [], length, get_or, ap, sym, subst}
 use Rattle.std.specs.Prelude.{Option}
-use Rattle.flow_systems.specs.declared.fault.Fault.{Fault}
-use Rattle.flow_systems.specs.declared.spot.Spot.{Spot}
+use Rattle.solve_rounds.specs.declared.halt.RoundStop.{RoundStop}
 use Rattle.flow_systems.specs.declared.system.System.{System}
 use Rattle.cert_types.specs.declared.step.Step.{Step as CodeStep}
 use Rattle.solve_joint.specs.PartLists.{EachRises, part_numbers}
@@ -63,7 +62,7 @@ module _ (system : System) (pick : List (Option ℕ)) (raises : List CodeStep) (
       (next_waits system pick raises places list old number now chosen n.within h)
 
   -- a stop of one of its turns is one of the turns of all parts
-  pub numbered_stop : (old now : Turning) (round : ℕ) (stop : Fault Spot) → length old.steps.items ≡ 0
+  pub numbered_stop : (old now : Turning) (round : ℕ) (stop : RoundStop) → length old.steps.items ≡ 0
       → ArePartings system pick raises places list old number now
       → IsTurnStop system pick (ComesAfter system raises places p now) round stop →
       IsTurnStop system pick (ComesAmong system pick raises places list old.bounds) round stop

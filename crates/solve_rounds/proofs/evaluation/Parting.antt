@@ -7,8 +7,7 @@ use Rattle.std.proofs.lemmas.List.{length-map}
 use Rattle.base_facts.specs.Elements.{In}
 use Rattle.flow_systems.specs.Equations.{Equations, Vector}
 use Rattle.flow_systems.specs.View.{equations_of}
-use Rattle.flow_systems.specs.declared.fault.Fault.{Fault}
-use Rattle.flow_systems.specs.declared.spot.Spot.{Spot}
+use Rattle.solve_rounds.specs.declared.halt.RoundStop.{RoundStop}
 use Rattle.flow_systems.specs.declared.system.System.{System}
 use Rattle.theory_validity.specs.Steps.{Item, Step, after_step}
 use Rattle.theory_validity.specs.Certificates.{after_steps}
@@ -190,7 +189,7 @@ module _ (system : System) (pick : List (Option ℕ)) (raises : List CodeStep) (
   )
 
   -- so where it stops, a turn of the part does
-  pub left_stop : (left : List ℕ) (now : Turning) (round : ℕ) (stop : Fault Spot)
+  pub left_stop : (left : List ℕ) (now : Turning) (round : ℕ) (stop : RoundStop)
       → length old.bounds ≡ length system.flow.points * length system.template → 0 < length left → IsParting left now
       → IsJoinedStop system pick now.bounds left (length now.steps.items) round stop
       → IsTurnStop system pick (ComesAfter system raises places list old) round stop

@@ -9,13 +9,12 @@ use Rattle.flow_systems.specs.declared.spot.PartFault.TheVariants.{Wide as WideI
 use Rattle.theory_validity.specs.Steps.{Item}
 use Rattle.cert_types.specs.declared.step.Step.{Step as CodeStep}
 use Rattle.solve_joint.specs.Joints.{IsJointFault}
-use Rattle.flow_systems.specs.declared.fault.Fault.{Fault}
-use Rattle.flow_systems.specs.declared.spot.Spot.{Spot}
-use Rattle.flow_systems.specs.declared.fault.Fault.TheVariants.{Wide, NoMemory}
+use Rattle.solve_rounds.specs.declared.halt.RoundStop.{RoundStop}
+use Rattle.solve_rounds.specs.declared.halt.RoundStop.TheVariants.{Wide, Large, NoMemory}
 use Rattle.solve_offers.specs.AtBounds.{vector_at}
 use Rattle.solve_rounds.specs.Lows.{AreRaised, items_at}
 use Rattle.solve_rounds.specs.Round.{numbers_of, IsTurnStop}
-use Rattle.solve_rounds.specs.Turning.{IsJoinedStop}
+use Rattle.solve_rounds.specs.Turning.{IsJoinedStop, IsLarge}
 use Rattle.solve_rounds.proofs.lows.ListedLows.{raised_item}
 
 -- the numbers of a list's items are the list
@@ -31,7 +30,7 @@ numbers_back rows raises places (u ∷ list) h =
 pub joined_stop : (system : System) (pick : List (Option ℕ)) (raises : List CodeStep) (places list : List ℕ) (bounds : List Extended)
     (number round : ℕ) (comes : ℕ → Vector → List Item → Type 0) → length bounds ≡ length system.flow.points * length system.template
     → AreRaised raises places list →
-    comes number (vector_at system bounds) (items_at (length system.template) raises places list) → (stop : Fault Spot)
+    comes number (vector_at system bounds) (items_at (length system.template) raises places list) → (stop : RoundStop)
     → IsJoinedStop system pick bounds list number round stop → IsTurnStop system pick comes round stop
 joined_stop system pick raises places list bounds number round comes size raised turn (Wide spot) h = record {
   round_is = h.round;
@@ -45,11 +44,19 @@ joined_stop system pick raises places list bounds number round comes size raised
   wide = subst (λ ns. IsJointFault system pick bounds ns (WideIn h.part spot.wide))
       (sym (numbers_back (length system.template) raises places list raised)) h.wide;
 }
+joined_stop system pick raises places list bounds number round comes size raised turn (Large cells) h = record {
+  number = number;
+  bounds = bounds;
+  size = size;
+  list = items_at (length system.template) raises places list;
+  turn = turn;
+  large = subst (λ ns. IsLarge system pick ns cells) (sym (numbers_back (length system.template) raises places list raised)) h;
+}
 joined_stop system pick raises places list bounds number round comes size raised turn NoMemory h = tt
 
 -- where a turn that comes up stops, it does so as one of more turns
 pub turn_stop_more : (system : System) (pick : List (Option ℕ)) (comes more : ℕ → Vector → List Item → Type 0) (round : ℕ)
-    → ((number : ℕ) (vector : Vector) (list : List Item) → comes number vector list → more number vector list) → (stop : Fault Spot)
+    → ((number : ℕ) (vector : Vector) (list : List Item) → comes number vector list → more number vector list) → (stop : RoundStop)
     → IsTurnStop system pick comes round stop → IsTurnStop system pick more round stop
 turn_stop_more system pick comes more round within (Wide spot) h = record {
   round_is = h.round_is;
@@ -61,5 +68,13 @@ turn_stop_more system pick comes more round within (Wide spot) h = record {
   part = h.part;
   site = h.site;
   wide = h.wide;
+}
+turn_stop_more system pick comes more round within (Large cells) h = record {
+  number = h.number;
+  bounds = h.bounds;
+  size = h.size;
+  list = h.list;
+  turn = within h.number (vector_at system h.bounds) h.list h.turn;
+  large = h.large;
 }
 turn_stop_more system pick comes more round within NoMemory h = tt

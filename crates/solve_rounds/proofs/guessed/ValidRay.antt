@@ -1,6 +1,5 @@
 -- A ray whose step is valid has the facts of a turn.
 use Rattle.std.proofs.Common.{◌≡◌, ◌∙◌, ℕ, ◌/◌, ◌%◌, ◌<◌, List, length, get_or, map, sym, ap, subst}
-use Rattle.std.specs.Prelude.{Option}
 use Rattle.std.proofs.lemmas.List.{length-map}
 use Rattle.base_facts.specs.Elements.{In}
 use Rattle.base_facts.proofs.elements.Membership.{in_map, of_map}

@@ -29,9 +29,11 @@ use Rattle.solve_rounds.specs.declared.solving.Progress.{Progress}
 use Rattle.solve_offers.specs.AtBounds.{transformers, vector_at, IsTightPick, IsNextPick, NothingExceeds}
 use Rattle.solve_offers.specs.Stops.{IsOfferStop}
 use Rattle.solve_offers.specs.Improvement.{pick_of, IsNext}
-use Rattle.solve_rounds.specs.Round.{IsRoundStop, AreBoundsOf, IsRoundAt, rounded_at}
+use Rattle.solve_rounds.specs.Round.{IsRoundStop, AreBoundsOf, IsRoundAt, IsLargeTurn, IsTurnOf, rounded_at}
 use Rattle.solve_rounds.specs.Chains.{state_at, bounds_after, AreStepsAfter, IsChain, IsEnded}
-use Rattle.solve_rounds.specs.HaltOf.{halt_of}
+use Rattle.solve_rounds.specs.HaltOf.{halt_of, halt_of_round}
+use Rattle.solve_rounds.specs.declared.halt.RoundStop.{RoundStop}
+use Rattle.solve_rounds.specs.declared.halt.RoundStop.TheVariants as round
 use Rattle.solve_rounds.specs.Halts.{IsHalt}
 use Rattle.solve_rounds.specs.Solutions.{IsSolved, made_certificate}
 use Rattle.solve_rounds.specs.Solving.{IsBegun, IsAfter, IsAdvanced, IsFinished}
@@ -127,12 +129,24 @@ module _ (system : System) (policy : Offer → ℕ → Type 0) (made : ℕ) (pro
     others = more system policy made a.choose a.chain (pick_of (length system.template) better) next_one
 
     -- a round that is refused
-    pub round_halt : (limit number : ℕ) (stop : Fault Spot) → made < limit → number ≡ made + 1
+    pub round_halt : (limit number : ℕ) (stop : RoundStop) → made < limit → number ≡ made + 1
         → length better ≡ length system.flow.points * length system.template →
-        IsRoundStop system progress.bounds better number stop → IsHalt system policy limit (halt_of stop)
+        IsRoundStop system progress.bounds better number stop → IsHalt system policy limit (halt_of_round stop)
     unfolding others
-    round_halt limit number NoStop within e size h = tt
-    round_halt limit number (WideStop spot) within e size h =
+    round_halt limit number round.NoMemory within e size h = tt
+    round_halt limit number (round.Large cells) within e size (inl h) = absurd h
+    round_halt limit number (round.Large cells) within e size (inr h) = record {
+      choose = others;
+      before = made;
+      chain = extended system policy made a.choose a.chain (pick_of (length system.template) better) next_one;
+      within = within;
+      pick = better;
+      size = size;
+      is_pick = sym (pick_next system policy made a.choose a.chain (pick_of (length system.template) better) next_one);
+      turn = subst (λ b. IsLargeTurn system better (IsTurnOf system b better) cells)
+          (a.bounds ∙ same_bounds system policy made a.choose a.chain (pick_of (length system.template) better) next_one) h;
+    }
+    round_halt limit number (round.Wide spot) within e size h =
         inr (inr (record {
           choose = others;
           before = made;
@@ -141,7 +155,7 @@ module _ (system : System) (policy : Offer → ℕ → Type 0) (made : ℕ) (pro
           pick = better;
           size = size;
           is_pick = sym (pick_next system policy made a.choose a.chain (pick_of (length system.template) better) next_one);
-          stop = subst₂ (λ b n. IsRoundStop system b better n (WideStop spot))
+          stop = subst₂ (λ b n. IsRoundStop system b better n (round.Wide spot))
               (a.bounds ∙ same_bounds system policy made a.choose a.chain (pick_of (length system.template) better) next_one)
               (let f : number ≡ suc made = omega arith in f) h;
         }))

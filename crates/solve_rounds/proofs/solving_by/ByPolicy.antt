@@ -9,11 +9,11 @@ use Rattle.theory_strategy.specs.Picks.{Transformer}
 use Rattle.theory_rounds.specs.Rounds.{Choice}
 use Rattle.solve_offers.specs.declared.offer.Offer.{Offer}
 use Rattle.solve_rounds.specs.declared.halt.Halt.{Halt}
-use Rattle.solve_rounds.specs.declared.halt.Halt.TheVariants.{Wide, Spent, NoMemory}
+use Rattle.solve_rounds.specs.declared.halt.Halt.TheVariants.{Wide, Large, Spent, NoMemory}
 use Rattle.solve_rounds.specs.declared.solution.Solved.{Solved}
 use Rattle.solve_offers.specs.Improvement.{IsChoice}
 use Rattle.solve_rounds.specs.Chains.{IsChain}
-use Rattle.solve_rounds.specs.Halts.{IsHalt, IsOfferHalt, IsRoundHalt}
+use Rattle.solve_rounds.specs.Halts.{IsLargeHalt, IsHalt, IsOfferHalt, IsRoundHalt}
 use Rattle.solve_rounds.specs.Solutions.{IsSolved}
 
 module _ (policy other : Offer → ℕ → Type 0) (also : (offer : Offer) (k : ℕ) → policy offer k → other offer k) where
@@ -75,10 +75,23 @@ module _ (policy other : Offer → ℕ → Type 0) (also : (offer : Offer) (k : 
     stop = h.stop;
   }
 
+  large_by : (system : System) (limit cells : ℕ) → IsLargeHalt system policy limit cells → IsLargeHalt system other limit cells
+  large_by system limit cells h = record {
+    choose = h.choose;
+    before = h.before;
+    chain = chain_by system _ h.choose h.chain;
+    within = h.within;
+    pick = h.pick;
+    size = h.size;
+    is_pick = h.is_pick;
+    turn = h.turn;
+  }
+
   -- a halt
   pub halt_by : (system : System) (limit : ℕ) (halt : Halt) → IsHalt system policy limit halt → IsHalt system other limit halt
   halt_by system limit (Wide spot) h = ⊎_elim (λ c. inl c) (λ d. inr (⊎_elim (λ o. inl (offer_by system limit spot o))
       (λ r. inr (round_by system limit spot r)) d)) h
+  halt_by system limit (Large cells) h = large_by system limit cells h
   halt_by system limit (Spent bounds) h = record {
     choose = h.choose;
     chain = chain_by system limit h.choose h.chain;

@@ -18,7 +18,7 @@ use Rattle.solve_rounds.specs.Guessed.{IsPointReached, IsRayValid, IsFound}
 use Rattle.solve_rounds.specs.Turning.{IsPart, HasSizes}
 use Rattle.solve_rounds.proofs.turning.LayoutReads.{read_sizes}
 use Rattle.solve_rounds.proofs.turning.OutcomeFacts.{HasFacts}
-use Rattle.solve_rounds.proofs.turning.ReadFacts.{read_facts}
+use Rattle.solve_rounds.proofs.turning.Turned.{read_facts}
 use Rattle.solve_rounds.proofs.guessed.ReachedFacts.{point_facts}
 use Rattle.solve_rounds.proofs.guessed.ValidRay.{ray_facts}
 
@@ -45,7 +45,7 @@ pub found_facts : (system : System) (pick : List (Option ℕ))
     (vector_at system bounds) (items_at (length system.template) raises places list)) (j : Joined)
     → IsFound system pick raises places bounds list j → HasFacts system raises places list bounds j
 found_facts system pick is_pick raises places list part bounds size condition j found =
-    ⊎_elim (read_facts system pick is_pick raises places list part bounds size condition j) (λ h. ⊎_elim (at_point j) (along_ray j) h) found
+    ⊎_elim (read_facts system pick raises places list part bounds size condition is_pick j) (λ h. ⊎_elim (at_point j) (along_ray j) h) found
   where
     at_point : (k : Joined) → IsPointReached system pick bounds list k → HasFacts system raises places list bounds k
     at_point (Point to highs) h = point_facts system pick raises places list part bounds size condition to highs h

@@ -19,18 +19,22 @@ use Rattle.cert_types.specs.Certificates.{jump_item, ray_item}
 use Rattle.solve_ray.specs.declared.rate.RateOf.{RateOf}
 use Rattle.solve_ray.specs.declared.layout.Rise.{Rise}
 use Rattle.solve_ray.specs.Reading.{named_rates}
-use Rattle.lp_theory.specs.Problem.{best}
-use Rattle.theory_transformers.specs.JointProblems.{Listed, rise_at, raised, joint_words, AllRising}
+use Rattle.lp_theory.specs.Problem.{Outcome as Solution, best, unbounded, empty}
+use Rattle.lp_theory.specs.Simplex.{lp}
+use Rattle.theory_transformers.specs.JointProblems.{Listed, rise_at, raised, joint_problem, joint_words, AllRising}
 use Rattle.theory_transformers.specs.JointPoints.{Distinct as Apart}
-use Rattle.theory_strategy.specs.Picks.{choice}
-use Rattle.theory_strategy.specs.Round.{ListCondition}
+use Rattle.theory_strategy.specs.Picks.{IsPick, choice}
+use Rattle.theory_strategy.specs.Round.{ListCondition, PointFacts, RayFacts, OutcomeFacts}
 use Rattle.solve_joint.specs.Numbers.{ArePicked, IsPicked, all_listed}
 use Rattle.solve_joint.specs.Joints.{IsReadFrom, entries_of, word_of}
 use Rattle.solve_joint.specs.Layouts.{layout_of}
-use Rattle.solve_joint.specs.declared.joined.Joined.TheVariants.{Point as PointRead}
+use Rattle.solve_joint.specs.declared.joined.Joined.TheVariants.{Point as PointRead, Ray as RayRead}
+use Rattle.solve_joint.specs.declared.joined.Joined.{Joined}
+use Rattle.solve_joint.specs.Problems.{problem_of}
 use Rattle.solve_joint.proofs.blocks.Translated.{listed_distinct}
 use Rattle.solve_joint.proofs.layouts.NumberReads.{numbers_are}
-use Rattle.theory_rounds.specs.JointItems.{listed_items, point_items, rate_items}
+use Rattle.theory_rounds.specs.JointItems.{listed_items, point_items, rate_items, outcome_items, exact_joint}
+use Rattle.theory_rounds.proofs.joint_items.Joined.{exact_joined}
 use Rattle.theory_rounds.proofs.joint_items.ListedItems.{rising_items}
 use Rattle.solve_offers.specs.AtBounds.{vector_at, transformers}
 use Rattle.solve_offers.specs.Improvement.{pick_of}
@@ -39,6 +43,7 @@ use Rattle.solve_rounds.specs.Lows.{no_trace, AreRaised, items_at}
 use Rattle.solve_rounds.specs.Putting.{puts}
 use Rattle.solve_rounds.specs.Turning.{jump_item_at, jump_items_at, ray_item_of, IsPart}
 use Rattle.solve_offers.proofs.offers.Unknowns.{row_within}
+use Rattle.solve_rounds.proofs.turning.OutcomeFacts.{HasFacts}
 use Rattle.solve_rounds.proofs.turning.TurnItems.{place_of, in_place, each_unknown}
 use Rattle.solve_rounds.proofs.lows.ListedLows.{listed_same}
 use Rattle.solve_rounds.proofs.lows.JumpTurn.{jump_is}
@@ -220,3 +225,25 @@ module _ (system : System) (pick : List (Option ℕ)) (raises : List CodeStep) (
           ∙ ap (map (λ v. rise_at us d v.point v.row)) same ∙ layout_rises system pick d list apart)
           ∙ ap₂ (λ l w. rate_items eqs.variables (rise_at us d) (items_at rows raises places l) w) laid (layout_words system pick d list)
           ∙ ap (λ l. rate_items eqs.variables (rise_at l d) items (joint_words eqs l d)) (sym same)
+
+  -- ---- the outcome
+  by_outcome : (o : Solution) → OutcomeFacts eqs (transformers system) V items (outcome_items eqs V items o) → (j : Joined)
+      → IsReadFrom system pick bounds list o j → HasFacts system raises places list bounds j
+  unfolding outcome_items
+  by_outcome (best x v y) facts (PointRead to highs) read =
+      subst (PointFacts eqs (transformers system) V items) (sym (point_same to highs x v y read)) facts
+  by_outcome (best x v y) facts (RayRead rates) read = absurd read
+  by_outcome (unbounded x d) facts (PointRead to highs) read = absurd read
+  by_outcome (unbounded x d) facts (RayRead rates) read =
+      subst (RayFacts eqs V items) (sym (ray_same x d rates.list read)) facts
+  by_outcome (empty y) facts j read = absurd read
+
+  -- what is read from the exact outcome has its facts
+  pub read_facts : IsPick eqs (pick_of rows pick) → (j : Joined)
+      → IsReadFrom system pick bounds list (lp (problem_of system pick bounds list)) j → HasFacts system raises places list bounds j
+  unfolding exact_joint
+  read_facts is_pick j read =
+      let as_theirs : IsReadFrom system pick bounds list (lp (joint_problem eqs V (listed_items items))) j =
+      subst (λ l. IsReadFrom system pick bounds list (lp (joint_problem eqs V l)) j) (sym same) read in
+      let facts = exact_joined eqs (pick_of rows pick) is_pick V items condition in
+      by_outcome (lp (joint_problem eqs V (listed_items items))) facts j as_theirs

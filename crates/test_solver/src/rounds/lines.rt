@@ -13,8 +13,8 @@ pub(crate) fn add_number(line: &mut Vec<u8>, word: &[u8], number: u64) -> Result
     line.extend_from_slice(buffer.format(number).as_bytes())
 }
 
-// Appends a blank and then a fraction.
-fn add_fraction(line: &mut Vec<u8>, number: Frac) -> Result<(), AllocError> {
+/// Appends a blank and then a fraction.
+pub(crate) fn add_fraction(line: &mut Vec<u8>, number: Frac) -> Result<(), AllocError> {
     line.extend_from_slice(b" ")?;
     line.extend_from_slice(number.text().bytes())
 }

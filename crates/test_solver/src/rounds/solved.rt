@@ -1,14 +1,12 @@
 //! Whole solutions, and how many picks there are.
 
 ghost use Rattle.std.specs.Prelude.{◌≤◌};
-ghost use Rattle.flow_systems.specs.Cells.{cells_of};
-ghost use Rattle.flow_systems.specs.View.{equations_of};
 
 use crate::cases::{Case, Fail, first_wrong};
 use crate::rounds::lines::{add_bounds, add_number};
 use crate::rounds::offers::last;
 use crate::rounds::systems::{
-    CASES, COUNTER, Domain, ENDLESS, IDLE, INNER_LOOPS, TOGETHER, system_of,
+    CASES, COUNTER, Domain, ENDLESS, FAST, GROWING, IDLE, INNER_LOOPS, TOGETHER, system_of,
 };
 use base_watch::{Unwatched, Watch};
 use flow_systems::System;
@@ -37,7 +35,6 @@ pub(crate) fn solve<W: Watch>(
     watch: &mut W,
 ) -> Result<Solved, Halt>
     requires limit { limit ≤ 1000000 }
-    requires cells { cells_of (equations_of system.now) ≤ 134217728 }
 {
     match by {
         By::Best => least_by_best(alloc, system, limit, watch),
@@ -79,8 +76,8 @@ fn solved_line(
     limit: u32,
 ) -> Result<Vec<u8>, Fail> {
     let system = system_of(alloc, text, domain)?;
-    if system.cells() > 134_217_728 || limit > 1_000_000 {
-        return Err("a small system and a small limit".into());
+    if limit > 1_000_000 {
+        return Err("a small limit".into());
     }
     line_of(alloc, solve(alloc, &system, by, limit, &mut Unwatched))
 }
@@ -112,6 +109,8 @@ impl Case for Rounds<'_> {
 // parts, the second raises one. There are two edges into the loop and one into the exit, each with two rows. After two rounds the
 // exit isn't reached yet. The loop without a guard needs two: its second round raises three unknowns, and rays set the two upper ones
 // to +inf. Only the lower bounds need evidence then.
+// Where the three counters have no guards, rays set all nine upper bounds to +inf, also where one counter is 2^43 times another, so
+// that a guess is given up.
 // Three counters through three loops need five rounds: one for each loop at its first values, then the three upper bounds of all three
 // loops together, in nine raises and one jump, and the exit. All bounds but the entry's need evidence, from nine edges with six rows.
 const COUNTERS: &[Rounds] = &[
@@ -179,6 +178,31 @@ const COUNTERS: &[Rounds] = &[
         start: b"+inf +inf +inf +inf +inf +inf 10 0 20 0 30 0 10 -1 20 -1 30 -1 10 -1 20 -1 30 -1 10 0 20 0 30 0 \
               improvements 5 steps 58 uppers 54",
         is_whole: true,
+    },
+    Rounds {
+        text: INNER_LOOPS,
+        domain: Domain::Intervals,
+        by: By::First,
+        limit: 9,
+        start: b"+inf +inf +inf +inf +inf +inf 10 0 20 0 30 0 10 -1 20 -1 30 -1 10 -1 20 -1 30 -1 10 0 20 0 30 0 ",
+        is_whole: false,
+    },
+    Rounds {
+        text: GROWING,
+        domain: Domain::Intervals,
+        by: By::Best,
+        limit: 9,
+        start: b"+inf +inf +inf +inf +inf +inf +inf 0 +inf 0 +inf 0 +inf -1 +inf -1 +inf -1 +inf -1 +inf -1 +inf -1 +inf 0 +inf 0 +inf 0 ",
+        is_whole: false,
+    },
+    Rounds {
+        text: FAST,
+        domain: Domain::Intervals,
+        by: By::First,
+        limit: 9,
+        start: b"+inf +inf +inf +inf +inf +inf +inf 0 +inf 0 +inf 0 +inf -1 +inf -8796093022208 +inf -1 \
+              +inf -1 +inf -8796093022208 +inf -1 +inf 0 +inf 0 +inf 0 ",
+        is_whole: false,
     },
 ];
 

@@ -10,9 +10,6 @@ use std::alloc::Global;
 // What the rounds by the first edge that exceeds end with.
 fn solved_by_first(alloc: Global, text: &[u8], domain: Domain) -> Result<Solved, Fail> {
     let system = system_of(alloc, text, domain)?;
-    if system.cells() > 134_217_728 {
-        return Err("a small system".into());
-    }
     match least_by_first(alloc, &system, 9, &mut Unwatched) {
         Ok(solved) => Ok(solved),
         Err(_) => Err("small numbers and few rounds".into()),

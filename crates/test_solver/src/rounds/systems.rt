@@ -34,6 +34,15 @@ pub(crate) const TOGETHER: &[u8] =
 pub(crate) const INNER_LOOPS: &[u8] = b"int main() { int x = 0, y = 0, z = 0; \
       while (x < 10 && y < 20 && z < 30) { x = x + 1; y = y + 1; z = z + 1; while (nondet()) { } while (nondet()) { } } }";
 
+/// As `INNER_LOOPS`, with no bound above; points as there: edge 0 to the loop, edge 1 through its body, edge 2 to the exit, edge 3
+/// around the first inner loop, edge 4 to the second, edge 5 around it, and edge 6 back.
+pub(crate) const GROWING: &[u8] = b"int main() { int x = 0, y = 0, z = 0; \
+      while (nondet()) { x = x + 1; y = y + 1; z = z + 1; while (nondet()) { } while (nondet()) { } } }";
+
+/// The same where one variable is 2^43 times another, and so too wide for a fraction where that one is 2^20.
+pub(crate) const FAST: &[u8] = b"int main() { int x = 0, y = 0, z = 0; \
+      while (nondet()) { x = x + 1; y = 8796093022208*x; z = z + 1; while (nondet()) { } while (nondet()) { } } }";
+
 /// A loop that does nothing, with any value; edges as those of the counter.
 pub(crate) const IDLE: &[u8] = b"int main() { int x; while (nondet()) { } }";
 

@@ -40,8 +40,8 @@ impl Watch for Kept {
 // What is told of the rounds over a text.
 fn told(alloc: Global, text: &[u8], domain: Domain, by: By, limit: u32) -> Result<Vec<u8>, Fail> {
     let system = system_of(alloc, text, domain)?;
-    if system.cells() > 134_217_728 || limit > 1_000_000 {
-        return Err("a small system and a small limit".into());
+    if limit > 1_000_000 {
+        return Err("a small limit".into());
     }
     let mut kept = Kept {
         line: Vec::new(alloc),

@@ -13,7 +13,7 @@ use Rattle.top_status.specs.CheckMessages.{rows_of}
 use Rattle.top_status.specs.Messages.{line_in, message_of}
 use Rattle.ask_files.specs.declared.which.ReadCause.{ReadCause}
 use Rattle.top_status.specs.declared.status.Status.{Status}
-use Rattle.top_status.specs.declared.status.Status.TheVariants.{Done, Certificate, Usage, Read, Text, Wide, Spent, Memory, Write}
+use Rattle.top_status.specs.declared.status.Status.TheVariants.{Done, Certificate, Usage, Read, Text, Exceeded, Spent, Memory, Write}
 use Rattle.top_texts.specs.Exact.{exact}
 use Rattle.top_answer.proofs.commands.Lawful.{IsLawful}
 
@@ -88,9 +88,9 @@ module _ (commands : Commands) (law : IsLawful commands) (words contents : List 
     texts_answer Usage bytes h = public.is_ending (public.decided (with_texts request contents) asks h.0)
     texts_answer (Read c) bytes h = public.is_ending (public.decided (with_texts request contents) asks h.0)
     texts_answer (Text c) bytes h = public.is_ending (public.decided (with_texts request contents) asks h.0)
-    texts_answer (Wide spot) bytes h =
+    texts_answer (Exceeded excess) bytes h =
         ⊎_elim (λ k. public.is_ending (public.decided (with_texts request contents) asks k))
-        (λ w. public.is_wide spot refl (record { asked = with_texts request contents; asks = asks; too_wide = w })) h.0
+        (λ w. public.is_exceeded excess refl (record { asked = with_texts request contents; asks = asks; exceeds = w })) h.0
     texts_answer (Spent n) bytes h = public.is_ending (public.decided (with_texts request contents) asks h.0)
     texts_answer Memory bytes h = public.is_memory refl
     texts_answer Write bytes h = public.is_ending (public.decided (with_texts request contents) asks h.0)
@@ -102,7 +102,7 @@ module _ (commands : Commands) (law : IsLawful commands) (words contents : List 
     texts_hold Usage bytes h = public.nothing (λ e. cc) h.1
     texts_hold (Read c) bytes h = public.nothing (λ e. cc) h.1
     texts_hold (Text c) bytes h = public.nothing (λ e. cc) h.1
-    texts_hold (Wide spot) bytes h = public.nothing (λ e. cc) h.1
+    texts_hold (Exceeded excess) bytes h = public.nothing (λ e. cc) h.1
     texts_hold (Spent n) bytes h = public.nothing (λ e. cc) h.1
     texts_hold Memory bytes h = public.nothing (λ e. cc) h
     texts_hold Write bytes h = public.nothing (λ e. cc) h.1
@@ -117,10 +117,10 @@ module _ (commands : Commands) (law : IsLawful commands) (words contents : List 
     decided_once Usage bytes ending h k = public.given ((law (with_texts request contents)).ends_once Usage ending h.0 k)
     decided_once (Read c) bytes ending h k = public.given ((law (with_texts request contents)).ends_once (Read c) ending h.0 k)
     decided_once (Text c) bytes ending h k = public.given ((law (with_texts request contents)).ends_once (Text c) ending h.0 k)
-    decided_once (Wide spot) bytes ending h k =
-        ⊎_elim (λ e. public.given ((law (with_texts request contents)).ends_once (Wide spot) ending e k))
-        (λ w. public.too_wide spot refl (record { asked = with_texts request contents; asks = asks; too_wide = w })
-        ((law (with_texts request contents)).wide_ends spot ending w k)) h.0
+    decided_once (Exceeded excess) bytes ending h k =
+        ⊎_elim (λ e. public.given ((law (with_texts request contents)).ends_once (Exceeded excess) ending e k))
+        (λ w. public.exceeded excess refl (record { asked = with_texts request contents; asks = asks; exceeds = w })
+        ((law (with_texts request contents)).exceeded_ends excess ending w k)) h.0
     decided_once (Spent n) bytes ending h k = public.given ((law (with_texts request contents)).ends_once (Spent n) ending h.0 k)
     decided_once Memory bytes ending h k = public.no_memory refl
     decided_once Write bytes ending h k = public.given ((law (with_texts request contents)).ends_once Write ending h.0 k)

@@ -12,8 +12,10 @@ use Rattle.ask_words.specs.declared.request.Request.TheVariants.{Check}
 use Rattle.top_answer.specs.Commands as commands
 use Rattle.top_answer.specs.Commands.{CheckEnds, IsChecked, command_of}
 use Rattle.top_answer.specs.Outcomes.{HasOutcome, Says}
+use Rattle.top_status.specs.declared.status.Excess.TheVariants.{Wide, Large}
 use Rattle.top_status.specs.declared.status.Status.{Status}
-use Rattle.top_status.specs.declared.status.Status.TheVariants.{Done, Certificate as Refused, Usage, Read, Text, Wide, Spent, Memory, Write}
+use Rattle.top_status.specs.declared.status.Status.TheVariants.{Done, Certificate as Refused, Usage, Read, Text, Exceeded}
+use Rattle.top_status.specs.declared.status.Status.TheVariants.{Spent, Memory, Write}
 use Rattle.top_texts.specs.Checks.{IsSpelt, system_with}
 use Rattle.top_texts.specs.Endings.{CheckEnd}
 use Rattle.top_texts.specs.Exact.{exact}
@@ -40,7 +42,8 @@ check_end text bytes (Refused cause) h = commands.certificate_refused cause refl
 check_end text bytes Usage h = absurd h
 check_end text bytes (Read cause) h = absurd h
 check_end text bytes (Text cause) h = commands.program_refused cause refl h
-check_end text bytes (Wide spot) h = commands.sum_too_wide spot refl h
+check_end text bytes (Exceeded (Wide spot)) h = commands.sum_too_wide spot refl h
+check_end text bytes (Exceeded (Large cells)) h = absurd h
 check_end text bytes (Spent n) h = absurd h
 check_end text bytes Memory h = absurd h
 check_end text bytes Write h = absurd h
@@ -71,7 +74,7 @@ checks text given = record {
   lawful = record {
     ends_once = λ s t h k. check_ends_once text given s t (check_staged text given s (check_end_back text given s h))
         (check_staged text given t (check_end_back text given t k));
-    wide_ends = λ spot s w h. absurd w;
+    exceeded_ends = λ excess s w h. absurd w;
     written_ends = λ bytes r. commands.accepted r.names r.body r.rows r.vector refl r.accepted;
     never_unread = λ cause h. check_end_back text given (Read cause) h;
     never_unwritten = λ h. check_end_back text given Write h;
@@ -97,7 +100,7 @@ check_says : (text given : List ℕ) (x : Refusal) → IsAnswerToCheck text give
     → Says (command_of exact (Check text given)) (refused x) []
 check_says text given (refusal.Text c) h = (check_end text given (Text c) h, refl)
 check_says text given (refusal.Certificate c) h = (check_end text given (Refused c) h, refl)
-check_says text given (refusal.Wide spot) h = (inl (check_end text given (Wide spot) h), refl)
+check_says text given (refusal.Exceeded excess) h = (inl (check_end text given (Exceeded excess) h), refl)
 check_says text given (refusal.Spent n) h = absurd h
 check_says text given refusal.NoMemory h = refl
 

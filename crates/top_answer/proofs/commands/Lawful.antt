@@ -1,7 +1,6 @@
 -- What commands have to keep to, so that an answer is one.
 use Rattle.std.proofs.Common.{◌≡◌, ◌≢◌, ℕ, List}
 use Rattle.std.specs.Prelude.{None}
-use Rattle.flow_systems.specs.declared.spot.Spot.{Spot}
 use Rattle.ask_files.specs.Files.{Request, files_of, unread, with_texts}
 use Rattle.ask_files.specs.declared.which.ReadCause.{ReadCause}
 use Rattle.ask_words.specs.declared.request.Analysis.{Analysis}
@@ -9,16 +8,17 @@ use Rattle.ask_words.specs.declared.request.Purpose.TheVariants.{Certificate}
 use Rattle.ask_words.specs.declared.request.Request.TheVariants.{Analyse}
 use Rattle.top_answer.specs.Answers.{IsOfRounds}
 use Rattle.top_answer.specs.Commands.{Commands, command_of}
+use Rattle.top_status.specs.declared.status.Excess.{Excess}
 use Rattle.top_status.specs.declared.status.Status.{Status}
 use Rattle.top_status.specs.declared.status.Status.TheVariants.{Done, Read, Write}
 use Rattle.top_texts.specs.Exact.{exact}
 
--- a command whose answers are determined by what stands, by its endings, its wide operations, and what it writes
-pub record IsLawfulCommand (ends : Status → Type 0) (too_wide : Spot → Type 0) (writes : List ℕ → Type 0) : Type 0 where
+-- a command whose answers are determined by what stands, by its endings, what may exceed exact work, and what it writes
+pub record IsLawfulCommand (ends : Status → Type 0) (exceeds : Excess → Type 0) (writes : List ℕ → Type 0) : Type 0 where
   -- texts have one ending
   pub ends_once : (s t : Status) → ends s → ends t → s ≡ t
-  -- improvements decide it where an operation is too wide
-  pub wide_ends : (spot : Spot) (s : Status) → too_wide spot → ends s → IsOfRounds s
+  -- improvements decide it where something exceeds exact work
+  pub exceeded_ends : (excess : Excess) (s : Status) → exceeds excess → ends s → IsOfRounds s
   -- it is success where something is written
   pub written_ends : (bytes : List ℕ) → writes bytes → ends Done
   -- it is no failed read
@@ -28,7 +28,7 @@ pub record IsLawfulCommand (ends : Status → Type 0) (too_wide : Spot → Type 
 
 -- commands that are such, whatever is asked
 abbrev pub IsLawful : Commands → Type 0
-IsLawful commands = (asked : Request) → IsLawfulCommand (commands asked).ends (commands asked).too_wide (commands asked).writes
+IsLawful commands = (asked : Request) → IsLawfulCommand (commands asked).ends (commands asked).exceeds (commands asked).writes
 
 -- the numbers of a request are within their limits
 abbrev pub IsInRange : Request → Type 0
@@ -41,7 +41,7 @@ IsForNone request = (analysis : Analysis (List ℕ)) → request ≢ Analyse Cer
 -- what is shown of each request of the program
 pub record IsCommand (request : Request) : Type 0 where
   -- its command is lawful
-  pub lawful : IsLawfulCommand (command_of exact request).ends (command_of exact request).too_wide (command_of exact request).writes
+  pub lawful : IsLawfulCommand (command_of exact request).ends (command_of exact request).exceeds (command_of exact request).writes
   -- one text is written of its texts, unless it is a certificate
   pub writes_once : IsForNone request → (contents : List (List ℕ)) (one other : List ℕ)
       → (command_of exact (with_texts request contents)).writes one

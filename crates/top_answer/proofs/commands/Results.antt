@@ -33,7 +33,7 @@ ok_map P Q f (Err x) h = tt
 pub question_says : (q : Question) (writes : List ℕ → Type 0) (x : Refusal) → IsUnanswered q x → Says (asking q writes) (refused x) []
 question_says q writes (refusal.Text cause) h = (is_refused cause refl h, refl)
 question_says q writes (refusal.Certificate cause) h = absurd h
-question_says q writes (refusal.Wide spot) h = (inr h, refl)
+question_says q writes (refusal.Exceeded excess) h = (inr h, refl)
 question_says q writes (refusal.Spent n) h = (h, refl)
 question_says q writes refusal.NoMemory h = refl
 

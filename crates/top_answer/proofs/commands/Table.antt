@@ -16,9 +16,8 @@ use Rattle.top_answer.proofs.commands.Claims.{claims, claims_range}
 use Rattle.top_answer.proofs.commands.Equations.{equations, equations_range}
 use Rattle.top_answer.proofs.commands.Generated.{bench_range, benches}
 use Rattle.top_answer.proofs.commands.Lawful.{IsCommand, IsInRange, IsLawful}
-use Rattle.top_answer.proofs.commands.Points.{points, points_range}
+use Rattle.top_answer.proofs.commands.Plain.{points, points_range, upgrade_range, upgrades}
 use Rattle.top_answer.proofs.commands.Transitions.{transitions, transitions_range}
-use Rattle.top_answer.proofs.commands.Upgrades.{upgrade_range, upgrades}
 use Rattle.top_answer.proofs.requests.Numbers.{none_some}
 
 -- each request is for a command of the program

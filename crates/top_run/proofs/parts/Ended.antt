@@ -10,7 +10,6 @@ use Rattle.ask_words.specs.Request.{request_of}
 use Rattle.base_files.specs.Faults.{Rose}
 use Rattle.base_files.specs.Loads.{LoadedFile}
 use Rattle.base_files.specs.Puts.{AddsPieces}
-use Rattle.flow_systems.specs.declared.spot.Spot.{Spot}
 use Rattle.top_answer.specs.Answers as answers
 use Rattle.top_answer.specs.Answers.{IsAnsweredBy, Ends, Holds, IsAnswer, IsMessage, IsOutput}
 use Rattle.top_answer.specs.Commands.{Commands}
@@ -29,8 +28,9 @@ use Rattle.top_run.specs.Run.{Gives, IsEnding, IsRun, answered, is_answer, is_un
 use Rattle.top_run.specs.Seen.{ShelfSeen, SinkSeen}
 use Rattle.top_run.specs.declared.output.Pieces.{Pieces}
 use Rattle.top_status.specs.Messages.{message_of}
+use Rattle.top_status.specs.declared.status.Excess.{Excess}
 use Rattle.top_status.specs.declared.status.Status.{Status}
-use Rattle.top_status.specs.declared.status.Status.TheVariants.{Done, Memory, Read, Usage, Wide, Write}
+use Rattle.top_status.specs.declared.status.Status.TheVariants.{Done, Exceeded, Memory, Read, Usage, Write}
 use Rattle.top_texts.specs.Meanings.{Meanings}
 
 -- ---- statuses differ
@@ -38,8 +38,8 @@ use Rattle.top_texts.specs.Meanings.{Meanings}
 memory_done : (s : Status) → s ≡ Memory → s ≡ Done → ⊥
 memory_done s h k = cc
 
-wide_done : (s : Status) (spot : Spot) → s ≡ Wide spot → s ≡ Done → ⊥
-wide_done s spot h k = cc
+exceeded_done : (s : Status) (excess : Excess) → s ≡ Exceeded excess → s ≡ Done → ⊥
+exceeded_done s excess h k = cc
 
 write_done : (s : Status) → s ≡ Write → s ≡ Done → ⊥
 write_done s h k = cc
@@ -47,8 +47,8 @@ write_done s h k = cc
 memory_write : (s : Status) → s ≡ Memory → s ≡ Write → ⊥
 memory_write s h k = cc
 
-wide_write : (s : Status) (spot : Spot) → s ≡ Wide spot → s ≡ Write → ⊥
-wide_write s spot h k = cc
+exceeded_write : (s : Status) (excess : Excess) → s ≡ Exceeded excess → s ≡ Write → ⊥
+exceeded_write s excess h k = cc
 
 usage_write : (s : Status) → s ≡ Usage → s ≡ Write → ⊥
 usage_write s h k = cc
@@ -71,19 +71,19 @@ module _ (commands : Commands) (lawful : EndsInside commands) (m : Meanings) (pl
   not_write status (answers.is_ending (answers.not_read request cause asked un u)) w = read_write status cause u w
   not_write status (answers.is_ending (answers.decided asked asks ends)) w =
       lawful.writes asked (subst (λ s. (commands asked).ends s) w ends)
-  not_write status (answers.is_wide spot e h) w = wide_write status spot e w
+  not_write status (answers.is_exceeded excess e h) w = exceeded_write status excess e w
   not_write status (answers.is_memory e) w = memory_write status e w
 
   done_ends : (status : Status) → status ≡ Done → IsAnswer commands words (contents_of made) status
       → Ends commands words (contents_of made) Done
   done_ends status d (answers.is_ending h) = subst (λ s. Ends commands words (contents_of made) s) d h
-  done_ends status d (answers.is_wide spot e h) = absurd (wide_done status spot e d)
+  done_ends status d (answers.is_exceeded excess e h) = absurd (exceeded_done status excess e d)
   done_ends status d (answers.is_memory e) = absurd (memory_done status e d)
 
   done_is : (ending status : Status) → status ≡ Done → IsAnsweredBy commands words (contents_of made) ending status → ending ≡ Done
   done_is ending status d (answers.given e) = sym e ∙ d
   done_is ending status d (answers.no_memory e) = absurd (memory_done status e d)
-  done_is ending status d (answers.too_wide spot e w r) = absurd (wide_done status spot e d)
+  done_is ending status d (answers.exceeded excess e w r) = absurd (exceeded_done status excess e d)
 
   done_has : (status : Status) (bytes : List ℕ) → status ≡ Done → Holds (IsOutput commands words (contents_of made)) status bytes
       → IsOutput commands words (contents_of made) bytes

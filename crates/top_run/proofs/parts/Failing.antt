@@ -20,7 +20,7 @@ use Rattle.top_run.specs.Loading as loading
 use Rattle.top_run.specs.Loading.{HasFailed, IsLoading}
 use Rattle.top_run.specs.Seen.{ShelfSeen}
 use Rattle.top_status.specs.declared.status.Status.{Status}
-use Rattle.top_status.specs.declared.status.Status.TheVariants.{Memory, Read, Usage, Wide}
+use Rattle.top_status.specs.declared.status.Status.TheVariants.{Exceeded, Memory, Read, Usage}
 
 none_some : {A : Type 0} (o : Option A) (a : A) → o ≡ None → o ≡ Some a → ⊥
 none_some o a h k = cc
@@ -40,8 +40,8 @@ read_memory s cause h k = cc
 read_usage : (s : Status) (cause : ReadCause) → s ≡ Read cause → s ≡ Usage → ⊥
 read_usage s cause h k = cc
 
-read_wide : (s : Status) (cause : ReadCause) (spot : _) → s ≡ Read cause → s ≡ Wide spot → ⊥
-read_wide s cause spot h k = cc
+read_exceeded : (s : Status) (cause : ReadCause) (excess : _) → s ≡ Read cause → s ≡ Exceeded excess → ⊥
+read_exceeded s cause excess h k = cc
 
 read_cause : (s : Status) (a b : ReadCause) → s ≡ Read a → s ≡ Read b → a ≡ b
 read_cause s a b h k = cc
@@ -90,5 +90,5 @@ module _ (words : List (List ℕ)) (made : List LoadedFile) (shelf now : ShelfSe
       in_loading request asked (un ∙ ap Some (read_cause status cause (Failed which) u is)) l
   failed_in commands lawful (answers.is_ending (answers.decided asked asks ends)) l =
       absurd (lawful.reads asked (Failed which) (subst (λ s. (commands asked).ends s) is ends))
-  failed_in commands lawful (answers.is_wide spot e w) l = absurd (read_wide status (Failed which) spot is e)
+  failed_in commands lawful (answers.is_exceeded excess e w) l = absurd (read_exceeded status (Failed which) excess is e)
   failed_in commands lawful (answers.is_memory e) l = absurd (read_memory status (Failed which) is e)

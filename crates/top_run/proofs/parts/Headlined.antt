@@ -14,12 +14,11 @@ use Rattle.ask_words.specs.declared.request.Analysis.{Analysis}
 use Rattle.ask_words.specs.declared.request.Purpose.TheVariants.{Report}
 use Rattle.ask_words.specs.declared.request.Request.TheVariants.{Analyse}
 use Rattle.base_files.specs.Faults.{Rose}
-use Rattle.flow_systems.specs.declared.spot.Spot.{Spot}
 use Rattle.top_answer.specs.Answers as answers
-use Rattle.top_answer.specs.Answers.{IsAnsweredBy, Asks, Ends, IsOfRounds, IsOutput, IsTooWide}
+use Rattle.top_answer.specs.Answers.{IsAnsweredBy, Asks, Ends, IsOfRounds, IsOutput, IsExceeded}
 use Rattle.top_answer.specs.Commands.{command_of}
 use Rattle.top_run.specs.Headline as headline
-use Rattle.top_run.specs.Headline.{Comes, IsAnalysed, IsGiven, IsHeadline, IsWideAt, Prints}
+use Rattle.top_run.specs.Headline.{Comes, IsAnalysed, IsGiven, IsHeadline, IsExcessAt, Prints}
 use Rattle.top_run.specs.Loading as loading
 use Rattle.top_run.specs.Loading.{IsLoading}
 use Rattle.top_run.specs.Outputs as outputs
@@ -27,6 +26,7 @@ use Rattle.top_run.specs.Outputs.{OutputGets}
 use Rattle.top_run.specs.Run as run
 use Rattle.top_run.specs.Run.{IsRun}
 use Rattle.top_run.specs.Seen.{ShelfSeen, SinkSeen}
+use Rattle.top_status.specs.declared.status.Excess.{Excess}
 use Rattle.top_status.specs.declared.status.Status.{Status}
 use Rattle.top_status.specs.declared.status.Status.TheVariants.{Done, Memory, Read, Write}
 use Rattle.top_texts.specs.LeastReports.{IsReportOf}
@@ -70,7 +70,7 @@ module _ (m : Meanings) (words : List (List ℕ)) (shelf now : ShelfSeen) (out o
       → (status ≡ Read cause) ⊎ (status ≡ Memory)
   given_read cause (run.answered (answers.given e)) = inl e
   given_read cause (run.answered (answers.no_memory e)) = inr e
-  given_read cause (run.answered (answers.too_wide spot e w of_rounds)) = absurd (read_not_of_rounds cause of_rounds)
+  given_read cause (run.answered (answers.exceeded excess e w of_rounds)) = absurd (read_not_of_rounds cause of_rounds)
   given_read cause (run.unwritten w d) = absurd (read_not_done cause d)
 
   unread_status : (cause : ReadCause) → unread files contents ≡ Some cause → (status ≡ Read cause) ⊎ (status ≡ Memory)
@@ -97,8 +97,8 @@ module _ (m : Meanings) (words : List (List ℕ)) (shelf now : ShelfSeen) (out o
         → IsReportOf texts.program texts.domain texts.policy texts.improvements bytes
     report_of bytes o = subst (λ q. (command_of m q).writes bytes) (same_texts o.asked o.asks) o.written
 
-    wide_at : (spot : Spot) → IsTooWide (command_of m) words contents spot → IsWideAt m texts spot
-    wide_at spot w = subst (λ q. (command_of m q).too_wide spot) (same_texts w.asked w.asks) w.too_wide
+    excess_at : (excess : Excess) → IsExceeded (command_of m) words contents excess → IsExcessAt m texts excess
+    excess_at excess w = subst (λ q. (command_of m q).exceeds excess) (same_texts w.asked w.asks) w.exceeds
 
     prints : OutputGets (IsOutput (command_of m) words contents) words status out out_now → status ≡ Done → Prints texts out out_now
     prints (outputs.gets_whole bytes d is put) e = record { bytes = bytes; is_report = report_of bytes is; appended = put.appended }
@@ -115,7 +115,7 @@ module _ (m : Meanings) (words : List (List ℕ)) (shelf now : ShelfSeen) (out o
     given_done : run.IsGiven (command_of m) words contents Done status → IsGiven m texts out out_now status
     given_done (run.answered (answers.given e)) = headline.done e
     given_done (run.answered (answers.no_memory e)) = headline.no_memory e
-    given_done (run.answered (answers.too_wide spot e w of_rounds)) = headline.too_wide spot e (wide_at spot w)
+    given_done (run.answered (answers.exceeded excess e w of_rounds)) = headline.exceeded excess e (excess_at excess w)
     given_done (run.unwritten w d) = headline.unwritten w (rose r.output w)
 
     analysed : IsAnalysed m texts out out_now status

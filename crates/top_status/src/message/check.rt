@@ -2,21 +2,8 @@
 
 ghost use Rattle.std.specs.Prelude.{◌≡◌, ◌≤◌, ◌+◌, ◌++◌, ◌/◌, ◌%◌, codes, decimal, length};
 ghost use Rattle.base_fractions.specs.Texts.{frac_text};
-ghost use Rattle.top_status.specs.CheckMessages.{
-  cause_text,
-  certificate_message,
-  check_text,
-  field_text,
-  form_text,
-  item_text,
-  numbered,
-  op_text,
-  part_text,
-  site_text,
-  spot_text,
-  unknown_text,
-  wide_message,
-};
+ghost use Rattle.top_status.specs.CheckMessages.{cause_text, certificate_message, check_text, field_text, form_text, item_text, numbered};
+ghost use Rattle.top_status.specs.CheckMessages.{op_text, part_text, site_text, spot_text, unknown_text, wide_message};
 
 use crate::message::Message;
 use crate::status::CertCause;

@@ -6,7 +6,7 @@ ghost use Rattle.top_status.specs.CheckMessages.{fault_has_unknown, has_unknown,
 ghost use Rattle.top_status.specs.Messages.{auto_place, claim_place, equation_place, lex_place, line_at_place, line_in, parse_place};
 ghost use Rattle.top_status.specs.Messages.{place_of};
 
-use crate::status::{CertCause, Status, TextCause};
+use crate::status::{CertCause, Excess, Status, TextCause};
 use ask_claims::ClaimFault;
 use cert_checker::CheckFault;
 use flow_rationals::EquFault;
@@ -25,8 +25,7 @@ fn place_of(cause: TextCause) -> Option<u32>
         TextCause::Claims(fault) => claim_place(fault),
         TextCause::Equ(fault) => equation_place(fault),
         TextCause::Auto(fault) => auto_place(fault),
-        TextCause::Flow(_) | TextCause::Rows(_) | TextCause::Unknowns(_) | TextCause::Cells(_) =>
-            None,
+        TextCause::Flow(_) | TextCause::Rows(_) | TextCause::Unknowns(_) => None,
     }
 }
 
@@ -150,7 +149,7 @@ fn has_unknown(status: &Status) -> bool
 {
     match status {
         Status::Certificate(CertCause::Check(fault)) => fault_has_unknown(fault),
-        Status::Wide(spot) => site_has_unknown(&spot.site),
+        Status::Exceeded(Excess::Wide(spot)) => site_has_unknown(&spot.site),
         _ => false,
     }
 }

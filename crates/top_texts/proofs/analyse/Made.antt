@@ -32,6 +32,7 @@ use Rattle.ask_words.specs.declared.request.Purpose.TheVariants.{Certificate as 
 use Rattle.top_texts.specs.declared.refusal.Refusal.{Refusal}
 use Rattle.top_texts.specs.declared.refusal.Refusal.TheVariants as refusal
 use Rattle.top_status.specs.declared.status.CertCause.TheVariants.{Form, Rows, Unknowns, Check}
+use Rattle.top_status.specs.declared.status.Excess.TheVariants.{Wide, Large}
 use Rattle.flow_systems.specs.declared.limits.TheConstants.{MOST_UNKNOWNS}
 
 -- ---- its steps and items can be numbered
@@ -105,7 +106,8 @@ module _ (system : System) (solved : Solved) (cert : Cert) (same : cert ≡ cert
     halts (refusal.Certificate (Rows fault)) h = absurd h
     halts (refusal.Certificate (Unknowns count)) h = absurd h
     halts (refusal.Certificate (Check fault)) h = absurd (stopped fault valid h)
-    halts (refusal.Wide spot) h = wide_spot spot h
+    halts (refusal.Exceeded (Wide spot)) h = wide_spot spot h
+    halts (refusal.Exceeded (Large cells)) h = absurd h
     halts (refusal.Spent n) h = absurd h
     halts refusal.NoMemory h = tt
 

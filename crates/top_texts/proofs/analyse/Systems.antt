@@ -1,22 +1,14 @@
 -- The system that is made of the flow of a program and of a template is theirs.
-use Rattle.std.proofs.Common.{◌≡◌, ◌∙◌, ◌*◌, ◌≤◌, ◌<◌, ℕ, List, length, sym, ap, subst}
+use Rattle.std.proofs.Common.{◌≡◌, ◌∙◌, ◌*◌, ◌≤◌, ℕ, List, length, ap, subst}
 use Rattle.std.specs.Prelude.{ℤ, Ok}
-use Rattle.base_limits.specs.declared.limits.TheConstants.{MOST_CELLS}
 use Rattle.lang_tree.specs.Tree.{Statements}
 use Rattle.flow_edges.specs.Edges.{edges_of_program}
 use Rattle.flow_edges.specs.Points.{points_of_program}
 use Rattle.flow_edges.specs.declared.graph.Flow.{Flow}
-use Rattle.flow_systems.specs.Cells.{cells_of}
-use Rattle.flow_systems.specs.View.{equations_of}
 use Rattle.flow_systems.specs.declared.system.System.{System}
 use Rattle.ask_words.specs.declared.request.Domain.{Domain}
-use Rattle.top_texts.specs.Outcomes.{IsRefusedBy}
 use Rattle.top_texts.specs.Rounds.{IsSystemFor}
 use Rattle.top_texts.specs.Texts.{HasTemplate, IsAnalysed, IsSolvedSystem, IsSystemOf, unknowns}
-use Rattle.top_texts.specs.declared.refusal.Refusal.{Refusal}
-use Rattle.top_texts.specs.declared.refusal.Refusal.TheVariants as refusal
-use Rattle.top_status.specs.declared.status.TextCause.TheVariants.{Cells}
-use Rattle.top_texts.proofs.texts.Once.{equations_are}
 use Rattle.flow_systems.specs.declared.limits.TheConstants.{MOST_UNKNOWNS}
 
 module _ (text : List ℕ) (rows : Domain (List ℕ)) (names : List (List ℕ)) (body : Statements) (flow : Flow) (template : List (List ℤ))
@@ -40,25 +32,12 @@ module _ (text : List ℕ) (rows : Domain (List ℕ)) (names : List (List ℕ)) 
   few : unknowns body template ≤ MOST_UNKNOWNS
   few = subst (λ ps. length ps * length template ≤ MOST_UNKNOWNS) points_are within
 
-  -- a system with few enough cells is the solved system of the texts
-  pub solved_system : cells_of (equations_of s) ≤ MOST_CELLS → IsSolvedSystem text rows s
-  solved_system h = record {
+  -- a system with few enough unknowns is the solved system of the texts
+  pub solved_system : IsSolvedSystem text rows s
+  solved_system = record {
     names = names;
     body = body;
     template = template;
-    ready = record {
-      system = system_of;
-      within = few;
-      cells_within = subst (λ q. cells_of q ≤ MOST_CELLS)
-          (equations_are names body template s system_for) h;
-    };
+    ready = record { system = system_of; within = few };
     system_for = system_for;
   }
-
-  -- a system with too many cells is refused by their number
-  pub too_many_cells : MOST_CELLS < cells_of (equations_of s) → (r : Refusal) → r ≡ refusal.Text (Cells (cells_of (equations_of s)))
-      → IsRefusedBy text rows r
-  too_many_cells h r e =
-      let same = equations_are names body template s system_for in
-      subst (λ x. IsRefusedBy text rows x) (sym e)
-      (names, body, template, system_of, few, subst (λ q. MOST_CELLS < cells_of q) same h, ap cells_of same)

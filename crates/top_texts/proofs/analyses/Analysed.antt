@@ -32,7 +32,7 @@ use Rattle.ask_words.specs.declared.request.Purpose.TheVariants.{Report, Certifi
 use Rattle.top_texts.specs.declared.refusal.Refusal.{Refusal}
 use Rattle.top_texts.specs.declared.refusal.Refusal.TheVariants as refusal
 use Rattle.top_status.specs.declared.status.Status.{Status}
-use Rattle.top_status.specs.declared.status.Status.TheVariants.{Done, Certificate, Usage, Read, Text, Wide, Spent, Memory, Write}
+use Rattle.top_status.specs.declared.status.Status.TheVariants.{Done, Certificate, Usage, Read, Text, Exceeded, Spent, Memory, Write}
 use Rattle.top_texts.proofs.rounds.OneChain.{solved_ends}
 use Rattle.top_texts.proofs.texts.Once.{equations_are}
 use Rattle.top_texts.proofs.texts.Readings.{program_once, rows_once}
@@ -52,7 +52,7 @@ halted_system : (purpose : Purpose) (system : System) (policy : Policy) (limit :
     → IsAnswerToSystem purpose system policy limit (refused r)
 halted_system purpose system policy limit (refusal.Text c) h = absurd h
 halted_system purpose system policy limit (refusal.Certificate c) h = absurd h
-halted_system purpose system policy limit (refusal.Wide s) h = h
+halted_system purpose system policy limit (refusal.Exceeded excess) h = h
 halted_system purpose system policy limit (refusal.Spent n) h = h
 halted_system purpose system policy limit refusal.NoMemory h = tt
 
@@ -73,7 +73,7 @@ system_texts purpose text rows system policy limit (Certificate cause) is h = ab
 system_texts purpose text rows system policy limit Usage is h = absurd h
 system_texts purpose text rows system policy limit (Read cause) is h = absurd h
 system_texts purpose text rows system policy limit (Text cause) is h = absurd h
-system_texts purpose text rows system policy limit (Wide spot) is h = record { system = system; meant = is; too_wide = h }
+system_texts purpose text rows system policy limit (Exceeded excess) is h = record { system = system; meant = is; exceeds = h }
 system_texts purpose text rows system policy limit (Spent n) is h = rounds_spent system (ap Spent h.1) is h.0
 system_texts purpose text rows system policy limit Memory is h = tt
 system_texts purpose text rows system policy limit Write is h = rounds_end system refl is h
@@ -82,7 +82,7 @@ refused_texts : (purpose : Purpose) (t : List ℕ) (rows : Domain (List ℕ)) (p
     → QuestionAnswer (analysis_question exact purpose t rows policy limit) (refused r)
 refused_texts purpose t rows policy limit (refusal.Text c) h = h
 refused_texts purpose t rows policy limit (refusal.Certificate c) h = absurd h
-refused_texts purpose t rows policy limit (refusal.Wide s) h = absurd h
+refused_texts purpose t rows policy limit (refusal.Exceeded excess) h = absurd h
 refused_texts purpose t rows policy limit (refusal.Spent n) h = absurd h
 refused_texts purpose t rows policy limit refusal.NoMemory h = tt
 
@@ -104,7 +104,7 @@ system_line purpose text system policy limit (Certificate cause) h = refl
 system_line purpose text system policy limit Usage h = refl
 system_line purpose text system policy limit (Read cause) h = refl
 system_line purpose text system policy limit (Text cause) h = absurd h
-system_line purpose text system policy limit (Wide spot) h = refl
+system_line purpose text system policy limit (Exceeded excess) h = refl
 system_line purpose text system policy limit (Spent n) h = refl
 system_line purpose text system policy limit Memory h = refl
 system_line purpose text system policy limit Write h = refl
@@ -129,7 +129,7 @@ pub refused_rows : (text : List ℕ) (rows : Domain (List ℕ)) (r : Refusal) (c
     → 0 ≡ rows_of count (refused r)
 refused_rows text rows (refusal.Text c) count h = refl
 refused_rows text rows (refusal.Certificate c) count h = absurd h
-refused_rows text rows (refusal.Wide s) count h = absurd h
+refused_rows text rows (refusal.Exceeded excess) count h = absurd h
 refused_rows text rows (refusal.Spent n) count h = absurd h
 refused_rows text rows refusal.NoMemory count h = refl
 

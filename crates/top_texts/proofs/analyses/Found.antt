@@ -24,7 +24,7 @@ use Rattle.top_texts.proofs.rounds.OneChain.{solved_rounds}
 pub refused_unput : (r : Refusal) (s : Status) → s ≡ refused r → IsUnput s
 refused_unput (refusal.Text cause) s e = record { undone = λ d. cc; unwritten = λ w. cc }
 refused_unput (refusal.Certificate cause) s e = record { undone = λ d. cc; unwritten = λ w. cc }
-refused_unput (refusal.Wide spot) s e = record { undone = λ d. cc; unwritten = λ w. cc }
+refused_unput (refusal.Exceeded excess) s e = record { undone = λ d. cc; unwritten = λ w. cc }
 refused_unput (refusal.Spent number) s e = record { undone = λ d. cc; unwritten = λ w. cc }
 refused_unput refusal.NoMemory s e = record { undone = λ d. cc; unwritten = λ w. cc }
 

@@ -17,11 +17,11 @@ module _ (purpose : Purpose) (text : List ℕ) (rows : Domain (List ℕ)) (polic
   pub unsystematic : (r : Refusal) → IsRefusedBy text rows r → IsUnanswered (analysis_question exact purpose text rows policy limit) r
   unsystematic (refusal.Text cause) h = h
   unsystematic (refusal.Certificate cause) h = absurd h
-  unsystematic (refusal.Wide spot) h = absurd h
+  unsystematic (refusal.Exceeded excess) h = absurd h
   unsystematic (refusal.Spent n) h = absurd h
   unsystematic refusal.NoMemory h = tt
 
   -- rounds over their system that have no end
   pub unsolved : (s : System) → IsSolvedSystem text rows s → (r : Refusal) → IsHalted purpose s policy limit r
       → IsUnanswered (analysis_question exact purpose text rows policy limit) r
-  unsolved s is r h = halted (analysis_question exact purpose text rows policy limit) purpose s is (λ spot w. w) r h
+  unsolved s is r h = halted (analysis_question exact purpose text rows policy limit) purpose s is (λ excess h. h) r h

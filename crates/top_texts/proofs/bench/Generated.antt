@@ -33,6 +33,7 @@ use Rattle.ask_words.specs.declared.request.Purpose.TheVariants.{Report}
 use Rattle.top_texts.specs.declared.refusal.Refusal.{Refusal}
 use Rattle.top_texts.specs.declared.refusal.Refusal.TheVariants as refusal
 use Rattle.top_status.specs.declared.status.TextCause.{TextCause}
+use Rattle.top_texts.proofs.analyse.Halted.{only_wide}
 use Rattle.top_texts.proofs.questions.Answered.{halted}
 use Rattle.top_texts.proofs.texts.Once.{equations_are, ready_unrefused}
 use Rattle.top_texts.proofs.texts.Readings.{program_once}
@@ -70,7 +71,6 @@ module _ (law : GeneratedTextsRead) (seed loops : ℕ) (few : loops ≤ 46) wher
       record {
         system = record { analysed = record { reading = reading; within = l.within }; template_is = refl };
         within = (let u = l.unknowns in omega arith);
-        cells_within = subst (λ n. n ≤ MOST_CELLS) cells_are l.cells;
       }
 
   -- the system of the text is that of the generated program
@@ -86,6 +86,12 @@ module _ (law : GeneratedTextsRead) (seed loops : ℕ) (few : loops ≤ 46) wher
             (subst (λ (p : List (List ℕ) × Statements). IsSystemFor p.0 p.1 is.template system) same is.system_for);
       }
 
+  few_cells : (system : System) → IsGenerated seed loops system → cells_of (equations_of system) ≤ MOST_CELLS
+  few_cells system made =
+      subst (λ n. n ≤ MOST_CELLS)
+      (cells_are ∙ ap cells_of (sym (equations_are generated_names (generated_body seed loops) (intervals_of 3) system made.system_for)))
+      (law seed loops few).cells
+
   -- and the text is refused by no cause
   unrefused : (cause : TextCause) → IsRefused (generated_text seed loops) Intervals cause → ⊥
   unrefused cause h = ready_unrefused (generated_text seed loops) Intervals generated_names (generated_body seed loops) (intervals_of 3)
@@ -95,14 +101,16 @@ module _ (law : GeneratedTextsRead) (seed loops : ℕ) (few : loops ≤ 46) wher
   pub unread : (r : Refusal) → IsRefusedBy (generated_text seed loops) Intervals r → IsUnanswered (bench_question exact seed loops) r
   unread (refusal.Text cause) h = unrefused cause h
   unread (refusal.Certificate cause) h = absurd h
-  unread (refusal.Wide spot) h = absurd h
+  unread (refusal.Exceeded excess) h = absurd h
   unread (refusal.Spent n) h = absurd h
   unread refusal.NoMemory h = tt
 
   -- rounds of a generated program that halt leave its question unanswered
   pub unended : (system : System) (r : Refusal) → IsSolvedSystem (generated_text seed loops) Intervals system
       → IsHalted Report system Best 1000 r → IsUnanswered (bench_question exact seed loops) r
-  unended system r is h = halted (bench_question exact seed loops) Report system (generated system is) (λ spot w. w) r h
+  unended system r is h =
+      let made = generated system is in
+      halted (bench_question exact seed loops) Report system made (only_wide Report system Best 1000 (few_cells system made)) r h
 
   -- the summary of the rounds is that of the generated program
   pub summed : (system : System) (solved : Solved) (count : ℕ) (bytes : List ℕ)

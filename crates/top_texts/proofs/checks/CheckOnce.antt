@@ -4,13 +4,7 @@
 use Rattle.std.proofs.Common.{◌≡◌, ◌≤◌, ◌<◌, ◌⊎◌, inl, inr, ⊎_elim, ℕ, List, [], true, false, refl, sym, ap, ap₂, ◌∙◌, subst, arith}
 use Rattle.std.specs.Prelude.{Bool, Option, Result, Ok, Err, Some, None, nat_lt, slice_get, length}
 use Rattle.base_fractions.specs.Operation.{Operation, operation_of}
-use Rattle.lang_tokens.specs.declared.fault.LexFault.{LexFault}
-use Rattle.lang_tokens.specs.Faults.{HasFault}
-use Rattle.lang_tokens.proofs.reading.Once.{one_text_fault, no_fault}
-use Rattle.lang_meaning.specs.declared.fault.ParseFault.{ParseFault}
 use Rattle.lang_tree.specs.Tree.{Statements}
-use Rattle.flow_edges.specs.declared.fault.FlowFault.{FlowFault}
-use Rattle.flow_edges.specs.Faults.{fault_of_program}
 use Rattle.flow_templates.specs.declared.fault.RowFault.{RowFault}
 use Rattle.flow_templates.specs.RowFaults.{faults_of}
 use Rattle.flow_systems.specs.declared.spot.Site.TheVariants.{Compose}
@@ -30,12 +24,14 @@ use Rattle.cert_checker.specs.declared.fault.CheckFault.TheVariants as check
 use Rattle.cert_checker.proofs.events.CheckTests.{unstopped_is_valid}
 use Rattle.top_texts.specs.Checks.{IsCompositionSpot, IsFormFault, system_with, theirs}
 use Rattle.top_texts.specs.Endings.{CheckEnd, UpgradeEnd}
-use Rattle.top_texts.specs.Texts.{IsAnalysed, Reading, unknowns}
-use Rattle.top_texts.proofs.texts.Readings.{program_once, fault_once, not_both}
-use Rattle.top_status.specs.declared.status.TextCause.TheVariants as text
+use Rattle.top_texts.specs.Texts.{IsAnalysed, IsRefusedProgram, unknowns}
+use Rattle.top_texts.proofs.texts.Once.{analysed_unrefused, program_refused_once}
+use Rattle.top_texts.proofs.texts.Readings.{program_once}
+use Rattle.top_status.specs.declared.status.TextCause.{TextCause}
 use Rattle.top_status.specs.declared.status.CertCause.TheVariants.{Form, Rows, Unknowns, Check}
+use Rattle.top_status.specs.declared.status.Excess.TheVariants.{Wide, Large}
 use Rattle.top_status.specs.declared.status.Status.{Status}
-use Rattle.top_status.specs.declared.status.Status.TheVariants.{Done, Certificate, Usage, Read, Text, Wide, Spent, Memory, Write}
+use Rattle.top_status.specs.declared.status.Status.TheVariants.{Done, Certificate, Usage, Read, Text, Exceeded, Spent, Memory, Write}
 use Rattle.flow_systems.specs.declared.limits.TheConstants.{MOST_UNKNOWNS}
 
 -- ---- a fault of the form is the only one
@@ -92,12 +88,12 @@ stopped (check.High s k) = Certificate (Check (check.High s k))
 stopped (check.Ray s k) = Certificate (Check (check.Ray s k))
 stopped (check.Upper u e) = Certificate (Check (check.Upper u e))
 stopped (check.Final u) = Certificate (Check (check.Final u))
-stopped (check.Wide spot) = Wide spot
+stopped (check.Wide spot) = Exceeded (Wide spot)
 
 abbrev picked : Option RowFault → (many : Bool) → (count : ℕ) → Option (ℕ × Operation) → Option CheckFault → Status
 picked (Some f) many count w stop = Certificate (Rows f)
 picked None true count w stop = Certificate (Unknowns count)
-picked None false count (Some w) stop = Wide (composition_spot w)
+picked None false count (Some w) stop = Exceeded (Wide (composition_spot w))
 picked None false count None (Some fault) = stopped fault
 picked None false count None None = Done
 
@@ -118,11 +114,11 @@ many_picked o m count w s e h =
 
 composed_picked : (x : ℕ × Operation) (o : Option RowFault) (m : Bool) (count : ℕ) (w : Option (ℕ × Operation)) (s : Option CheckFault)
     → o ≡ None → m ≡ false → w ≡ Some x
-    → Wide (composition_spot x) ≡ picked o m count w s
+    → Exceeded (Wide (composition_spot x)) ≡ picked o m count w s
 composed_picked x o m count w s e h k =
-    subst (λ o. Wide (composition_spot x) ≡ picked o m count w s) (sym e)
-    (subst (λ m. Wide (composition_spot x) ≡ picked None m count w s) (sym h)
-    (subst (λ w. Wide (composition_spot x) ≡ picked None false count w s) (sym k) refl))
+    subst (λ o. Exceeded (Wide (composition_spot x)) ≡ picked o m count w s) (sym e)
+    (subst (λ m. Exceeded (Wide (composition_spot x)) ≡ picked None m count w s) (sym h)
+    (subst (λ w. Exceeded (Wide (composition_spot x)) ≡ picked None false count w s) (sym k) refl))
 
 stopped_picked : (f : CheckFault) (o : Option RowFault) (m : Bool) (count : ℕ) (w : Option (ℕ × Operation)) (s : Option CheckFault)
     → o ≡ None → m ≡ false → w ≡ None → s ≡ Some f
@@ -167,22 +163,11 @@ pub data CertEnds (bytes : List ℕ) (last : Cert → Status) (s : Status) : Typ
   unspelt : (f : FormFault) → IsFormFault bytes f → s ≡ Certificate (Form f) → CertEnds bytes last s
   spelt : (cert : Cert) → SpellsCert bytes cert → s ≡ last cert → CertEnds bytes last s
 
--- the program has a fault, or points and edges within the limits
-pub data FlowEnds (bytes : List ℕ) (p : List (List ℕ) × Statements) (s : Status) : Type 0 where
-  wide : (f : FlowFault) → fault_of_program p.1 ≡ Some f → s ≡ Text (text.Flow f) → FlowEnds bytes p s
-  fits : fault_of_program p.1 ≡ None → CertEnds bytes (last_ending p.0 p.1) s → FlowEnds bytes p s
-
--- the text has a fault, or is a program
+-- the text is refused, or is a program whose points and edges are within the limits
 pub data CheckEnds (t bytes : List ℕ) (s : Status) : Type 0 where
-  unlexed : (f : LexFault) → HasFault t f → s ≡ Text (text.Lex f) → CheckEnds t bytes s
-  unparsed : (f : ParseFault) → Reading t (Err f) → s ≡ Text (text.Parse f) → CheckEnds t bytes s
-  program : (p : List (List ℕ) × Statements) → Reading t (Ok p) → FlowEnds bytes p s → CheckEnds t bytes s
-
-some_none : (f : FlowFault) (o : Option FlowFault) → o ≡ Some f → o ≡ None → ⊥
-some_none f o h k = cc
-
-some_some : (f g : FlowFault) (o : Option FlowFault) → o ≡ Some f → o ≡ Some g → f ≡ g
-some_some f g o h k = cc
+  refused : (c : TextCause) → IsRefusedProgram t c → s ≡ Text c → CheckEnds t bytes s
+  program : (names : List (List ℕ)) (body : Statements) → IsAnalysed t names body → CertEnds bytes (last_ending names body) s
+      → CheckEnds t bytes s
 
 -- the bytes of a certificate have one ending, where what follows has one
 pub cert_ends_once : (bytes : List ℕ) (last : Cert → Status) (s u : Status) → CertEnds bytes last s → CertEnds bytes last u → s ≡ u
@@ -191,37 +176,28 @@ cert_ends_once bytes last s u (unspelt f h e) (spelt c k i) = absurd (not_spelt 
 cert_ends_once bytes last s u (spelt c h e) (unspelt f k i) = absurd (not_spelt bytes f c k h)
 cert_ends_once bytes last s u (spelt c h e) (spelt d k i) = e ∙ ap last (one_reading bytes c d h k) ∙ sym i
 
-flow_ends_once : (bytes : List ℕ) (p : List (List ℕ) × Statements) (s u : Status) → FlowEnds bytes p s → FlowEnds bytes p u → s ≡ u
-flow_ends_once bytes p s u (wide f h e) (wide g k i) = e ∙ ap (λ x. Text (text.Flow x)) (some_some f g (fault_of_program p.1) h k) ∙ sym i
-flow_ends_once bytes p s u (wide f h e) (fits k i) = absurd (some_none f (fault_of_program p.1) h k)
-flow_ends_once bytes p s u (fits h e) (wide f k i) = absurd (some_none f (fault_of_program p.1) k h)
-flow_ends_once bytes p s u (fits h e) (fits k i) = cert_ends_once bytes (last_ending p.0 p.1) s u e i
-
 -- a program's text and a certificate's bytes have one ending by stages
 pub check_ends_once : (t bytes : List ℕ) (s u : Status) → CheckEnds t bytes s → CheckEnds t bytes u → s ≡ u
-check_ends_once t bytes s u (unlexed f h e) (unlexed g k i) = e ∙ ap (λ x. Text (text.Lex x)) (one_text_fault t f g h k) ∙ sym i
-check_ends_once t bytes s u (unlexed f h e) (unparsed g (ts, r, m) i) = absurd (no_fault t ts f r h)
-check_ends_once t bytes s u (unlexed f h e) (program p (ts, r, m) i) = absurd (no_fault t ts f r h)
-check_ends_once t bytes s u (unparsed f (ts, r, m) e) (unlexed g k i) = absurd (no_fault t ts g r k)
-check_ends_once t bytes s u (unparsed f h e) (unparsed g k i) = e ∙ ap (λ x. Text (text.Parse x)) (fault_once t f g h k) ∙ sym i
-check_ends_once t bytes s u (unparsed f h e) (program p k i) = absurd (not_both t f p h k)
-check_ends_once t bytes s u (program p (ts, r, m) e) (unlexed g k i) = absurd (no_fault t ts g r k)
-check_ends_once t bytes s u (program p h e) (unparsed g k i) = absurd (not_both t g p k h)
-check_ends_once t bytes s u (program p h e) (program q k i) =
-    flow_ends_once bytes p s u e (subst (λ x. FlowEnds bytes x u) (sym (program_once t p q h k)) i)
+check_ends_once t bytes s u (refused c h e) (refused d k i) = e ∙ ap (λ x. Text x) (program_refused_once t c d h k) ∙ sym i
+check_ends_once t bytes s u (refused c h e) (program names body a i) = absurd (analysed_unrefused t names body c h a)
+check_ends_once t bytes s u (program names body a e) (refused c k i) = absurd (analysed_unrefused t names body c k a)
+check_ends_once t bytes s u (program names body a e) (program others other b i) =
+    cert_ends_once bytes (last_ending names body) s u e
+    (subst (λ (p : List (List ℕ) × Statements). CertEnds bytes (last_ending p.0 p.1) u)
+    (program_once t (others, other) (names, body) b.reading a.reading) i)
 
 -- ---- an ending by its cause is one by stages
 
 spelt_ends : (t bytes : List ℕ) (names : List (List ℕ)) (body : Statements) (cert : Cert) (s : Status) → IsAnalysed t names body
     → SpellsCert bytes cert → s ≡ last_ending names body cert → CheckEnds t bytes s
-spelt_ends t bytes names body cert s a c e = program (names, body) a.reading (fits a.within (spelt cert c e))
+spelt_ends t bytes names body cert s a c e = program names body a (spelt cert c e)
 
 wide_spot : (names : List (List ℕ)) (body : Statements) (cert : Cert) (spot : Spot) → faults_of (length names) cert.rows ≡ []
     → unknowns body cert.rows ≤ MOST_UNKNOWNS
-    → IsCompositionSpot (system_with names body cert) spot → Wide spot ≡ last_ending names body cert
+    → IsCompositionSpot (system_with names body cert) spot → Exceeded (Wide spot) ≡ last_ending names body cert
 wide_spot names body cert spot r w h =
-    ap Wide (spot_is spot h.edge h.round h.site) ∙ composed_picked (h.edge, operation_of (λ q. q) spot.wide) _ _ _ _ _ (sound_rows _ r)
-    (within _ w) h.wide
+    ap (λ s. Exceeded (Wide s)) (spot_is spot h.edge h.round h.site)
+    ∙ composed_picked (h.edge, operation_of (λ q. q) spot.wide) _ _ _ _ _ (sound_rows _ r) (within _ w) h.wide
 
 -- the ending of a check is an ending by stages
 pub check_staged : (t bytes : List ℕ) (s : Status) → CheckEnd t bytes s → CheckEnds t bytes s
@@ -229,7 +205,7 @@ check_staged t bytes Done (names, body, cert, v, n) =
     spelt_ends t bytes names body cert Done v.system.spelt.analysed v.system.spelt.spells
     (done_picked _ _ _ _ _ (sound_rows _ v.system.rows) (within _ v.system.within) n.composition
     ((unstopped_is_valid (system_with names body cert) (theirs cert)).1 (v.valid, n.sums)))
-check_staged t bytes (Certificate (Form f)) (names, body, a, h) = program (names, body) a.reading (fits a.within (unspelt f h refl))
+check_staged t bytes (Certificate (Form f)) (names, body, a, h) = program names body a (unspelt f h refl)
 check_staged t bytes (Certificate (Rows f)) (names, body, cert, y, e) =
     spelt_ends t bytes names body cert (Certificate (Rows f)) y.analysed y.spells (rows_picked f _ _ _ _ _ e)
 check_staged t bytes (Certificate (Unknowns count)) (names, body, cert, y, r, h, e) =
@@ -241,19 +217,12 @@ check_staged t bytes (Certificate (Check f)) (names, body, cert, y, (fault, e, s
     (within _ y.within) stop.composition stop.stop)
 check_staged t bytes Usage h = absurd h
 check_staged t bytes (Read cause) h = absurd h
-check_staged t bytes (Text (text.Lex f)) h = unlexed f h refl
-check_staged t bytes (Text (text.Parse f)) h = unparsed f h refl
-check_staged t bytes (Text (text.Flow f)) (names, body, h, e) = program (names, body) h (wide f e refl)
-check_staged t bytes (Text (text.Rows f)) h = absurd h
-check_staged t bytes (Text (text.Unknowns count)) h = absurd h
-check_staged t bytes (Text (text.Cells count)) h = absurd h
-check_staged t bytes (Text (text.Claims fault)) h = absurd h
-check_staged t bytes (Text (text.Equ fault)) h = absurd h
-check_staged t bytes (Text (text.Auto fault)) h = absurd h
-check_staged t bytes (Wide spot) (names, body, cert, y, h) =
-    spelt_ends t bytes names body cert (Wide spot) y.spelt.analysed y.spelt.spells
+check_staged t bytes (Text cause) h = refused cause h refl
+check_staged t bytes (Exceeded (Wide spot)) (names, body, cert, y, h) =
+    spelt_ends t bytes names body cert (Exceeded (Wide spot)) y.spelt.analysed y.spelt.spells
     (⊎_elim (λ c. wide_spot names body cert spot y.rows y.within c)
     (λ c. stopped_picked (check.Wide spot) _ _ _ _ _ (sound_rows _ y.rows) (within _ y.within) c.composition c.stop) h)
+check_staged t bytes (Exceeded (Large cells)) h = absurd h
 check_staged t bytes (Spent n) h = absurd h
 check_staged t bytes Memory h = absurd h
 check_staged t bytes Write h = absurd h
@@ -268,7 +237,7 @@ upgrade_staged bytes (Certificate (Check f)) h = absurd h
 upgrade_staged bytes Usage h = absurd h
 upgrade_staged bytes (Read cause) h = absurd h
 upgrade_staged bytes (Text cause) h = absurd h
-upgrade_staged bytes (Wide spot) h = absurd h
+upgrade_staged bytes (Exceeded excess) h = absurd h
 upgrade_staged bytes (Spent n) h = absurd h
 upgrade_staged bytes Memory h = absurd h
 upgrade_staged bytes Write h = absurd h

@@ -24,6 +24,7 @@ use Rattle.top_texts.specs.declared.refusal.Refusal.{Refusal}
 use Rattle.top_texts.specs.declared.refusal.Refusal.TheVariants as refusal
 use Rattle.top_status.specs.declared.status.TextCause.TheVariants as text
 use Rattle.top_status.specs.declared.status.CertCause.TheVariants.{Form, Rows, Unknowns, Check}
+use Rattle.top_status.specs.declared.status.Excess.TheVariants.{Wide, Large}
 use Rattle.top_status.specs.declared.status.Status.{Status}
 use Rattle.top_status.specs.declared.status.Status.TheVariants.{Done, Write}
 
@@ -33,7 +34,7 @@ use Rattle.top_status.specs.declared.status.Status.TheVariants.{Done, Write}
 pub not_done : (r : Refusal) (s : Status) → s ≡ refused r → s ≡ Done → ⊥
 not_done (refusal.Text cause) s e d = cc
 not_done (refusal.Certificate cause) s e d = cc
-not_done (refusal.Wide spot) s e d = cc
+not_done (refusal.Exceeded excess) s e d = cc
 not_done (refusal.Spent number) s e d = cc
 not_done refusal.NoMemory s e d = cc
 
@@ -46,12 +47,11 @@ unread_refuses t rows (refusal.Text (text.Parse f)) h = h
 unread_refuses t rows (refusal.Text (text.Flow f)) h = h
 unread_refuses t rows (refusal.Text (text.Rows f)) h = absurd h
 unread_refuses t rows (refusal.Text (text.Unknowns c)) h = absurd h
-unread_refuses t rows (refusal.Text (text.Cells c)) h = absurd h
 unread_refuses t rows (refusal.Text (text.Claims f)) h = absurd h
 unread_refuses t rows (refusal.Text (text.Equ f)) h = absurd h
 unread_refuses t rows (refusal.Text (text.Auto f)) h = absurd h
 unread_refuses t rows (refusal.Certificate c) h = absurd h
-unread_refuses t rows (refusal.Wide s) h = absurd h
+unread_refuses t rows (refusal.Exceeded excess) h = absurd h
 unread_refuses t rows (refusal.Spent k) h = absurd h
 unread_refuses t rows refusal.NoMemory h = tt
 
@@ -59,7 +59,7 @@ unread_refuses t rows refusal.NoMemory h = tt
 pub unread_unspelt : (t bytes : List ℕ) (r : Refusal) → IsUnread t r → IsUnspelt t bytes r
 unread_unspelt t bytes (refusal.Text c) h = h
 unread_unspelt t bytes (refusal.Certificate c) h = absurd h
-unread_unspelt t bytes (refusal.Wide s) h = absurd h
+unread_unspelt t bytes (refusal.Exceeded excess) h = absurd h
 unread_unspelt t bytes (refusal.Spent k) h = absurd h
 unread_unspelt t bytes refusal.NoMemory h = tt
 
@@ -73,7 +73,7 @@ misspelt_unspelt t bytes names body (refusal.Certificate (Form f)) a h = (names,
 misspelt_unspelt t bytes names body (refusal.Certificate (Rows f)) a h = absurd h
 misspelt_unspelt t bytes names body (refusal.Certificate (Unknowns c)) a h = absurd h
 misspelt_unspelt t bytes names body (refusal.Certificate (Check f)) a h = absurd h
-misspelt_unspelt t bytes names body (refusal.Wide s) a h = absurd h
+misspelt_unspelt t bytes names body (refusal.Exceeded excess) a h = absurd h
 misspelt_unspelt t bytes names body (refusal.Spent k) a h = absurd h
 misspelt_unspelt t bytes names body refusal.NoMemory a h = tt
 
@@ -108,7 +108,7 @@ unspelt_answers t bytes (refusal.Certificate (Form f)) h = h
 unspelt_answers t bytes (refusal.Certificate (Rows f)) h = absurd h
 unspelt_answers t bytes (refusal.Certificate (Unknowns c)) h = absurd h
 unspelt_answers t bytes (refusal.Certificate (Check f)) h = absurd h
-unspelt_answers t bytes (refusal.Wide s) h = absurd h
+unspelt_answers t bytes (refusal.Exceeded excess) h = absurd h
 unspelt_answers t bytes (refusal.Spent k) h = absurd h
 unspelt_answers t bytes refusal.NoMemory h = tt
 
@@ -119,7 +119,7 @@ unspelt_rows t bytes (refusal.Certificate (Form f)) cert h = refl
 unspelt_rows t bytes (refusal.Certificate (Rows f)) cert h = absurd h
 unspelt_rows t bytes (refusal.Certificate (Unknowns c)) cert h = absurd h
 unspelt_rows t bytes (refusal.Certificate (Check f)) cert h = absurd h
-unspelt_rows t bytes (refusal.Wide s) cert h = absurd h
+unspelt_rows t bytes (refusal.Exceeded excess) cert h = absurd h
 unspelt_rows t bytes (refusal.Spent k) cert h = absurd h
 unspelt_rows t bytes refusal.NoMemory cert h = refl
 
@@ -130,7 +130,7 @@ no_system_answers t bytes names body cert (refusal.Certificate (Form f)) y h = a
 no_system_answers t bytes names body cert (refusal.Certificate (Rows f)) y h = (names, body, cert, y, h)
 no_system_answers t bytes names body cert (refusal.Certificate (Unknowns c)) y h = (names, body, cert, y, h.0, h.1, h.2)
 no_system_answers t bytes names body cert (refusal.Certificate (Check f)) y h = absurd h
-no_system_answers t bytes names body cert (refusal.Wide s) y h = absurd h
+no_system_answers t bytes names body cert (refusal.Exceeded excess) y h = absurd h
 no_system_answers t bytes names body cert (refusal.Spent k) y h = absurd h
 no_system_answers t bytes names body cert refusal.NoMemory y h = tt
 
@@ -142,7 +142,8 @@ unaccepted_answers t bytes names body cert (refusal.Certificate (Form f)) y h = 
 unaccepted_answers t bytes names body cert (refusal.Certificate (Rows f)) y h = absurd h
 unaccepted_answers t bytes names body cert (refusal.Certificate (Unknowns c)) y h = absurd h
 unaccepted_answers t bytes names body cert (refusal.Certificate (Check f)) y h = (names, body, cert, y, h)
-unaccepted_answers t bytes names body cert (refusal.Wide s) y h = (names, body, cert, y, h)
+unaccepted_answers t bytes names body cert (refusal.Exceeded (Wide spot)) y h = (names, body, cert, y, h)
+unaccepted_answers t bytes names body cert (refusal.Exceeded (Large cells)) y h = absurd h
 unaccepted_answers t bytes names body cert (refusal.Spent k) y h = absurd h
 unaccepted_answers t bytes names body cert refusal.NoMemory y h = tt
 
@@ -159,7 +160,7 @@ no_system_line : (t : List ℕ) (names : List (List ℕ)) (body : Statements) (c
     → 0 ≡ line_in t (refused r)
 no_system_line t names body cert (refusal.Text c) h = absurd h
 no_system_line t names body cert (refusal.Certificate c) h = refl
-no_system_line t names body cert (refusal.Wide s) h = refl
+no_system_line t names body cert (refusal.Exceeded excess) h = refl
 no_system_line t names body cert (refusal.Spent k) h = refl
 no_system_line t names body cert refusal.NoMemory h = refl
 
@@ -167,7 +168,7 @@ unaccepted_line : (t : List ℕ) (names : List (List ℕ)) (body : Statements) (
     → IsUnaccepted (system_with names body cert) (theirs cert) r → 0 ≡ line_in t (refused r)
 unaccepted_line t names body cert (refusal.Text c) h = absurd h
 unaccepted_line t names body cert (refusal.Certificate c) h = refl
-unaccepted_line t names body cert (refusal.Wide s) h = refl
+unaccepted_line t names body cert (refusal.Exceeded excess) h = refl
 unaccepted_line t names body cert (refusal.Spent k) h = refl
 unaccepted_line t names body cert refusal.NoMemory h = refl
 
@@ -182,6 +183,6 @@ unreported_line t names body cert r h = ⊎_elim (λ a. no_system_line t names b
 pub not_written : (r : Refusal) → refused r ≡ Write → ⊥
 not_written (refusal.Text c) e = cc
 not_written (refusal.Certificate c) e = cc
-not_written (refusal.Wide s) e = cc
+not_written (refusal.Exceeded excess) e = cc
 not_written (refusal.Spent k) e = cc
 not_written refusal.NoMemory e = cc

@@ -32,9 +32,10 @@ use Rattle.top_texts.specs.Questions.{QuestionEnds, claims_question, rounds_end}
 use Rattle.top_texts.specs.Texts.{IsRefused, IsSolvedSystem}
 use Rattle.top_texts.specs.declared.refusal.Refusal.{Refusal}
 use Rattle.top_texts.specs.declared.refusal.Refusal.TheVariants as refusal
+use Rattle.top_status.specs.declared.status.Excess.TheVariants.{Wide, Large}
 use Rattle.top_status.specs.declared.status.Status.TheVariants.{Done}
 use Rattle.top_status.specs.declared.status.TextCause.{TextCause}
-use Rattle.top_status.specs.declared.status.TextCause.TheVariants.{Lex, Parse, Flow, Rows, Unknowns, Cells, Claims, Equ, Auto}
+use Rattle.top_status.specs.declared.status.TextCause.TheVariants.{Lex, Parse, Flow, Rows, Unknowns, Claims, Equ, Auto}
 use Rattle.top_texts.proofs.questions.Answered.{halted}
 use Rattle.top_texts.proofs.rounds.OneChain.{solved_rounds}
 use Rattle.top_texts.proofs.texts.Once.{equations_are}
@@ -60,7 +61,6 @@ refused_texts text rows given (Parse f) h = h
 refused_texts text rows given (Flow f) h = h
 refused_texts text rows given (Rows f) h = h
 refused_texts text rows given (Unknowns n) h = h
-refused_texts text rows given (Cells n) h = h
 refused_texts text rows given (Claims f) h = absurd h
 refused_texts text rows given (Equ f) h = absurd h
 refused_texts text rows given (Auto f) h = absurd h
@@ -70,7 +70,7 @@ module _ (text : List ℕ) (rows : Domain (List ℕ)) (given : List ℕ) (policy
   pub unsystematic : (r : Refusal) → IsRefusedBy text rows r → IsUnanswered (claims_question exact text rows given policy limit) r
   unsystematic (refusal.Text cause) h = refused_texts text rows given cause h
   unsystematic (refusal.Certificate cause) h = absurd h
-  unsystematic (refusal.Wide spot) h = absurd h
+  unsystematic (refusal.Exceeded excess) h = absurd h
   unsystematic (refusal.Spent n) h = absurd h
   unsystematic refusal.NoMemory h = tt
 
@@ -95,7 +95,7 @@ module _ (text : List ℕ) (rows : Domain (List ℕ)) (given : List ℕ) (policy
 
       -- rounds that have no end
       pub unsolved : (r : Refusal) → IsHalted Report s policy limit r → IsUnanswered (claims_question exact text rows given policy limit) r
-      unsolved r h = halted (claims_question exact text rows given policy limit) Report s claimed (λ spot w. inl w) r h
+      unsolved r h = halted (claims_question exact text rows given policy limit) Report s claimed (λ excess h. inl h) r h
 
       module _ (solved : Solved) (solution : IsSolved s (rule_of policy) limit solved) where
         -- claims for which an operation is too wide
@@ -103,10 +103,11 @@ module _ (text : List ℕ) (rows : Domain (List ℕ)) (given : List ℕ) (policy
             → IsUnanswered (claims_question exact text rows given policy limit) r
         unjudged (refusal.Text cause) h = absurd h
         unjudged (refusal.Certificate cause) h = absurd h
-        unjudged (refusal.Wide spot) h = record {
+        unjudged (refusal.Exceeded (Large cells)) h = absurd h
+        unjudged (refusal.Exceeded (Wide spot)) h = record {
           system = s;
           meant = claimed;
-          too_wide = inr (record {
+          exceeds = inr (record {
             rounds = solved.improvements;
             within = solution.within;
             vector = vector_of (length s.template) solved.bounds;

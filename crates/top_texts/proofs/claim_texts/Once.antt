@@ -11,7 +11,7 @@ use Rattle.ask_words.specs.declared.request.Domain.{Domain}
 use Rattle.top_texts.specs.ClaimTexts.{AreNoClaims, IsClaimedSystem}
 use Rattle.top_texts.specs.Texts.{IsReady, IsRefused}
 use Rattle.top_status.specs.declared.status.TextCause.{TextCause}
-use Rattle.top_status.specs.declared.status.TextCause.TheVariants.{Lex, Parse, Flow, Rows, Unknowns, Cells, Claims, Equ, Auto}
+use Rattle.top_status.specs.declared.status.TextCause.TheVariants.{Lex, Parse, Flow, Rows, Unknowns, Claims, Equ, Auto}
 use Rattle.top_texts.proofs.texts.Once.{ready_unrefused, refused_once}
 use Rattle.top_texts.proofs.texts.Readings.{program_once}
 
@@ -51,7 +51,6 @@ module _ (text : List ℕ) (rows : Domain (List ℕ)) (given : List ℕ) where
   stage (Flow f) h = refused h
   stage (Rows f) h = refused h
   stage (Unknowns n) h = refused h
-  stage (Cells n) h = refused h
   stage (Claims f) (names, body, template, r, m) = faulty f names body template refl r m
   stage (Equ f) h = absurd h
   stage (Auto f) h = absurd h

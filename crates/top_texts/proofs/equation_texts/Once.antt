@@ -10,7 +10,7 @@ use Rattle.flow_rationals.specs.System.{system_of}
 use Rattle.flow_rationals.proofs.equation_texts.Once.{answers_once}
 use Rattle.top_texts.specs.EquationTexts.{IsEquationSystem, IsNoEquations}
 use Rattle.top_status.specs.declared.status.TextCause.{TextCause}
-use Rattle.top_status.specs.declared.status.TextCause.TheVariants.{Lex, Parse, Flow, Rows, Unknowns, Cells, Claims, Equ, Auto}
+use Rattle.top_status.specs.declared.status.TextCause.TheVariants.{Lex, Parse, Flow, Rows, Unknowns, Claims, Equ, Auto}
 
 abbrev answered : Result (List Equation) EquFault → Result (List Equation) EquFault
 answered a = a
@@ -42,7 +42,6 @@ not_equations text (Parse f) s h is = h
 not_equations text (Flow f) s h is = h
 not_equations text (Rows f) s h is = h
 not_equations text (Unknowns n) s h is = h
-not_equations text (Cells n) s h is = h
 not_equations text (Claims f) s h is = h
 not_equations text (Equ f) s h is = not_faulty text f s h is
 not_equations text (Auto f) s h is = h
@@ -54,7 +53,6 @@ a_fault text (Parse f) h = absurd h
 a_fault text (Flow f) h = absurd h
 a_fault text (Rows f) h = absurd h
 a_fault text (Unknowns n) h = absurd h
-a_fault text (Cells n) h = absurd h
 a_fault text (Claims f) h = absurd h
 a_fault text (Equ f) h = (f, refl, h)
 a_fault text (Auto f) h = absurd h

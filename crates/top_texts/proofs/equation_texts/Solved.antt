@@ -1,9 +1,11 @@
 -- The values of a text's equations, from the least vector of their system.
-use Rattle.std.proofs.Common.{◌≡◌, ◌∙◌, ℕ, ◌+◌, List, [], ◌∷◌, length, map, take, refl, sym, ap, subst}
+use Rattle.std.proofs.Common.{◌≡◌, ◌∙◌, ℕ, ◌+◌, ◌≤◌, List, [], ◌∷◌, length, map, take, refl, sym, ap, subst}
 use Rattle.std.specs.Prelude.{IsTrue, Ok, codes, pos}
 use Rattle.std.proofs.Math.Seq.{take-append_seam}
 use Rattle.std.proofs.lemmas.List.{length-map}
 use Rattle.std.proofs.lemmas.List.FromFn.{length-map-range_with_len}
+use Rattle.base_limits.specs.declared.limits.TheConstants.{MOST_CELLS}
+use Rattle.flow_systems.specs.Cells.{cells_of}
 use Rattle.flow_systems.specs.Equations.{Equations, Least}
 use Rattle.flow_systems.specs.View.{equations_of, vector_of}
 use Rattle.flow_systems.specs.declared.footer.Footer.TheVariants.{Improvements}
@@ -26,6 +28,7 @@ use Rattle.top_texts.specs.Policies.{rule_of}
 use Rattle.top_texts.specs.Questions.{QuestionEnds, equations_question, rounds_end}
 use Rattle.top_texts.specs.declared.refusal.Refusal.{Refusal}
 use Rattle.top_status.specs.declared.status.Status.TheVariants.{Done}
+use Rattle.top_texts.proofs.analyse.Halted.{only_wide}
 use Rattle.top_texts.proofs.questions.Answered.{halted}
 use Rattle.top_texts.proofs.rounds.OneChain.{solved_rounds}
 
@@ -59,8 +62,9 @@ module _ (text : List ℕ) (policy : Policy) (limit : ℕ) (equations : List Equ
   is_system = record { equations = equations; reading = reading; system_is = is }
 
   -- rounds that halt leave the question of the equations unanswered
-  pub unsolved : (r : Refusal) → IsHalted Report s policy limit r → IsUnanswered (equations_question exact text policy limit) r
-  unsolved r h = halted (equations_question exact text policy limit) Report s is_system (λ spot w. w) r h
+  pub unsolved : cells_of (equations_of s) ≤ MOST_CELLS → (r : Refusal) → IsHalted Report s policy limit r
+      → IsUnanswered (equations_question exact text policy limit) r
+  unsolved few r h = halted (equations_question exact text policy limit) Report s is_system (only_wide Report s policy limit few) r h
 
   -- the values of the least vector are those of the equations
   pub valued : LeastVectorsAreLeastAbove → LeastAboveEqualRightSides → IsTrue (are_equations equations)

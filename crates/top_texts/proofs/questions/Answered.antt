@@ -1,13 +1,13 @@
 -- What is answered to a question: where rounds have no end, and where texts are refused.
 use Rattle.std.proofs.Common.{◌≡◌, sym, ap, subst}
-use Rattle.flow_systems.specs.declared.spot.Spot.{Spot}
 use Rattle.flow_systems.specs.declared.system.System.{System}
 use Rattle.ask_words.specs.declared.request.Purpose.{Purpose}
 use Rattle.top_texts.specs.Outcomes.{IsHalted, IsUnanswered, QuestionAnswer, refused}
 use Rattle.top_texts.specs.Questions.{Question, rounds_spent}
-use Rattle.top_texts.specs.Spots.{HasSpot}
+use Rattle.top_texts.specs.Spots.{HasExcess}
 use Rattle.top_texts.specs.declared.refusal.Refusal.{Refusal}
 use Rattle.top_texts.specs.declared.refusal.Refusal.TheVariants as refusal
+use Rattle.top_status.specs.declared.status.Excess.{Excess}
 use Rattle.top_status.specs.declared.status.Status.{Status}
 use Rattle.top_status.specs.declared.status.Status.TheVariants.{Spent}
 
@@ -15,7 +15,7 @@ module _ (q : Question) where
   refused_answer : (r : Refusal) → IsUnanswered q r → QuestionAnswer q (refused r)
   refused_answer (refusal.Text cause) h = h
   refused_answer (refusal.Certificate cause) h = absurd h
-  refused_answer (refusal.Wide spot) h = h
+  refused_answer (refusal.Exceeded excess) h = h
   refused_answer (refusal.Spent n) h = h
   refused_answer refusal.NoMemory h = tt
 
@@ -25,10 +25,10 @@ module _ (q : Question) where
 
   -- rounds over a system that is meant have no end
   pub halted : (purpose : Purpose) (system : System) → q.means system →
-      ((spot : Spot) → HasSpot purpose system q.policy q.limit spot → q.too_wide system spot)
+      ((excess : Excess) → HasExcess purpose system q.policy q.limit excess → q.exceeds system excess)
       → (r : Refusal) → IsHalted purpose system q.policy q.limit r → IsUnanswered q r
-  halted purpose system is wide (refusal.Text cause) h = absurd h
-  halted purpose system is wide (refusal.Certificate cause) h = absurd h
-  halted purpose system is wide (refusal.Wide spot) h = record { system = system; meant = is; too_wide = wide spot h }
-  halted purpose system is wide (refusal.Spent n) h = rounds_spent system (ap Spent h.1) is h.0
-  halted purpose system is wide refusal.NoMemory h = tt
+  halted purpose system is exceeds (refusal.Text cause) h = absurd h
+  halted purpose system is exceeds (refusal.Certificate cause) h = absurd h
+  halted purpose system is exceeds (refusal.Exceeded excess) h = record { system = system; meant = is; exceeds = exceeds excess h }
+  halted purpose system is exceeds (refusal.Spent n) h = rounds_spent system (ap Spent h.1) is h.0
+  halted purpose system is exceeds refusal.NoMemory h = tt

@@ -1,8 +1,7 @@
 -- Texts are refused by one cause, or mean a system: by stages, each of which has one cause or goes on to the next. The text of a program
--- alone is refused by one cause, or has one list of points.
+-- alone is refused by one cause, or by none where its points and edges are within the limits.
 use Rattle.std.proofs.Common.{◌≡◌, ◌≤◌, ◌<◌, ℕ, List, length, refl, sym, ap, ◌∙◌, subst, arith}
 use Rattle.std.specs.Prelude.{ℤ, Option, Ok, Err, Some, None}
-use Rattle.base_limits.specs.declared.limits.TheConstants.{MOST_CELLS}
 use Rattle.lang_tokens.specs.declared.fault.LexFault.{LexFault}
 use Rattle.lang_tokens.specs.Faults.{HasFault}
 use Rattle.lang_tokens.proofs.reading.Once.{one_text_fault, no_fault}
@@ -10,24 +9,21 @@ use Rattle.lang_meaning.specs.declared.fault.ParseFault.{ParseFault}
 use Rattle.lang_tree.specs.Tree.{Statements}
 use Rattle.flow_edges.specs.declared.fault.FlowFault.{FlowFault}
 use Rattle.flow_edges.specs.Faults.{fault_of_program}
-use Rattle.flow_edges.specs.Points.{points_of_program}
 use Rattle.flow_templates.specs.declared.fault.RowFault.{RowFault}
 use Rattle.flow_systems.specs.declared.system.System.{System}
 use Rattle.flow_systems.specs.Solutions.{equations_of_program}
 use Rattle.flow_systems.specs.View.{equations_of}
-use Rattle.out_report.specs.Heads.{head_lines}
 use Rattle.ask_words.specs.declared.request.Domain.{Domain}
 use Rattle.ask_words.specs.declared.request.Domain.TheVariants.{Intervals}
-use Rattle.top_texts.specs.PointTexts.{ArePointsOf}
 use Rattle.top_texts.specs.Rounds.{IsSystemFor}
 use Rattle.top_texts.proofs.analyse.Solved.{same_equations}
-use Rattle.top_texts.specs.Texts.{HasTemplate, IsAnalysed, IsReady, IsRefused, IsRefusedProgram, IsSolvedSystem, Reading, cells, unknowns}
+use Rattle.top_texts.specs.Texts.{HasTemplate, IsAnalysed, IsReady, IsRefused, IsRefusedProgram, IsSolvedSystem, Reading, unknowns}
 use Rattle.top_texts.proofs.texts.Readings.{program_once, fault_once, not_both, rows_once, row_fault_once, not_rows}
 use Rattle.top_status.specs.declared.status.TextCause.{TextCause}
-use Rattle.top_status.specs.declared.status.TextCause.TheVariants.{Lex, Parse, Flow, Rows, Unknowns, Cells, Claims, Equ, Auto}
+use Rattle.top_status.specs.declared.status.TextCause.TheVariants.{Lex, Parse, Flow, Rows, Unknowns, Claims, Equ, Auto}
 use Rattle.flow_systems.specs.declared.limits.TheConstants.{MOST_UNKNOWNS}
 
--- ---- the last stage: too many unknowns, too many cells, or neither
+-- ---- the last stage: too many unknowns, or not
 
 -- the equations of a system are those of its program and template
 pub equations_are : (names : List (List ℕ)) (body : Statements) (template : List (List ℤ)) (s : System) → IsSystemFor names body template s
@@ -38,21 +34,14 @@ equations_are names body template s is =
 
 data LastStage (names : List (List ℕ)) (body : Statements) (template : List (List ℤ)) (o : Option TextCause) : Type 0 where
   many : MOST_UNKNOWNS < unknowns body template → o ≡ Some (Unknowns (unknowns body template)) → LastStage names body template o
-  big : unknowns body template ≤ MOST_UNKNOWNS → MOST_CELLS < cells names body template → o ≡ Some (Cells (cells names body template))
-      → LastStage names body template o
-  few : unknowns body template ≤ MOST_UNKNOWNS → cells names body template ≤ MOST_CELLS → o ≡ None → LastStage names body template o
+  few : unknowns body template ≤ MOST_UNKNOWNS → o ≡ None → LastStage names body template o
 
 last_once : (names : List (List ℕ)) (body : Statements) (template : List (List ℤ)) (o p : Option TextCause)
     → LastStage names body template o → LastStage names body template p → o ≡ p
 last_once names body template o p (many h e) (many k i) = e ∙ sym i
-last_once names body template o p (many h e) (big k l i) = absurd (omega arith)
-last_once names body template o p (many h e) (few k l i) = absurd (omega arith)
-last_once names body template o p (big h g e) (many k i) = absurd (omega arith)
-last_once names body template o p (big h g e) (big k l i) = e ∙ sym i
-last_once names body template o p (big h g e) (few k l i) = absurd (omega arith)
-last_once names body template o p (few h g e) (many k i) = absurd (omega arith)
-last_once names body template o p (few h g e) (big k l i) = absurd (omega arith)
-last_once names body template o p (few h g e) (few k l i) = e ∙ sym i
+last_once names body template o p (many h e) (few k i) = absurd (omega arith)
+last_once names body template o p (few h e) (many k i) = absurd (omega arith)
+last_once names body template o p (few h e) (few k i) = e ∙ sym i
 
 -- ---- the stages before
 
@@ -115,8 +104,6 @@ refused_stage text rows (Rows f) (names, body, a, h) = program (names, body) a.r
 refused_stage text rows (Unknowns count) (names, body, template, y, h, e) =
     program (names, body) y.analysed.reading (fits y.analysed.within (given template y.template_is
     (many h (ap (λ c. Some (Unknowns c)) e))))
-refused_stage text rows (Cells count) (names, body, template, y, h, k, e) =
-    program (names, body) y.analysed.reading (fits y.analysed.within (given template y.template_is (big h k (ap (λ c. Some (Cells c)) e))))
 refused_stage text rows (Claims f) h = absurd h
 refused_stage text rows (Equ f) h = absurd h
 refused_stage text rows (Auto f) h = absurd h
@@ -125,7 +112,7 @@ ready_stage : (text : List ℕ) (rows : Domain (List ℕ)) (names : List (List �
     → IsReady text rows names body template → TextStage text rows None
 ready_stage text rows names body template r =
     program (names, body) r.system.analysed.reading (fits r.system.analysed.within
-    (given template r.system.template_is (few r.within r.cells_within refl)))
+    (given template r.system.template_is (few r.within refl)))
 
 same_cause : (c d : TextCause) → Some c ≡ Some d → c ≡ d
 same_cause c d e = cc
@@ -167,7 +154,6 @@ refused_over text rows (Parse f) h = h
 refused_over text rows (Flow f) h = h
 refused_over text rows (Rows f) h = absurd h
 refused_over text rows (Unknowns count) h = absurd h
-refused_over text rows (Cells count) h = absurd h
 refused_over text rows (Claims f) h = absurd h
 refused_over text rows (Equ f) h = absurd h
 refused_over text rows (Auto f) h = absurd h
@@ -187,13 +173,6 @@ analysed_unrefused text names body (Flow f) (others, other, h, e) a =
     (program_once text (others, other) (names, body) h a.reading) e) a.within
 analysed_unrefused text names body (Rows f) h a = absurd h
 analysed_unrefused text names body (Unknowns count) h a = absurd h
-analysed_unrefused text names body (Cells count) h a = absurd h
 analysed_unrefused text names body (Claims f) h a = absurd h
 analysed_unrefused text names body (Equ f) h a = absurd h
 analysed_unrefused text names body (Auto f) h a = absurd h
-
--- a text has one list of points
-pub points_once : (text one other : List ℕ) → ArePointsOf text one → ArePointsOf text other → one ≡ other
-points_once text one other a b =
-    a.heads ∙ ap (λ (p : List (List ℕ) × Statements). head_lines 0 (points_of_program p.1))
-    (program_once text (a.names, a.body) (b.names, b.body) a.analysed.reading b.analysed.reading) ∙ sym b.heads

@@ -1,14 +1,12 @@
 -- The texts of a transition system and of its rows are refused by one cause, or mean systems with the same equations.
 use Rattle.std.proofs.Common.{◌≡◌, ◌∙◌, ◌≤◌, ◌<◌, ◌*◌, inl, inr, ℕ, List, length, refl, sym, ap, subst, arith}
 use Rattle.std.specs.Prelude.{ℤ, Option, Some, None, Ok, Err}
-use Rattle.base_limits.specs.declared.limits.TheConstants.{MOST_CELLS}
 use Rattle.flow_transitions.specs.declared.fault.AutoFault.{AutoFault}
 use Rattle.flow_transitions.specs.AutoFaults.{fault_of}
 use Rattle.flow_transitions.specs.AutoReading.{AutoAnswer, Content}
 use Rattle.flow_transitions.specs.AutoTexts.{IsAuto, content}
 use Rattle.flow_transitions.specs.Choices.{edges_of}
 use Rattle.flow_transitions.proofs.progress.Once.{one_answer}
-use Rattle.flow_systems.specs.Cells.{cells_of}
 use Rattle.flow_systems.specs.Equations.{Equations}
 use Rattle.flow_systems.specs.View.{equations_of}
 use Rattle.flow_systems.specs.declared.limits.TheConstants.{MOST_UNKNOWNS}
@@ -18,11 +16,11 @@ use Rattle.ask_words.specs.declared.request.Domain.{Domain}
 use Rattle.top_texts.specs.Texts.{HasTemplate}
 use Rattle.top_texts.specs.TransitionTexts.{AreNoTransitions, IsTransitionSystem}
 use Rattle.top_status.specs.declared.status.TextCause.{TextCause}
-use Rattle.top_status.specs.declared.status.TextCause.TheVariants.{Lex, Parse, Flow, Rows, Unknowns, Cells, Claims, Equ, Auto as AutoCause}
+use Rattle.top_status.specs.declared.status.TextCause.TheVariants.{Lex, Parse, Flow, Rows, Unknowns, Claims, Equ, Auto as AutoCause}
 use Rattle.top_texts.proofs.texts.Readings.{rows_once, row_fault_once, not_rows}
 use Rattle.top_texts.proofs.transition_texts.Systems.{system_equations}
 
--- ---- the last stage: too many unknowns, too many cells, or neither
+-- ---- the last stage: too many unknowns, or not
 
 -- what the equations of a transition system are made of
 abbrev along : Content → List (List ℤ) → Equations
@@ -34,29 +32,19 @@ along c template = record {
       template;
 }
 
-abbrev cells_along : Content → List (List ℤ) → ℕ
-cells_along c template = cells_of (along c template)
-
 data LastStage (c : Content) (template : List (List ℤ)) (o : Option TextCause) : Type 0 where
   many : MOST_UNKNOWNS < length c.points * length template → o ≡ Some (Unknowns (length c.points * length template))
       → LastStage c template o
-  big : length c.points * length template ≤ MOST_UNKNOWNS → MOST_CELLS < cells_along c template → o ≡ Some (Cells (cells_along c template))
-      → LastStage c template o
-  few : length c.points * length template ≤ MOST_UNKNOWNS → cells_along c template ≤ MOST_CELLS → o ≡ None → LastStage c template o
+  few : length c.points * length template ≤ MOST_UNKNOWNS → o ≡ None → LastStage c template o
 
 above_and_below : (n most : ℕ) → most < n → n ≤ most → ⊥
 above_and_below n most h k = omega arith
 
 last_once : (c : Content) (template : List (List ℤ)) (o p : Option TextCause) → LastStage c template o → LastStage c template p → o ≡ p
 last_once c template o p (many h e) (many k i) = e ∙ sym i
-last_once c template o p (many h e) (big k l i) = absurd (above_and_below _ _ h k)
-last_once c template o p (many h e) (few k l i) = absurd (above_and_below _ _ h k)
-last_once c template o p (big h g e) (many k i) = absurd (above_and_below _ _ k h)
-last_once c template o p (big h g e) (big k l i) = e ∙ sym i
-last_once c template o p (big h g e) (few k l i) = absurd (above_and_below _ _ g l)
-last_once c template o p (few h g e) (many k i) = absurd (above_and_below _ _ k h)
-last_once c template o p (few h g e) (big k l i) = absurd (above_and_below _ _ l g)
-last_once c template o p (few h g e) (few k l i) = e ∙ sym i
+last_once c template o p (many h e) (few k i) = absurd (above_and_below _ _ h k)
+last_once c template o p (few h e) (many k i) = absurd (above_and_below _ _ k h)
+last_once c template o p (few h e) (few k i) = e ∙ sym i
 
 -- ---- the stages before
 
@@ -124,15 +112,13 @@ refused_stage text rows (AutoCause f) (inr (auto, h, e)) = read (content auto) h
 refused_stage text rows (Rows f) (auto, t, h) = read (content auto) t.reading (fits t.within (faulty f h refl))
 refused_stage text rows (Unknowns count) (auto, template, y, h, e) =
     read (content auto) y.text_is.reading (fits y.text_is.within (given template y.template_is (many h (ap (λ c. Some (Unknowns c)) e))))
-refused_stage text rows (Cells count) (auto, template, y, h, k, e) =
-    read (content auto) y.text_is.reading (fits y.text_is.within (given template y.template_is (big h k (ap (λ c. Some (Cells c)) e))))
 refused_stage text rows (Claims f) h = absurd h
 refused_stage text rows (Equ f) h = absurd h
 
 system_stage : (text : List ℕ) (rows : Domain (List ℕ)) (s : System) → IsTransitionSystem text rows s → TextStage text rows None
 system_stage text rows s is =
     read (content is.auto) is.over.text_is.reading (fits is.over.text_is.within
-    (given is.template is.over.template_is (few is.within is.cells_within refl)))
+    (given is.template is.over.template_is (few is.within refl)))
 
 same_cause : (c d : TextCause) → Some c ≡ Some d → c ≡ d
 same_cause c d e = cc

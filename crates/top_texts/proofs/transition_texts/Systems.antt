@@ -1,7 +1,6 @@
 -- The system that is made of the flow of a transition system and of a template is theirs, and so is its report.
 use Rattle.std.proofs.Common.{◌≡◌, ◌∙◌, ◌*◌, ◌≤◌, ◌<◌, ℕ, List, length, refl, sym, ap, subst}
 use Rattle.std.specs.Prelude.{ℤ, None, Ok}
-use Rattle.base_limits.specs.declared.limits.TheConstants.{MOST_CELLS}
 use Rattle.flow_transitions.specs.declared.auto.Auto.{Auto}
 use Rattle.flow_transitions.specs.AutoFaults.{fault_of}
 use Rattle.flow_transitions.specs.AutoLaws.{PostSolutionsHoldAlong}
@@ -11,7 +10,6 @@ use Rattle.flow_transitions.specs.Choices.{edges_of}
 use Rattle.flow_edges.specs.declared.edge.Edge.{Edge}
 use Rattle.flow_edges.specs.declared.graph.Flow.{Flow}
 use Rattle.flow_edges.specs.declared.point.Point.{Point}
-use Rattle.flow_systems.specs.Cells.{cells_of}
 use Rattle.flow_systems.specs.Equations.{Equations, Least}
 use Rattle.flow_systems.specs.Report.{report_text}
 use Rattle.flow_systems.specs.View.{equations_of, vector_of}
@@ -28,7 +26,7 @@ use Rattle.top_texts.specs.TransitionTexts.{IsAutoOver, IsAutoReport, IsAutoText
 use Rattle.top_texts.specs.declared.refusal.Refusal.{Refusal}
 use Rattle.top_texts.specs.declared.refusal.Refusal.TheVariants as refusal
 use Rattle.top_status.specs.declared.status.Status.TheVariants.{Done}
-use Rattle.top_status.specs.declared.status.TextCause.TheVariants.{Cells, Unknowns}
+use Rattle.top_status.specs.declared.status.TextCause.TheVariants.{Unknowns}
 
 made_of : ℕ → ℕ → List Edge → List (List ℤ) → Equations
 made_of n points edges template = record { variables = n; points = points; edges = edges; template = template }
@@ -69,34 +67,21 @@ module _ (text : List ℕ) (rows : Domain (List ℕ)) (auto : Auto) (flow : Flow
 
   module _ (s : System) (flow_is : s.flow ≡ flow) (template_is : s.template ≡ template)
       (few : length flow.points * length template ≤ MOST_UNKNOWNS) where
-    same : equations_of s ≡ equations_of_auto auto template
-    same = equations_along auto template s (ap (λ (f : Flow). f.names) flow_is ∙ names_are)
-        (ap (λ (f : Flow). f.points) flow_is ∙ points_are)
-        (ap (λ (f : Flow). f.edges) flow_is ∙ edges_are) template_is
-
     few_points : length auto.points * length template ≤ MOST_UNKNOWNS
     few_points = subst (λ ps. length ps * length template ≤ MOST_UNKNOWNS) points_are few
 
-    -- a system with few enough cells is that of the texts
-    pub transition_system : cells_of (equations_of s) ≤ MOST_CELLS → IsTransitionSystem text rows s
-    transition_system h = record {
+    -- a system with few enough unknowns is that of the texts
+    pub transition_system : IsTransitionSystem text rows s
+    transition_system = record {
       auto = auto;
       template = template;
       over = over;
       within = few_points;
-      cells_within = subst (λ q. cells_of q ≤ MOST_CELLS) same h;
       names_are = ap (λ (f : Flow). f.names) flow_is ∙ names_are;
       points_are = ap (λ (f : Flow). f.points) flow_is ∙ points_are;
       edges_are = ap (λ (f : Flow). f.edges) flow_is ∙ edges_are;
       system_template = template_is;
     }
-
-    -- a system with too many cells is refused by their number
-    pub too_large : MOST_CELLS < cells_of (equations_of s) → (r : Refusal) → r ≡ refusal.Text (Cells (cells_of (equations_of s)))
-        → IsRefusedAlong text rows r
-    too_large h r e =
-        subst (λ x. IsRefusedAlong text rows x) (sym e)
-        (auto, template, over, few_points, subst (λ q. MOST_CELLS < cells_of q) same h, ap cells_of same)
 
 -- ---- what is refused before there is a system isn't answered
 
@@ -105,7 +90,7 @@ pub refused_along : (text : List ℕ) (rows : Domain (List ℕ)) (policy : Polic
     → IsUnanswered (transitions_question exact text rows policy limit) r
 refused_along text rows policy limit (refusal.Text c) h = h
 refused_along text rows policy limit (refusal.Certificate c) h = absurd h
-refused_along text rows policy limit (refusal.Wide s) h = absurd h
+refused_along text rows policy limit (refusal.Exceeded excess) h = absurd h
 refused_along text rows policy limit (refusal.Spent n) h = absurd h
 refused_along text rows policy limit refusal.NoMemory h = tt
 

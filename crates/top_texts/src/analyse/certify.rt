@@ -1,10 +1,8 @@
 //! The certificate that the rounds over a system make.
 
 ghost use Rattle.std.specs.Prelude.{◌≡◌, ◌≤◌, ◌++◌, IfOk, IfErr, IsTrue, OnOk};
-ghost use Rattle.base_limits.specs.declared.limits.TheConstants.{MOST_CELLS, MOST_IMPROVEMENTS};
+ghost use Rattle.base_limits.specs.declared.limits.TheConstants.{MOST_IMPROVEMENTS};
 ghost use Rattle.flow_templates.specs.Rows.{is_template};
-ghost use Rattle.flow_systems.specs.Cells.{cells_of};
-ghost use Rattle.flow_systems.specs.View.{equations_of};
 ghost use Rattle.solve_rounds.specs.Solutions.{cert_with};
 ghost use Rattle.top_texts.specs.Outcomes.{IsHalted, IsRoundsCertificate};
 ghost use Rattle.ask_words.specs.declared.request.Purpose.TheVariants.{Certificate};
@@ -68,7 +66,6 @@ pub fn certificate_of<W: Watch>(
     watch: &mut W,
 ) -> Result<Vec<u8>, Refusal>
     requires limit { limit ≤ MOST_IMPROVEMENTS }
-    requires cells { cells_of (equations_of system.now) ≤ MOST_CELLS }
     ensures ok { IfOk result (λ bytes. IsRoundsCertificate system.now policy limit bytes.items) }
     ensures err { IfErr result (λ refusal. IsHalted Certificate system.now policy limit refusal) }
 {

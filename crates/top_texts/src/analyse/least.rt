@@ -1,9 +1,7 @@
 //! The least bounds of the program of a text, for other outputs than its report.
 
 ghost use Rattle.std.specs.Prelude.{◌≡◌, ◌≤◌, IfOk, IfErr, length};
-ghost use Rattle.base_limits.specs.declared.limits.TheConstants.{MOST_CELLS, MOST_IMPROVEMENTS, MOST_TEXT_BYTES};
-ghost use Rattle.flow_systems.specs.Cells.{cells_of};
-ghost use Rattle.flow_systems.specs.View.{equations_of};
+ghost use Rattle.base_limits.specs.declared.limits.TheConstants.{MOST_IMPROVEMENTS, MOST_TEXT_BYTES};
 ghost use Rattle.top_texts.specs.Analyses.{IsFoundIn, IsHaltedEnding, IsRefusedText, IsSolvedBy};
 ghost use Rattle.top_texts.specs.Short.{HasShortRows};
 ghost use Rattle.ask_words.specs.Request.{domain_text};
@@ -34,7 +32,6 @@ fn least_of<W: Watch>(
     watch: &mut W,
 ) -> Result<LeastBounds, Ending>
     requires limit { limit ≤ MOST_IMPROVEMENTS }
-    requires cells { cells_of (equations_of system) ≤ MOST_CELLS }
     ensures ok { IfOk result (IsSolvedBy system policy limit) }
     ensures err { IfErr result (IsHaltedEnding system policy limit) }
 {

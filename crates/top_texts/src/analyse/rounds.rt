@@ -1,8 +1,7 @@
 //! The rounds over a system, and the report of their solution.
 
 ghost use Rattle.std.specs.Prelude.{◌≡◌, ◌≤◌, ◌*◌, ℕ, IfOk, IfErr, length};
-ghost use Rattle.base_limits.specs.declared.limits.TheConstants.{MOST_CELLS, MOST_IMPROVEMENTS};
-ghost use Rattle.flow_systems.specs.Cells.{cells_of};
+ghost use Rattle.base_limits.specs.declared.limits.TheConstants.{MOST_IMPROVEMENTS};
 ghost use Rattle.flow_systems.specs.Equations.{Least};
 ghost use Rattle.flow_systems.specs.View.{equations_of, vector_of};
 ghost use Rattle.cert_types.specs.Shaped.{IsShaped};
@@ -22,6 +21,7 @@ use flow_systems::{Footer, System};
 use out_report::report;
 use solve_rounds::{Halt, Solved, least_by_best, least_by_first};
 use std::alloc::Global;
+use top_status::Excess;
 
 // The rounds over a system by a policy.
 fn rounds_by<W: Watch>(
@@ -32,7 +32,6 @@ fn rounds_by<W: Watch>(
     watch: &mut W,
 ) -> Result<Solved, Halt>
     requires limit { limit ≤ MOST_IMPROVEMENTS }
-    requires cells { cells_of (equations_of system.now) ≤ MOST_CELLS }
     ensures solved { IfOk result (IsSolved system.now (rule_of policy) limit) }
     ensures least { IfOk result (λ solved. Least (equations_of system.now) (vector_of (length system.now.template) solved.bounds)) }
     ensures valid { IfOk result (λ solved. ValidCertificate (equations_of system.now) (made_certificate system.now solved)) }
@@ -47,13 +46,14 @@ fn rounds_by<W: Watch>(
 }
 
 // The refusal of rounds that halt, where so many are allowed.
-#[tactic(auto, using(crate::proofs::analyse::Halted::halted_wide, crate::proofs::analyse::Halted::halted_spent))]
+#[tactic(auto, using(crate::proofs::analyse::Halted::halted_wide, crate::proofs::analyse::Halted::halted_large, crate::proofs::analyse::Halted::halted_spent))]
 fn halted(halt: Halt, limit: u32) -> Refusal
     ensures { (purpose : Purpose) (policy : PolicyValue) (system : SystemValue) → IsHalt system (rule_of policy) limit halt
         → IsHalted purpose system policy limit result }
 {
     match halt {
-        Halt::Wide(spot) => Refusal::Wide(spot),
+        Halt::Wide(spot) => Refusal::Exceeded(Excess::Wide(spot)),
+        Halt::Large(cells) => Refusal::Exceeded(Excess::Large(cells)),
         Halt::Spent(_bounds) => Refusal::Spent(limit),
         Halt::NoMemory => Refusal::NoMemory,
     }
@@ -68,7 +68,6 @@ pub(crate) fn solve<W: Watch>(
     watch: &mut W,
 ) -> Result<Solved, Refusal>
     requires limit { limit ≤ MOST_IMPROVEMENTS }
-    requires cells { cells_of (equations_of system.now) ≤ MOST_CELLS }
     ensures solved { IfOk result (IsSolved system.now (rule_of policy) limit) }
     ensures least { IfOk result (λ solved. Least (equations_of system.now) (vector_of (length system.now.template) solved.bounds)) }
     ensures count { IfOk result (λ solved. length solved.bounds ≡ length system.now.flow.points * length system.now.template) }
@@ -87,7 +86,7 @@ pub(crate) fn solve<W: Watch>(
 ///
 /// # Errors
 ///
-/// Improvements that are spent, a wide operation, or want of memory.
+/// Improvements that are spent, a wide operation or a joint problem that is too large, or want of memory.
 #[tactic(auto, using(crate::proofs::rounds::OneChain::rounds_report))]
 pub fn report_of<W: Watch>(
     alloc: Global,
@@ -97,7 +96,6 @@ pub fn report_of<W: Watch>(
     watch: &mut W,
 ) -> Result<Vec<u8>, Refusal>
     requires limit { limit ≤ MOST_IMPROVEMENTS }
-    requires cells { cells_of (equations_of system.now) ≤ MOST_CELLS }
     ensures ok { IfOk result (λ bytes. IsRoundsReport system.now policy limit bytes.items) }
     ensures err { IfErr result (λ refusal. (purpose : Purpose) → IsHalted purpose system.now policy limit refusal) }
 {

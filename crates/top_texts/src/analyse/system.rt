@@ -1,14 +1,12 @@
 //! The system of the texts of a program and of its rows.
 
 ghost use Rattle.std.specs.Prelude.{◌≡◌, ◌*◌, ◌≤◌, ◌<◌, ◌≢◌, ℕ, List, IfOk, IfErr, IsTrue, Ok, Err, length};
-ghost use Rattle.base_limits.specs.declared.limits.TheConstants.{MOST_CELLS, MOST_TEXT_BYTES};
+ghost use Rattle.base_limits.specs.declared.limits.TheConstants.{MOST_TEXT_BYTES};
 ghost use Rattle.lang_tree.specs.Tree.{Statements};
 ghost use Rattle.flow_templates.specs.declared.fault.RowFault.TheVariants.{NoMemory};
-ghost use Rattle.flow_systems.specs.Cells.{cells_of};
 ghost use Rattle.flow_systems.specs.SystemLimits.{is_over};
-ghost use Rattle.flow_systems.specs.View.{equations_of};
 ghost use Rattle.ask_words.specs.declared.request.Domain.{Domain as DomainValue};
-ghost use Rattle.top_status.specs.declared.status.TextCause.TheVariants.{Cells, Unknowns};
+ghost use Rattle.top_status.specs.declared.status.TextCause.TheVariants.{Unknowns};
 ghost use Rattle.top_texts.specs.Short.{HasShortRows};
 ghost use Rattle.ask_words.specs.Request.{domain_text};
 ghost use Rattle.top_texts.specs.Outcomes.{IsRefusedBy};
@@ -19,7 +17,6 @@ use super::template::template_of;
 use crate::program::{flow_of, program_of};
 use crate::refusal::Refusal;
 use ask_words::Domain;
-use base_limits::MOST_CELLS;
 use flow_edges::Flow;
 use flow_systems::{System, SystemFault};
 use flow_templates::{RowFault, Template};
@@ -67,35 +64,20 @@ pub(crate) fn system_of(flow: Flow, template: Template) -> Result<System, Refusa
     }
 }
 
-// Whether the joint problems of a system have few enough cells.
-pub(crate) fn count_cells(system: &System) -> Result<(), Refusal>
-    ensures within { IfOk result (λ _. cells_of (equations_of system.now) ≤ MOST_CELLS) }
-    ensures above { IfErr result (λ _. MOST_CELLS < cells_of (equations_of system.now)) }
-    ensures count { IfErr result (λ refusal. refusal ≡ Refusal.Text (Cells (cells_of (equations_of system.now)))) }
-{
-    let cells = system.cells();
-    if cells > MOST_CELLS {
-        return Err(Refusal::Text(TextCause::Cells(cells)));
-    }
-    Ok(())
-}
-
 /// The system of the program of a text and of these rows.
 ///
 /// # Errors
 ///
-/// The first cause that stands: a fault of the text or of the rows, or too many unknowns or cells; or want of memory.
+/// The first cause that stands: a fault of the text or of the rows, or too many unknowns; or want of memory.
 pub fn system_on(alloc: Global, text: &[u8], rows: Domain<&[u8]>) -> Result<System, Refusal>
     requires short { length text.now ≤ MOST_TEXT_BYTES }
     requires short_rows { HasShortRows (domain_text rows) }
     ensures ok { IfOk result (λ system. IsSolvedSystem text.now (domain_text rows.entry) system) }
-    ensures cells { IfOk result (λ system. cells_of (equations_of system) ≤ MOST_CELLS) }
     ensures err { IfErr result (λ refusal. IsRefusedBy text.now (domain_text rows.entry) refusal) }
 {
     let program = program_of(alloc, text)?;
     let flow = flow_of(alloc, &program)?;
     let template = rows_of(alloc, rows, &program)?;
     let system = system_of(flow, template)?;
-    count_cells(&system)?;
     Ok(system)
 }

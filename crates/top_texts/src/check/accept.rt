@@ -26,7 +26,7 @@ use lang_tree::Program;
 use out_report::report;
 use solve_transformer::{PathFault, Paths, compose_all};
 use std::alloc::Global;
-use top_status::CertCause;
+use top_status::{CertCause, Excess};
 
 // The composed edges of a system.
 fn paths_of(alloc: Global, system: &System) -> Result<Paths, Refusal>
@@ -36,7 +36,7 @@ fn paths_of(alloc: Global, system: &System) -> Result<Paths, Refusal>
 {
     match compose_all(alloc, system) {
         Ok(paths) => Ok(paths),
-        Err(PathFault::Wide(spot)) => Err(Refusal::Wide(spot)),
+        Err(PathFault::Wide(spot)) => Err(Refusal::Exceeded(Excess::Wide(spot))),
         Err(PathFault::NoMemory) => Err(Refusal::NoMemory),
     }
 }
@@ -47,7 +47,7 @@ fn check_refusal(fault: CheckFault) -> Refusal
         → first_stop (check_events system certificate) ≡ Some fault → IsUnaccepted system certificate result }
 {
     match fault {
-        CheckFault::Wide(spot) => Refusal::Wide(spot),
+        CheckFault::Wide(spot) => Refusal::Exceeded(Excess::Wide(spot)),
         _ => Refusal::Certificate(CertCause::Check(fault)),
     }
 }

@@ -15,7 +15,7 @@ loop-clause-preserved c =
     let item = c.clause-item.result in
     let text = c.loop-clause.text.items in
     let left : List Said → List ℕ = λ items. joined_on between (map (invariant_text names) (clauses_of_said rows items)) in
-    ap (λ t. t ++ left (drop (k + 1) said)) c.in_ok-push_next_invariant.ensures
+    ap (λ t. t ++ left (drop (k + 1) said)) c.in_ok-push_invariant.ensures
     ∙ append_assoc text (between ++ invariant_text names (clause_of rows item)) (left (drop (k + 1) said))
     ∙ ap (λ items. text ++ left items) (sym (next_item said k item c.loop-clause-test.true c.clause-item.is))
     ∙ c.loop-clause.invariant

@@ -21,25 +21,9 @@ pub returns-clause-dashes : goal.returns-clause-dashes
 unfolding clap_on_literals request_of
 returns-clause-dashes c = refl
 
-pub returns-clause-upgrade : goal.returns-clause-upgrade
+pub returns-clause-commands : goal.returns-clause-commands
 unfolding clap_on_literals request_of
-returns-clause-upgrade c = refl
-
-pub returns-clause-prove : goal.returns-clause-prove
-unfolding clap_on_literals request_of
-returns-clause-prove c = refl
-
-pub returns-clause-transitions : goal.returns-clause-transitions
-unfolding clap_on_literals request_of
-returns-clause-transitions c = refl
-
-pub returns-clause-equations : goal.returns-clause-equations
-unfolding clap_on_literals request_of
-returns-clause-equations c = refl
-
-pub returns-clause-points : goal.returns-clause-points
-unfolding clap_on_literals request_of
-returns-clause-points c = refl
+returns-clause-commands c = refl
 
 pub returns-clause-repeated : goal.returns-clause-repeated
 unfolding clap_on_literals request_of

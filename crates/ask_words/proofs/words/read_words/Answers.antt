@@ -13,8 +13,8 @@ returns-in-Ok-clause-ok c =
     let none = ap (λ (a : App). fault_of a words) (sym app) ∙ c.in-Ok.ensures.kinds (ap is_simple_and_free app ∙ free) in
     let rows : subcommand_rows_of c.in-Ok.matches ≡ subcommand_of tmpl_app words =
     (c.in-Ok.ensures.matches (ap is_simple app ∙ simple)).1 ∙ ap (λ (a : App). subcommand_of a words) app in
-    given c.request.result c.ok_or.result (request_of words) c.ok_or.ensures.value
-    (c.request.ensures ∙ ap (option_and_then command_in) rows ∙ sym (taken words none))
+    given c.request_in.result c.ok_or.result (request_of words) c.ok_or.ensures.value
+    (c.request_in.ensures ∙ ap (option_and_then command_in) rows ∙ sym (taken words none))
 
 pub returns-in-Ok-clause-usage : goal.returns-in-Ok-clause-usage
 returns-in-Ok-clause-usage c =
@@ -23,8 +23,8 @@ returns-in-Ok-clause-usage c =
     let none = ap (λ (a : App). fault_of a words) (sym app) ∙ c.in-Ok.ensures.kinds (ap is_simple_and_free app ∙ free) in
     let rows : subcommand_rows_of c.in-Ok.matches ≡ subcommand_of tmpl_app words =
     (c.in-Ok.ensures.matches (ap is_simple app ∙ simple)).1 ∙ ap (λ (a : App). subcommand_of a words) app in
-    absent c.request.result c.ok_or.result (request_of words) c.ok_or.ensures.value
-    (c.request.ensures ∙ ap (option_and_then command_in) rows ∙ sym (taken words none))
+    absent c.request_in.result c.ok_or.result (request_of words) c.ok_or.ensures.value
+    (c.request_in.ensures ∙ ap (option_and_then command_in) rows ∙ sym (taken words none))
 
 pub returns : goal.returns
 returns c =

@@ -1,19 +1,16 @@
-use Rattle.std.proofs.Common.{get_or, arith}
-use Rattle.solve_joint.proofs.joint_rows.Picking.{picked_at, few_listed, edge_within}
+use Rattle.std.proofs.Common.{arith}
+use Rattle.solve_joint.proofs.joint_rows.Picking.{few_listed, listed_edge, listed_within}
 use Rattle.solve_joint.proofs.joint_rows.count_columns.Goals as goal
 
 pub picked_edge-requires : goal.picked_edge-requires
 picked_edge-requires c =
-    let p = picked_at c.args.system.now c.args.pick.now c.args.list.now c.loop-unknown.unknown-index c.requires.picked
-    c.loop-unknown-test.true in
-    omega (arith, p.in_range, c.requires.pick)
+    listed_within c.args.system.now c.args.pick.now c.args.list.now c.loop-unknown.unknown-index c.requires.pick c.requires.picked
+    c.loop-unknown-test.true
 
 pub word_width-columns-requires-clause-edge : goal.word_width-columns-requires-clause-edge
 word_width-columns-requires-clause-edge c =
-    let u = get_or c.args.list.now c.loop-unknown.unknown-index 0 in
-    let p = picked_at c.args.system.now c.args.pick.now c.args.list.now c.loop-unknown.unknown-index c.requires.picked
-    c.loop-unknown-test.true in
-    edge_within c.args.system.now c.args.pick.now u c.picked_edge.result p c.picked_edge.ensures
+    listed_edge c.args.system.now c.args.pick.now c.args.list.now c.loop-unknown.unknown-index c.picked_edge.result c.requires.picked
+    c.loop-unknown-test.true c.picked_edge.ensures
 
 pub overflow_add-cols-in-loop-unknown : goal.overflow_add-cols-in-loop-unknown
 overflow_add-cols-in-loop-unknown c =

@@ -11,15 +11,15 @@ use Rattle.solve_offers.proofs.improvement.make_offer.Goals.{then-edge-point+in_
 pub loop-number-init : goal.loop-number-init
 loop-number-init c = record {
   numbers = c.new-edges.ensures.items ∙ sym (numbers_none c.args.point 0);
-  values = ap (map extended) c.new-values.ensures.items ∙ sym (ap (map (row_value c.args.system.now c.args.bounds.now c.args.row))
-      (edges_none c.args.point));
+  values = ap (map extended) c.new-values.ensures.items
+      ∙ sym (ap (map (row_value c.args.at.now.system.now c.args.at.now.bounds.now c.args.row)) (edges_none c.args.point));
   known = c.requires.known;
 }
 
 pub loop-number-preserved : goal.loop-number-preserved
 loop-number-preserved c =
-    let system = c.args.system.now in
-    let bounds = c.args.bounds.now in
+    let system = c.args.at.now.system.now in
+    let bounds = c.args.at.now.bounds.now in
     let p = c.args.point in
     let es = c.as_slice-edge-items.result.now in
     let i = c.loop-number.number in
@@ -47,7 +47,7 @@ loop-number-preserved c =
 pub invariant_of-result : goal.invariant_of-result
 invariant_of-result c = record {
   beside = same_count c.args.point (take c.loop-number.number c.as_slice-edge-items.result.now)
-      (row_value c.args.system.now c.args.bounds.now c.args.row) c.new.result c.new-2.result
+      (row_value c.args.at.now.system.now c.args.at.now.bounds.now c.args.row) c.new.result c.new-2.result
       (c.new.ensures ∙ c.loop-number.invariant.numbers) (c.new-2.ensures ∙ c.loop-number.invariant.values);
 }
 
@@ -55,6 +55,6 @@ pub returns-in_err-value-clause-offer : goal.returns-in_err-value-clause-offer
 returns-in_err-value-clause-offer c =
     let q = err_from_is_err_and c.from_residual.result c.from_residual.ensures.1 in
     rw (q.1, q.2)
-    (stop_into c.args.system.now c.args.bounds.now c.args.row c.args.round c.requires.row c.args.point c.requires.limited
-    c.as_slice-edge-items.result.now c.loop-number.number c.edge-item.result c.as_slice-edge-items.ensures c.loop-number-test.true
-    c.edge-item.is c.if-edge-point.true c.in_err-value.field-0.0 c.in_err-value.ensures.value)
+    (stop_into c.args.at.now.system.now c.args.at.now.bounds.now c.args.row c.args.at.now.round c.requires.row c.args.point
+    c.requires.limited c.as_slice-edge-items.result.now c.loop-number.number c.edge-item.result c.as_slice-edge-items.ensures
+    c.loop-number-test.true c.edge-item.is c.if-edge-point.true c.in_err-value.field-0.0 c.in_err-value.ensures.value)

@@ -9,6 +9,7 @@ use Rattle.solve_offers.proofs.improvement.make_offer.Given as goal
 abbrev pub invariant-loop-number : goal.invariant-loop-number
 invariant-loop-number l = record {
   numbers : l.edges.items ≡ numbers_into l.point 0 (take l.number l.edge-items);
-  values : map extended l.values.items ≡ map (row_value l.system l.bounds l.row) (edges_into l.point (take l.number l.edge-items));
-  known : AreKnown l.system l.bounds l.known;
+  values : map extended l.values.items
+      ≡ map (row_value l.at.system.now l.at.bounds.now l.row) (edges_into l.point (take l.number l.edge-items));
+  known : AreKnown l.at.system.now l.at.bounds.now l.known;
 }

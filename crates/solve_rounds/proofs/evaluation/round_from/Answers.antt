@@ -9,12 +9,13 @@ use Rattle.solve_rounds.specs.Round.{rounded_at, IsTurnOf}
 use Rattle.solve_rounds.specs.Turning.{ComesAmong}
 use Rattle.solve_rounds.proofs.growing.Kept.{system_size}
 use Rattle.solve_rounds.proofs.evaluation.RoundRaises.{raises_are, raises_few}
-use Rattle.solve_rounds.proofs.evaluation.RoundMade.{setting, setting_list, setting_waits, setting_comes, setting_round}
+use Rattle.solve_rounds.proofs.evaluation.RoundMade.{Setting, setting, setting_list, setting_waits, setting_comes, setting_round}
 use Rattle.solve_rounds.proofs.evaluation.RoundMade.{setting_bounds, setting_valid, above_bounds, tight_bounds, round_done, picked_edges}
 use Rattle.solve_rounds.proofs.evaluation.RoundMade.{named_within}
 use Rattle.solve_rounds.proofs.evaluation.TurnStops.{turn_stop_more}
 use Rattle.solve_rounds.proofs.evaluation.round_from.Given.{Over}
 use Rattle.solve_rounds.proofs.evaluation.round_from.Goals as goal
+use Rattle.solve_rounds.proofs.evaluation.round_from.Goals.{After-as_slice-5}
 
 pub grow_from-requires-clause-edges : goal.grow_from-requires-clause-edges
 grow_from-requires-clause-edges g c = picked_edges c.args.system.now c.args.pick.now c.requires.pick c.requires.supported.is_pick
@@ -43,18 +44,26 @@ finite-requires g c =
     subst₂ (λ (l : List ℕ) (n : ℕ). (k : ℕ) → k < length l → get_or l k 0 < n) (sym (c.as_slice-2.ensures ∙ e.raised))
     (sym (e.size ∙ c.requires.bounds)) (named_within system steps)
 
-pub turns-requires-clause-list : goal.turns-requires-clause-list
-turns-requires-clause-list g c =
+-- what was grown is the setting of the turns
+ready : (g : Over) (c : After-as_slice-5 g) → Setting c.args.system.now c.args.bounds.now c.args.pick.now c.as_slice-3.result.now
+    c.in_ok-grown.grown.bounds c.as_slice-4.result.now c.as_slice-5.result.now
+ready g c =
     let args = c.args in
     let grown = c.in_ok-grown.grown in
     let e = c.in_ok-grown.ensures in
-    let s = setting args.system.now args.bounds.now args.pick.now grown.steps c.as_slice.result.now c.as_slice-3.result.now grown.bounds
+    setting args.system.now args.bounds.now args.pick.now grown.steps c.as_slice.result.now c.as_slice-3.result.now grown.bounds
     c.in_ok-places.places.items c.as_slice-4.result.now grown.raised c.as_slice-2.result.now c.in_ok-list.list.items
     c.as_slice-5.result.now
     (c.as_slice.ensures.value ∙ c.into_list-steps.ensures) (c.as_slice-3.ensures.value ∙ c.into_list-steps.ensures)
     c.as_slice-4.ensures.value c.as_slice-2.ensures c.as_slice-5.ensures.value
     e.steps e.bounds e.raised (c.in_ok-places.ensures.size ∙ sym (length-map c.as_slice-count.result.now extended)
-    ∙ ap length c.as_slice-count.ensures ∙ c.requires.bounds) c.in_ok-places.ensures.places c.in_ok-list.ensures.list in
+    ∙ ap length c.as_slice-count.ensures ∙ c.requires.bounds) c.in_ok-places.ensures.places c.in_ok-list.ensures.list
+
+pub turns-requires-clause-list : goal.turns-requires-clause-list
+turns-requires-clause-list g c =
+    let args = c.args in
+    let grown = c.in_ok-grown.grown in
+    let s = ready g (goal.at.turns-requires-clause-list g c).After-as_slice-5 in
     setting_list args.system.now args.bounds.now args.pick.now c.requires.supported.is_pick c.as_slice-3.result.now grown.bounds
     c.as_slice-4.result.now c.as_slice-5.result.now s
 
@@ -62,14 +71,7 @@ pub turns-requires-clause-waiting : goal.turns-requires-clause-waiting
 turns-requires-clause-waiting g c =
     let args = c.args in
     let grown = c.in_ok-grown.grown in
-    let e = c.in_ok-grown.ensures in
-    let s = setting args.system.now args.bounds.now args.pick.now grown.steps c.as_slice.result.now c.as_slice-3.result.now grown.bounds
-    c.in_ok-places.places.items c.as_slice-4.result.now grown.raised c.as_slice-2.result.now c.in_ok-list.list.items
-    c.as_slice-5.result.now
-    (c.as_slice.ensures.value ∙ c.into_list-steps.ensures) (c.as_slice-3.ensures.value ∙ c.into_list-steps.ensures)
-    c.as_slice-4.ensures.value c.as_slice-2.ensures c.as_slice-5.ensures.value
-    e.steps e.bounds e.raised (c.in_ok-places.ensures.size ∙ sym (length-map c.as_slice-count.result.now extended)
-    ∙ ap length c.as_slice-count.ensures ∙ c.requires.bounds) c.in_ok-places.ensures.places c.in_ok-list.ensures.list in
+    let s = ready g (goal.at.turns-requires-clause-waiting g c).After-as_slice-5 in
     setting_waits args.system.now args.bounds.now args.pick.now c.requires.supported.is_pick c.as_slice-3.result.now grown.bounds
     c.as_slice-4.result.now c.as_slice-5.result.now s c.requires.supported
 
@@ -78,14 +80,7 @@ returns-in_err-turns-clause-stop g c =
     let q = err_from_is_err_and c.from_residual-in_err-turns.result c.from_residual-in_err-turns.ensures.1 in
     let args = c.args in
     let grown = c.in_ok-grown.grown in
-    let e = c.in_ok-grown.ensures in
-    let s = setting args.system.now args.bounds.now args.pick.now grown.steps c.as_slice.result.now c.as_slice-3.result.now grown.bounds
-    c.in_ok-places.places.items c.as_slice-4.result.now grown.raised c.as_slice-2.result.now c.in_ok-list.list.items
-    c.as_slice-5.result.now
-    (c.as_slice.ensures.value ∙ c.into_list-steps.ensures) (c.as_slice-3.ensures.value ∙ c.into_list-steps.ensures)
-    c.as_slice-4.ensures.value c.as_slice-2.ensures c.as_slice-5.ensures.value
-    e.steps e.bounds e.raised (c.in_ok-places.ensures.size ∙ sym (length-map c.as_slice-count.result.now extended)
-    ∙ ap length c.as_slice-count.ensures ∙ c.requires.bounds) c.in_ok-places.ensures.places c.in_ok-list.ensures.list in
+    let s = ready g (goal.at.returns-in_err-turns-clause-stop g c).After-as_slice-5 in
     rw (q.1, q.2)
     (inr (turn_stop_more args.system.now args.pick.now (ComesAmong args.system.now args.pick.now c.as_slice-3.result.now
     c.as_slice-4.result.now c.as_slice-5.result.now grown.bounds) (IsTurnOf args.system.now args.bounds.now args.pick.now) args.round
@@ -101,14 +96,7 @@ pub returns-clause-steps : goal.returns-clause-steps
 returns-clause-steps g c =
     let args = c.args in
     let grown = c.in_ok-grown.grown in
-    let e = c.in_ok-grown.ensures in
-    let s = setting args.system.now args.bounds.now args.pick.now grown.steps c.as_slice.result.now c.as_slice-3.result.now grown.bounds
-    c.in_ok-places.places.items c.as_slice-4.result.now grown.raised c.as_slice-2.result.now c.in_ok-list.list.items
-    c.as_slice-5.result.now
-    (c.as_slice.ensures.value ∙ c.into_list-steps.ensures) (c.as_slice-3.ensures.value ∙ c.into_list-steps.ensures)
-    c.as_slice-4.ensures.value c.as_slice-2.ensures c.as_slice-5.ensures.value
-    e.steps e.bounds e.raised (c.in_ok-places.ensures.size ∙ sym (length-map c.as_slice-count.result.now extended)
-    ∙ ap length c.as_slice-count.ensures ∙ c.requires.bounds) c.in_ok-places.ensures.places c.in_ok-list.ensures.list in
+    let s = ready g (goal.at.returns-clause-steps g c).After-as_slice-5 in
     setting_round args.system.now args.bounds.now args.pick.now c.requires.supported.is_pick c.as_slice-3.result.now grown.bounds
     c.as_slice-4.result.now c.as_slice-5.result.now s c.requires.supported (record { bounds = grown.bounds; steps = c.new.result })
     c.turns.new.turning c.new-2.result refl c.new.ensures.items c.in_ok-turns.ensures.done (appended g c)
@@ -119,14 +107,7 @@ agreed : (g : Over) (c : goal.After-drop-places-2 g)
 agreed g c =
     let args = c.args in
     let grown = c.in_ok-grown.grown in
-    let e = c.in_ok-grown.ensures in
-    let s = setting args.system.now args.bounds.now args.pick.now grown.steps c.as_slice.result.now c.as_slice-3.result.now grown.bounds
-    c.in_ok-places.places.items c.as_slice-4.result.now grown.raised c.as_slice-2.result.now c.in_ok-list.list.items
-    c.as_slice-5.result.now
-    (c.as_slice.ensures.value ∙ c.into_list-steps.ensures) (c.as_slice-3.ensures.value ∙ c.into_list-steps.ensures)
-    c.as_slice-4.ensures.value c.as_slice-2.ensures c.as_slice-5.ensures.value
-    e.steps e.bounds e.raised (c.in_ok-places.ensures.size ∙ sym (length-map c.as_slice-count.result.now extended)
-    ∙ ap length c.as_slice-count.ensures ∙ c.requires.bounds) c.in_ok-places.ensures.places c.in_ok-list.ensures.list in
+    let s = ready g (goal.at.returns-clause-bounds g c).After-as_slice-5 in
     setting_bounds args.system.now args.bounds.now args.pick.now c.requires.supported.is_pick c.as_slice-3.result.now grown.bounds
     c.as_slice-4.result.now c.as_slice-5.result.now s c.requires.supported (record { bounds = grown.bounds; steps = c.new.result })
     c.turns.new.turning c.new-2.result refl c.new.ensures.items c.in_ok-turns.ensures.done (appended g c)
@@ -150,14 +131,7 @@ pub returns-clause-valid : goal.returns-clause-valid
 returns-clause-valid g c =
     let args = c.args in
     let grown = c.in_ok-grown.grown in
-    let e = c.in_ok-grown.ensures in
-    let s = setting args.system.now args.bounds.now args.pick.now grown.steps c.as_slice.result.now c.as_slice-3.result.now grown.bounds
-    c.in_ok-places.places.items c.as_slice-4.result.now grown.raised c.as_slice-2.result.now c.in_ok-list.list.items
-    c.as_slice-5.result.now
-    (c.as_slice.ensures.value ∙ c.into_list-steps.ensures) (c.as_slice-3.ensures.value ∙ c.into_list-steps.ensures)
-    c.as_slice-4.ensures.value c.as_slice-2.ensures c.as_slice-5.ensures.value
-    e.steps e.bounds e.raised (c.in_ok-places.ensures.size ∙ sym (length-map c.as_slice-count.result.now extended)
-    ∙ ap length c.as_slice-count.ensures ∙ c.requires.bounds) c.in_ok-places.ensures.places c.in_ok-list.ensures.list in
+    let s = ready g (goal.at.returns-clause-valid g c).After-as_slice-5 in
     setting_valid args.system.now args.bounds.now args.pick.now c.requires.supported.is_pick c.as_slice-3.result.now grown.bounds
     c.as_slice-4.result.now c.as_slice-5.result.now s c.requires.supported (record { bounds = grown.bounds; steps = c.new.result })
     c.turns.new.turning c.new-2.result refl c.new.ensures.items c.in_ok-turns.ensures.done (appended g c)

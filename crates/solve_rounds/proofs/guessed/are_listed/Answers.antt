@@ -1,4 +1,4 @@
-use Rattle.std.proofs.Common.{◌<◌, length, subst, arith}
+use Rattle.std.proofs.Common.{subst, arith}
 use Rattle.base_facts.specs.Elements.{In}
 use Rattle.solve_rounds.proofs.guessed.ValidRay.{no_rate}
 use Rattle.solve_rounds.proofs.turning.TurnItems.{place_of}

@@ -32,5 +32,5 @@ returns-then-branch-clause-valid c =
       listed = c.if-not-are_listed.ensures refl;
       some = positive (length c.as_slice-shown.result.now) c.if-is_empty.ensures;
       valid = subst (λ items. ValidStep eqs z (step_of (length system.template) (RayStep items)))
-          (c.new.ensures ∙ c.in_ok-ray_items.ensures.items) (c.in_ok-is_valid_step.ensures c.if-branch.true z stands);
+          (c.new.ensures ∙ c.in_ok-ray_items.ensures.items) ((c.in_ok-step_passes.ensures z stands).0 c.if-branch.true).0;
     })

@@ -1,4 +1,3 @@
-use Rattle.std.proofs.lemmas.Result.{MatchResult-weaker}
 use Rattle.solve_rounds.proofs.turning.Turned.{rising}
 use Rattle.solve_rounds.proofs.turning.TurnedBy.{turned_by}
 use Rattle.solve_rounds.proofs.turning.FoundFacts.{found_sizes, found_facts}
@@ -28,8 +27,7 @@ returns-clause-turned g c =
     let part = c.requires.part in
     let found = c.in_ok-found.found in
     let is_found = c.in_ok-found.ensures.found in
-    MatchResult-weaker c.take.result c.take.ensures.taken
-    (λ left t. turned_by system pick raises places list part c.requires.some old new left.items c.requires.bounds c.requires.condition found
-    (found_sizes system pick raises places old.bounds list found is_found)
-    (found_facts system pick c.requires.chosen raises places list part old.bounds c.requires.bounds c.requires.condition found is_found) t)
-    (λ e h. tt)
+    turned_by system pick raises places list part c.requires.some old new c.in_ok-left.left.items c.requires.bounds c.requires.condition
+    found (found_sizes system pick raises places old.bounds list found is_found)
+    (found_facts system pick c.requires.chosen raises places list part old.bounds c.requires.bounds c.requires.condition found is_found)
+    c.in_ok-left.ensures.taken

@@ -9,6 +9,6 @@ use Rattle.solve_rounds.proofs.uppers.push_into.Given as goal
 abbrev pub invariant-loop-number : goal.invariant-loop-number
 invariant-loop-number l = record {
   uppers : map evidence_of l.uppers.items ≡ map evidence_of l.initial.uppers.items
-      ++ uppers_to (equations_of l.system) (vector_at l.system l.bounds) l.point l.row l.edge-items l.number;
-  known : AreKnown l.system l.bounds l.known;
+      ++ uppers_to (equations_of l.at.system.now) (vector_at l.at.system.now l.at.bounds.now) l.point l.row l.edge-items l.number;
+  known : AreKnown l.at.system.now l.at.bounds.now l.known;
 }

@@ -9,6 +9,6 @@ use Rattle.solve_rounds.proofs.uppers.push_point.Given as goal
 abbrev pub invariant-loop-row : goal.invariant-loop-row
 invariant-loop-row l = record {
   uppers : map evidence_of l.uppers.items ≡ map evidence_of l.initial.uppers.items
-      ++ uppers_of_rows (equations_of l.system) (vector_at l.system l.bounds) l.point l.row;
-  known : AreKnown l.system l.bounds l.known;
+      ++ uppers_of_rows (equations_of l.at.system.now) (vector_at l.at.system.now l.at.bounds.now) l.point l.row;
+  known : AreKnown l.at.system.now l.at.bounds.now l.known;
 }

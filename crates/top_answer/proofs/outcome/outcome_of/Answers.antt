@@ -4,11 +4,10 @@ use Rattle.top_answer.specs.Commands.{command_of}
 use Rattle.top_answer.specs.Outcomes.{Says}
 use Rattle.top_texts.specs.Exact.{exact}
 use Rattle.top_answer.proofs.commands.Generated.{benched}
-use Rattle.top_answer.proofs.commands.Points.{pointed}
 use Rattle.top_answer.proofs.commands.Claims.{proved}
 use Rattle.top_answer.proofs.commands.Equations.{equated}
+use Rattle.top_answer.proofs.commands.Plain.{pointed, upgraded}
 use Rattle.top_answer.proofs.commands.Transitions.{transited}
-use Rattle.top_answer.proofs.commands.Upgrades.{upgraded}
 use Rattle.top_answer.proofs.outcome.outcome_of.Goals as goal
 
 pub returns-in-Analyse-clause-rows : goal.returns-in-Analyse-clause-rows

@@ -1,10 +1,14 @@
-use Rattle.std.proofs.Common.{◌*◌, ap, arith, length, rules}
+use Rattle.std.proofs.Common.{◌*◌, ◌≤◌, ℕ, ap, arith, length, rules}
+use Rattle.base_limits.specs.declared.limits.TheConstants.{MOST_CELLS}
 use Rattle.ask_words.specs.declared.request.Purpose.TheVariants.{Report}
 use Rattle.top_texts.specs.Exact.{exact}
 use Rattle.top_texts.specs.Questions.{equations_question}
 use Rattle.top_texts.specs.Outcomes.{IsUnanswered}
 use Rattle.top_texts.proofs.equation_texts.Solved.{names_are, points_are, rows_are, unsolved, valued}
 use Rattle.top_texts.proofs.equations.equations_text.Goals as goal
+
+few_cells : (n : ℕ) → n ≤ 160890 → n ≤ MOST_CELLS
+few_cells n h = omega (arith, h)
 
 pub returns-in_err-equations-clause-err : goal.returns-in_err-equations-clause-err
 returns-in_err-equations-clause-err g c =
@@ -16,7 +20,7 @@ pub returns-in_err-solved-clause-err : goal.returns-in_err-solved-clause-err
 returns-in_err-solved-clause-err g c =
     let h : IsUnanswered (equations_question exact c.args.text.now c.args.policy c.args.limit) c.in_err-solved.field-0.0 =
     unsolved c.args.text.now c.args.policy c.args.limit c.in_ok-equations.equations c.in_ok-equations.ensures.ok c.in_ok-system.system
-    c.in_ok-system.ensures.system _ (c.in_err-solved.ensures.err Report) in
+    c.in_ok-system.ensures.system (few_cells _ c.in_ok-system.ensures.cells) _ (c.in_err-solved.ensures.err Report) in
     search (rules, h)
 
 pub returns-clause-ok : goal.returns-clause-ok

@@ -2,7 +2,7 @@ use Rattle.std.proofs.Common.{rules}
 use Rattle.ask_words.specs.Request.{domain_text}
 use Rattle.top_texts.specs.Outcomes.{IsRefusedAlong}
 use Rattle.top_texts.specs.TransitionTexts.{IsAutoText}
-use Rattle.top_texts.proofs.transition_texts.Systems.{too_large, too_many, transition_system}
+use Rattle.top_texts.proofs.transition_texts.Systems.{too_many, transition_system}
 use Rattle.top_texts.proofs.transitions.system_along.Goals as goal
 
 pub returns-in_err-auto-clause-err : goal.returns-in_err-auto-clause-err
@@ -37,17 +37,6 @@ returns-in_err-system-clause-err c =
     flow.names flow.points flow.edges c.in_ok-template.ensures.template c.in_err-system.ensures.above _ c.in_err-system.ensures.count in
     search (rules, h)
 
-pub returns-in_err-count_cells-clause-err : goal.returns-in_err-count_cells-clause-err
-returns-in_err-count_cells-clause-err c =
-    let flow = c.in_ok-flow.ensures in
-    let made = c.in_ok-system.ensures in
-    let h : IsRefusedAlong c.args.text.now (domain_text c.args.rows) c.in_err-count_cells.field-0.0 =
-    too_large c.args.text.now (domain_text c.args.rows) c.in_ok-auto.auto c.in_ok-flow.flow c.in_ok-template.template
-    c.in_ok-auto.ensures.ok flow.within
-    flow.names flow.points flow.edges c.in_ok-template.ensures.template c.in_ok-system.system made.flow made.template made.within
-    c.in_err-count_cells.ensures.above _ c.in_err-count_cells.ensures.count in
-    search (rules, h)
-
 pub returns-clause-ok : goal.returns-clause-ok
 returns-clause-ok c =
     let flow = c.in_ok-flow.ensures in
@@ -55,4 +44,3 @@ returns-clause-ok c =
     transition_system c.args.text.now (domain_text c.args.rows) c.in_ok-auto.auto c.in_ok-flow.flow c.in_ok-template.template
     c.in_ok-auto.ensures.ok flow.within
     flow.names flow.points flow.edges c.in_ok-template.ensures.template c.in_ok-system.system made.flow made.template made.within
-    c.in_ok-count_cells.ensures.within

@@ -20,7 +20,7 @@ returns-in_err-bytes-clause-err g c =
     let h : IsUnanswered (transitions_question exact c.args.text.now (domain_text c.args.rows) c.args.policy c.args.limit)
     c.in_err-bytes.field-0.0 =
     halted (transitions_question exact c.args.text.now (domain_text c.args.rows) c.args.policy c.args.limit) Report c.in_ok-system.system
-    c.in_ok-system.ensures.ok (λ spot w. w) _ (c.in_err-bytes.ensures.err Report) in
+    c.in_ok-system.ensures.ok (λ excess h. h) _ (c.in_err-bytes.ensures.err Report) in
     search (rules, h)
 
 pub returns-clause-ok : goal.returns-clause-ok

@@ -3,7 +3,7 @@ use Rattle.ask_words.specs.Request.{domain_text}
 use Rattle.top_texts.specs.Outcomes.{IsRefusedBy}
 use Rattle.top_texts.specs.Texts.{IsAnalysed}
 use Rattle.top_texts.proofs.checks.Refused.{unread_refuses}
-use Rattle.top_texts.proofs.analyse.Systems.{solved_system, too_many_cells}
+use Rattle.top_texts.proofs.analyse.Systems.{solved_system}
 use Rattle.top_texts.proofs.analyse.system.system_on.Goals as goal
 
 pub returns-in_err-flow-clause-err : goal.returns-in_err-flow-clause-err
@@ -20,18 +20,6 @@ returns-in_err-template-clause-err c =
     c.in_err-template.ensures.err c.args.text.now analysed in
     search (rules, h)
 
-pub returns-in_err-count_cells-clause-err : goal.returns-in_err-count_cells-clause-err
-returns-in_err-count_cells-clause-err c =
-    let flow = c.in_ok-flow.ensures in
-    let made = c.in_ok-system.ensures in
-    let h : IsRefusedBy c.args.text.now (domain_text c.args.rows) c.in_err-count_cells.field-0.0 =
-    too_many_cells c.args.text.now (domain_text c.args.rows) c.in_ok-program.program.names c.in_ok-program.program.body c.in_ok-flow.flow
-    c.in_ok-template.template c.in_ok-system.system
-    (record { reading = c.in_ok-program.ensures.ok; within = flow.within }) flow.names flow.points flow.edges
-    c.in_ok-template.ensures.template made.flow made.template made.within
-    c.in_err-count_cells.ensures.above _ c.in_err-count_cells.ensures.count in
-    search (rules, h)
-
 pub returns-clause-ok : goal.returns-clause-ok
 returns-clause-ok c =
     let flow = c.in_ok-flow.ensures in
@@ -40,4 +28,3 @@ returns-clause-ok c =
     c.in_ok-template.template c.in_ok-system.system
     (record { reading = c.in_ok-program.ensures.ok; within = flow.within }) flow.names flow.points flow.edges
     c.in_ok-template.ensures.template made.flow made.template made.within
-    c.in_ok-count_cells.ensures.within

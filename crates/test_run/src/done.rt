@@ -1,0 +1,10 @@
+//! Runs that are done: reports, certificates that are accepted, verdicts, values.
+
+mod certified;
+mod claims;
+mod equations;
+mod generated;
+mod loops;
+pub(crate) mod reports;
+mod transitions;
+mod upgrades;

@@ -1,0 +1,9 @@
+//! Runs that are refused, or that fail: words, files, texts and certificates that are hostile, and the outside.
+
+mod bytes;
+pub(crate) mod certificates;
+mod counts;
+mod faults;
+pub(crate) mod refusals;
+mod texts;
+mod words;

@@ -1,0 +1,306 @@
+//! Refused words, files, rows and programs, wide operations and spent improvements: the code, the message, and no output.
+
+use crate::cases::{Case, Ending, ends, first_taken, first_wrong};
+use crate::done::reports::{COUNT, LINE, ROWS};
+use std::alloc::Global;
+use test_cases::repeated;
+
+pub(crate) const USAGE: &[u8] =
+    b"usage: tmpl solve PROGRAM [--domain D] [--rows FILE] [--improvements N] [--policy P] | certify (the same) \
+      | check PROGRAM CERT | bench --seed N --loops K | upgrade CERT \
+      | prove PROGRAM CLAIMS (the options of solve) | transitions FILE (the options of solve) \
+      | equations FILE [--improvements N] [--policy P] | points PROGRAM\n";
+
+// Lines of words that ask for nothing.
+const NO_REQUESTS: &[&str] = &[
+    "",
+    "bench --seed 1 --loops 47",
+    "equations p --domain zones",
+    "equations",
+    "points p --domain zones",
+    "points p f",
+    "points",
+    "prove p f f",
+    "prove p",
+    "solve p --domain rows",
+    "solve p --improvements 1000001",
+    "solve",
+    "transitions",
+];
+
+#[test]
+fn other_words_are_no_request(rt: HostRuntime) {
+    let refused = Ending::Refused(2, USAGE);
+    let wrong = NO_REQUESTS
+        .iter()
+        .position(|line| !ends(rt.alloc(), *line, LINE, b"", refused));
+    assert_eq!(rt; wrong, None);
+}
+
+// A line of words, and which of its files isn't read first.
+const UNREAD: &[(&str, &str)] = &[
+    ("prove p q", "claims"),
+    // The program is loaded before the claims, and the claims before the program is read.
+    ("prove q q", "program"),
+    ("transitions q", "system"),
+    ("transitions p --domain rows --rows q", "rows"),
+    ("equations q", "equations"),
+    ("points q", "program"),
+    ("certify q", "program"),
+    ("check q q", "program"),
+    ("solve q --policy first", "program"),
+    ("solve q", "program"),
+    ("solve q --domain rows --rows q", "program"),
+    ("solve p --domain rows --rows q", "rows"),
+];
+
+// Whether the run of a line stops since this file isn't read.
+fn is_unread(alloc: Global, line: &str, file: &str) -> bool {
+    match format!(in alloc; "cannot read the {file}\n") {
+        Ok(message) => ends(
+            alloc,
+            line,
+            LINE,
+            b"",
+            Ending::Refused(3, message.as_bytes()),
+        ),
+        Err(_) => false,
+    }
+}
+
+#[test]
+fn files_are_absent(rt: HostRuntime) {
+    let wrong = UNREAD
+        .iter()
+        .position(|row| !is_unread(rt.alloc(), row.0, row.1));
+    assert_eq!(rt; wrong, None);
+}
+
+// Files of rows, and why they are refused.
+const NO_ROWS: &[(&[u8], &str)] = &[
+    (b"0*x", "zero row at line 1"),
+    (b"", "0 rows"),
+    (b"x\ny + z\n", "unknown name at line 2"),
+    (b"x <= 1", "bad row at line 1"),
+];
+
+#[test]
+fn rows_are_refused(rt: HostRuntime) {
+    assert_eq!(rt;
+        first_taken(rt.alloc(), ROWS, "rows", Some(LINE), NO_ROWS),
+        None
+    );
+}
+
+// How many blanks the program and the rows are, the code and the message.
+impl Case for (usize, usize, u8, &[u8]) {
+    fn is_right(&self, alloc: Global) -> bool {
+        let text = repeated(alloc, b"", b" ", self.0, b"");
+        let rows = repeated(alloc, b"", b" ", self.1, b"");
+        match (text, rows) {
+            (Ok(text), Ok(rows)) => {
+                ends(alloc, ROWS, &text, &rows, Ending::Refused(self.2, self.3))
+            }
+            _ => false,
+        }
+    }
+}
+
+const BLANKS: &[(usize, usize, u8, &[u8])] = &[
+    (65537, 65537, 3, b"too long: the program\n"),
+    (0, 65537, 3, b"too long: the rows\n"),
+    (
+        65536,
+        65536,
+        4,
+        b"program refused: unexpected token at line 1\n",
+    ),
+];
+
+// A line of words, the piece of which the file is, how often it stands there, and what the file is.
+const LONG: &[(&str, &[u8], usize, &str)] = &[
+    ("equations p", b" ", 65537, "equations"),
+    ("transitions p", b"          ", 6554, "system"),
+];
+
+// Whether the file of a line is too long.
+fn is_too_long(alloc: Global, line: &str, piece: &[u8], count: usize, file: &str) -> bool {
+    match (
+        repeated(alloc, b"", piece, count, b""),
+        format!(in alloc; "too long: the {file}\n"),
+    ) {
+        (Ok(text), Ok(message)) => {
+            ends(
+                alloc,
+                line,
+                &text,
+                b"",
+                Ending::Refused(3, message.as_bytes()),
+            )
+        }
+        _ => false,
+    }
+}
+
+#[test]
+fn files_are_too_long(rt: HostRuntime) {
+    let wrong = LONG
+        .iter()
+        .position(|row| !is_too_long(rt.alloc(), row.0, row.1, row.2, row.3));
+    assert_eq!(rt; first_wrong(rt.alloc(), BLANKS), None);
+    assert_eq!(rt; wrong, None);
+}
+
+// Texts that are no programs with points, and why.
+const PROGRAMS: &[(&[u8], &str)] = &[
+    (b"", "unexpected token at line 1"),
+    (b"int main() { x = 1; }", "unknown name at line 1"),
+    (b"int main() { int x, x; }", "name twice at line 1"),
+    (b"int main() { int x = nondet() + 1; }", "nondet at line 1"),
+    (b"int main() { int x = 07; }", "bad number at line 1"),
+    (b"int main() { /* int x; }", "open comment at line 1"),
+    (b"int main() { }", "no variables"),
+    (b"int main() { int x, y; x = x*y; }", "not affine at line 1"),
+    (
+        b"int main() {\n int x = 9223372036854775808; }",
+        "long number at line 2",
+    ),
+    (b"int main() {\n\n int x = 1 @ 2; }", "bad byte at line 3"),
+    (
+        b"int main() {\n int x = 1; // C joins this line \\ \r\n x = 2; }",
+        "bad byte at line 2",
+    ),
+    (
+        b"int main() { int x; x = (((((((((((((((((((((((((((((((((((((((((((((((((((((((((((((((((1))))))))))))))))))))))))))))))))))))))))))))))))))))))))))))))))); }",
+        "nesting at line 1",
+    ),
+    (
+        b"int main() { int a, b, c, d, e, f, g, h, i, j, k, l, m; }",
+        "variables at line 1",
+    ),
+    (
+        b"int main() { int x = 9223372036854775807; x += x; x = 2*(9223372036854775807*x); }",
+        "big number at line 1",
+    ),
+    (
+        b"int main() { int x; assume(x != 1 && x != 2 && x != 3 && x != 4 && x != 5 && x != 6 && x != 7); }",
+        "cases at line 1",
+    ),
+    (
+        b"int main() { int x;\nl1: l2: l3: l4: l5: l6: l7: l8: l9: l10: l11: l12: l13: l14: l15: l16: l17: l18: l19: l20: l21: l22: l23: l24: l25: l26: l27: l28: l29: l30: l31: l32: l33: l34: l35: l36: l37: l38: l39: l40: l41: l42: l43: l44: l45: l46: l47: l48: l49: l50: l51: l52: l53: l54: l55: l56: l57: l58: l59: l60: l61: l62: l63: l64: l65: l66: l67: l68: l69: l70: l71: l72: l73: l74: l75: l76: l77: l78: l79: l80: l81: l82: l83: l84: l85: l86: l87: l88: l89: l90: l91: l92: l93: l94: l95: ; }",
+        "97 points",
+    ),
+    // A bad byte comes before a name that is unknown.
+    (
+        b"int main() { y = 1;\nint x = 2 # 3; }",
+        "bad byte at line 2",
+    ),
+    (b"int main() { int x;\ny = 1; }", "unknown name at line 2"),
+    (
+        b"int main() { int x;\nassume(x != 1 && x != 2 && x != 3 && x != 4 && x != 5 && x != 6 && x != 7); }",
+        "cases at line 2",
+    ),
+];
+
+// With 288 rows for each point there may be too many unknowns.
+const LARGE: &[(&[u8], &str)] = &[(
+    b"int main() { int a, b, c, d, e, f, g, h, i, j, k, l; l1: l2: l3: l4: l5: l6: ; }",
+    "2304 unknowns",
+)];
+
+#[test]
+fn programs_are_refused(rt: HostRuntime) {
+    assert_eq!(rt;
+        first_taken(rt.alloc(), "solve p", "program", None, PROGRAMS),
+        None
+    );
+    assert_eq!(rt;
+        first_taken(rt.alloc(), "points p", "program", None, PROGRAMS),
+        None
+    );
+    let octagons = "solve p --domain octagons";
+    assert_eq!(rt;
+        first_taken(rt.alloc(), octagons, "program", None, LARGE),
+        None
+    );
+}
+
+const STOPPED: &[(&str, &[u8], Ending)] = &[
+    (
+        "solve p --improvements 0",
+        LINE,
+        Ending::Refused(6, b"spent: 0 improvements\n"),
+    ),
+    (
+        "solve p --improvements 2",
+        COUNT,
+        Ending::Refused(6, b"spent: 2 improvements\n"),
+    ),
+    (
+        "certify p --improvements 2",
+        COUNT,
+        Ending::Refused(6, b"spent: 2 improvements\n"),
+    ),
+    (
+        "solve p",
+        b"int main() { int x; x = 3037000500*x; x = 3037000500*x; }",
+        Ending::Refused(5, b"wide: mul 3037000500 3037000500 at compose edge 0\n"),
+    ),
+    (
+        "solve p",
+        b"int main() { int x = 9223372036854775807; }",
+        Ending::Refused(
+            5,
+            b"wide: sub -9223372036854775807 1 at raise 1 in round 1\n",
+        ),
+    ),
+];
+
+#[test]
+fn operations_are_wide_and_improvements_are_spent(rt: HostRuntime) {
+    assert_eq!(rt; first_wrong(rt.alloc(), STOPPED), None);
+}
+
+// A program whose loop holds so many inner loops that do nothing, by as many rows of `x`, one of `z` and one of `y`: how the run over it
+// ends. What `y` was before it takes any value, `z` is behind it.
+impl Case for (usize, usize, Ending<'_>) {
+    fn is_right(&self, alloc: Global) -> bool {
+        let text = repeated(
+            alloc,
+            b"int main() { int x = 0, y = 0, z = 0; while (nondet()) { x = x + 1; z = y + 1; y = nondet(); ",
+            b"while (nondet()) { } ",
+            self.0,
+            b"} }",
+        );
+        let rows = repeated(alloc, b"", b"x\n", self.1, b"z\ny\n");
+        match (text, rows) {
+            (Ok(text), Ok(rows)) => ends(alloc, ROWS, &text, &rows, self.2),
+            _ => false,
+        }
+    }
+}
+
+// The rounds bring the first values to the loops, one by one. In the round then every row of `x` rises at each loop, and at the outer one
+// `z`, too, before `y` is unbounded there; from then on nothing bounds `z` behind the body, so that no cut is found for it and the guess
+// is given up. With 19 inner loops and 38 rows of `x` the joint problem has 761 unknowns, 39 at the outer loop and 38 at each of the
+// others. Each counts 41 rows and 7 columns, and behind the body two more for its free value: 31,201 rows and 5,403 columns. With 3 rows
+// of `x` there are few, and the problem is solved: all first values are there after 20 rounds.
+const LARGE_PROBLEMS: &[(usize, usize, Ending)] = &[
+    (
+        19,
+        38,
+        Ending::Refused(4, b"program refused: 168652215 cells\n"),
+    ),
+    (
+        19,
+        3,
+        Ending::End(
+            b"point 21: exit\n  x <= +inf\n  x <= +inf\n  x <= +inf\n  z <= +inf\n  y <= +inf\nimprovements: 21\n",
+        ),
+    ),
+];
+
+#[test]
+fn joint_problems_have_a_size(rt: HostRuntime) {
+    assert_eq!(rt; first_wrong(rt.alloc(), LARGE_PROBLEMS), None);
+}
