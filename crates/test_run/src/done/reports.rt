@@ -80,8 +80,8 @@ int main(void) {
 pub(crate) const CHOICES: &[u8] =
     b"int main() { int x = nondet(); assume(x <= 1 || x <= 2 || x <= 3); }";
 
-const OPEN: &[u8] =
-    b"int main() { int x; x = ((((((((((((((((((((((((((((((((((((((((((((((((((((((((((((((((1)))))))))))))))))))))))))))))))))))))))))))))))))))))))))))))))); }";
+const OPEN: &[u8] = b"int main() { int x; x = ((((((((((((((((((((((((((((((((((((((((((((\
+        ((((((((((((((((((((1)))))))))))))))))))))))))))))))))))))))))))))))))))))))))))))))); }";
 
 const STRAIGHT: &[(&str, &[u8], &[u8], Ending)] = &[
     ("solve p", LINE, b"x + 2*y\n", Ending::Report(WHOLE)),
@@ -102,7 +102,10 @@ const STRAIGHT: &[(&str, &[u8], &[u8], Ending)] = &[
         b"int main() { int x = 1, y = nondet(); y = x - y; }",
         b"x + 2*y\n",
         Ending::Report(
-            b"variables x y\npoint 0: entry\n  x <= +inf\n  -x <= +inf\n  y <= +inf\n  -y <= +inf\n  x + y <= +inf\n  x - y <= +inf\n  -x + y <= +inf\n  -x - y <= +inf\npoint 1: exit\n  x <= 1\n  -x <= -1\n  y <= +inf\n  -y <= +inf\n  x + y <= +inf\n  x - y <= +inf\n  -x + y <= +inf\n  -x - y <= +inf\nimprovements: 1\n",
+            b"variables x y\npoint 0: entry\n  x <= +inf\n  -x <= +inf\n  y <= +inf\n  -y <= +inf\n  x + y <= +inf\
+                \n  x - y <= +inf\n  -x + y <= +inf\n  -x - y <= +inf\npoint 1: exit\n  x <= 1\n  -x <= -1\
+                \n  y <= +inf\n  -y <= +inf\n  x + y <= +inf\n  x - y <= +inf\n  -x + y <= +inf\n  -x - y <= +inf\
+                \nimprovements: 1\n",
         ),
     ),
     (
@@ -160,7 +163,8 @@ const LOOPS: &[(&str, &[u8], Ending)] = &[
         "solve p",
         b"int main() { int x = 0, y; while (nondet()) { y = nondet(); assume(2*y == x + 2); x = y; } }",
         Ending::End(
-            b"point 1: loop at line 1\n  x <= 2\n  -x <= 0\n  y <= +inf\n  -y <= +inf\npoint 2: exit\n  x <= 2\n  -x <= 0\n  y <= +inf\n  -y <= +inf\nimprovements: 2\n",
+            b"point 1: loop at line 1\n  x <= 2\n  -x <= 0\n  y <= +inf\n  -y <= +inf\npoint 2: exit\n  x <= 2\
+                \n  -x <= 0\n  y <= +inf\n  -y <= +inf\nimprovements: 2\n",
         ),
     ),
     (
@@ -174,21 +178,26 @@ const LOOPS: &[(&str, &[u8], Ending)] = &[
         "solve p --domain zones",
         PAIR,
         Ending::End(
-            b"point 1: loop at line 1\n  x <= 10\n  -x <= 0\n  y <= 10\n  -y <= 0\n  x - y <= 0\n  -x + y <= 0\npoint 2: exit\n  x <= 10\n  -x <= -10\n  y <= 10\n  -y <= -10\n  x - y <= 0\n  -x + y <= 0\nimprovements: 3\n",
+            b"point 1: loop at line 1\n  x <= 10\n  -x <= 0\n  y <= 10\n  -y <= 0\n  x - y <= 0\n  -x + y <= 0\
+                \npoint 2: exit\n  x <= 10\n  -x <= -10\n  y <= 10\n  -y <= -10\n  x - y <= 0\n  -x + y <= 0\
+                \nimprovements: 3\n",
         ),
     ),
     (
         "solve p --domain octagons",
         PAIR,
         Ending::End(
-            b"point 1: loop at line 1\n  x <= 10\n  -x <= 0\n  y <= 10\n  -y <= 0\n  x + y <= 20\n  x - y <= 0\n  -x + y <= 0\n  -x - y <= 0\npoint 2: exit\n  x <= 10\n  -x <= -10\n  y <= 10\n  -y <= -10\n  x + y <= 20\n  x - y <= 0\n  -x + y <= 0\n  -x - y <= -20\nimprovements: 3\n",
+            b"point 1: loop at line 1\n  x <= 10\n  -x <= 0\n  y <= 10\n  -y <= 0\n  x + y <= 20\n  x - y <= 0\
+                \n  -x + y <= 0\n  -x - y <= 0\npoint 2: exit\n  x <= 10\n  -x <= -10\n  y <= 10\n  -y <= -10\
+                \n  x + y <= 20\n  x - y <= 0\n  -x + y <= 0\n  -x - y <= -20\nimprovements: 3\n",
         ),
     ),
     (
         "solve p",
         b"int main() { int x = 0; while (x < 100) { if (x < 50) x = x + 1; else x = x + 2; } }",
         Ending::End(
-            b"  x <= 101\n  -x <= 0\npoint 2: join at line 1\n  x <= 101\n  -x <= -1\npoint 3: exit\n  x <= 101\n  -x <= -100\nimprovements: 5\n",
+            b"  x <= 101\n  -x <= 0\npoint 2: join at line 1\n  x <= 101\n  -x <= -1\npoint 3: exit\n  x <= 101\
+                \n  -x <= -100\nimprovements: 5\n",
         ),
     ),
     (
@@ -210,7 +219,10 @@ const LOOPS: &[(&str, &[u8], Ending)] = &[
         "solve p",
         NESTED,
         Ending::End(
-            b"point 1: loop at line 4\n  i <= 10\n  -i <= 0\n  j <= 9\n  -j <= 0\n  k <= +inf\n  -k <= 0\npoint 2: loop at line 6\n  i <= 9\n  -i <= 0\n  j <= 9\n  -j <= 0\n  k <= +inf\n  -k <= 0\npoint 3: exit\n  i <= 10\n  -i <= -10\n  j <= 9\n  -j <= 0\n  k <= +inf\n  -k <= 0\nimprovements: 5\n",
+            b"point 1: loop at line 4\n  i <= 10\n  -i <= 0\n  j <= 9\n  -j <= 0\n  k <= +inf\n  -k <= 0\
+                \npoint 2: loop at line 6\n  i <= 9\n  -i <= 0\n  j <= 9\n  -j <= 0\n  k <= +inf\n  -k <= 0\
+                \npoint 3: exit\n  i <= 10\n  -i <= -10\n  j <= 9\n  -j <= 0\n  k <= +inf\n  -k <= 0\nimprovements: 5\
+                \n",
         ),
     ),
     (
@@ -295,7 +307,8 @@ const LISTED: &[(&str, &[u8], Ending)] = &[
         "points p",
         KINDS,
         Ending::Report(
-            b"point 0: entry\npoint 1: assume at line 3\npoint 2: loop at line 4\npoint 3: join at line 5\npoint 4: label end at line 10\npoint 5: loop at line 12\npoint 6: exit\n",
+            b"point 0: entry\npoint 1: assume at line 3\npoint 2: loop at line 4\npoint 3: join at line 5\
+                \npoint 4: label end at line 10\npoint 5: loop at line 12\npoint 6: exit\n",
         ),
     ),
     // The points of both branches come before their join.
@@ -303,7 +316,8 @@ const LISTED: &[(&str, &[u8], Ending)] = &[
         "points p",
         b"int main() { int x;\nif (x < 1) { for (x = 0; x < 5; x++) ; } else { a: x = 1; b: ; }\nc: x = 2; }",
         Ending::Report(
-            b"point 0: entry\npoint 1: loop at line 2\npoint 2: label a at line 2\npoint 3: label b at line 2\npoint 4: join at line 2\npoint 5: label c at line 3\npoint 6: exit\n",
+            b"point 0: entry\npoint 1: loop at line 2\npoint 2: label a at line 2\npoint 3: label b at line 2\
+                \npoint 4: join at line 2\npoint 5: label c at line 3\npoint 6: exit\n",
         ),
     ),
     // An assumption with one case makes no point.
