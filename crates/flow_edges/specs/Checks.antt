@@ -1,0 +1,34 @@
+-- The checks of a program, and where they stand on its edges.
+use Rattle.std.specs.Prelude.{◌≡◌, ℕ, Bool, List, [], ◌∷◌, ◌++◌, Option, Some}
+use Rattle.lang_tree.specs.declared.check.Check.{Check}
+use Rattle.lang_tree.specs.Tree.{Condition, Statement, Statements, set, havoc, assume, only_where, check, branch, loop, jump, label, nil, cons}
+use Rattle.flow_edges.specs.declared.edge.Action.{Action}
+use Rattle.flow_edges.specs.declared.edge.Action.TheVariants as action
+
+-- a check with the condition that may not be false where it stands
+pub record Checked : Type 0 where
+  pub about : Check
+  pub cond : Condition
+
+abbrev mutual
+  -- the checks of a statement and of those in it, in order of the text; a check's number counts those before it
+  pub checks_of : Statement → List Checked
+  checks_of (set var form line) = []
+  checks_of (havoc var line) = []
+  checks_of (assume c line) = []
+  checks_of (only_where c line) = []
+  checks_of (check about c line) = record { about = about; cond = c } ∷ []
+  checks_of (branch c first second line) = checks_in first ++ checks_in second
+  checks_of (loop kind c body line) = checks_in body
+  checks_of (jump kind line) = []
+  checks_of (label name line) = []
+
+  -- the same for a list of statements
+  pub checks_in : Statements → List Checked
+  checks_in nil = []
+  checks_in (cons s rest) = checks_of s ++ checks_in rest
+
+-- these actions come before a check among actions; each check stands at most once among those of an edge
+pub record StandsBehind (actions : List Action) (about : Check) (before : List Action) : Type 0 where
+  pub later : List Action
+  pub parted : actions ≡ before ++ action.Check about ∷ later
