@@ -4,10 +4,10 @@ use Rattle.lang_grammar.specs.Grammar.{Change, replaces, Kind, infix_sign, a_nam
 use Rattle.lang_grammar.specs.Grammar.{semicolon, colon, change_sign, int_word, else_word, return_word}
 use Rattle.lang_grammar.specs.Grammar.{do_word, for_word}
 use Rattle.lang_grammar.specs.Grammar.{ForFirst, ForTest}
-use Rattle.lang_grammar.specs.Grammar.{ForLast, repeat_after, repeat_for, jumps, updates, Demand, demand_word}
+use Rattle.lang_grammar.specs.Grammar.{ForLast, repeat_after, repeat_for, updates, Demand, demand_word}
 use Rattle.lang_grammar.specs.Grammar.{Token, token, Groups, Expr, spell_expr, bare, given, Declarators, declares, declares_more}
 use Rattle.lang_grammar.specs.Grammar.{spell_declarators}
-use Rattle.lang_grammar.specs.Grammar.{GoodDeclarators, Core, empty, block, if_alone, if_else, repeat, demands, set, step_after}
+use Rattle.lang_grammar.specs.Grammar.{GoodDeclarators, Core, if_alone, if_else, repeat, demands, set}
 use Rattle.lang_grammar.specs.Grammar.{step_before, Sub, labelled}
 use Rattle.lang_grammar.specs.Grammar.{Items, label, declaration, spell_core, Ending, shut, waiting}
 use Rattle.lang_grammar.proofs.grammar.Complete.{NotElse, GoesOn}

@@ -13,7 +13,6 @@ use Rattle.lang_grammar.specs.Machine.{statement_end, Goal, operand, more, state
 use Rattle.lang_grammar.specs.Machine.{do_end, header}
 use Rattle.lang_grammar.specs.Machine.{maybe_else, condition, declarator, only, Entry, takes}
 use Rattle.lang_grammar.specs.Machine.{skips, stops, prefix_entry, operand_entry, more_entry}
-use Rattle.lang_grammar.specs.Machine.{entry}
 use Rattle.lang_grammar.proofs.grammar.Complete.{NotElse}
 use Rattle.lang_grammar.proofs.grammar.Sound.{Links, ended, link, spell_links, GoodLinks, extend_all, spell_all, groups_all, any_level}
 use Rattle.lang_grammar.proofs.grammar.Sound.{Clear, no_more, and_more, Ended}
