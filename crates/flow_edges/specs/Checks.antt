@@ -39,7 +39,7 @@ with_cases c = record { check = c.about; against = cases_of false c.cond }
 abbrev pub checks_of_program : Statements → List CheckCases
 checks_of_program body = map with_cases (checks_in body)
 
--- these actions come before a check among actions; each check stands at most once among those of an edge
+-- these actions come before a check among actions
 pub record StandsBehind (actions : List Action) (about : Check) (before : List Action) : Type 0 where
   pub later : List Action
   pub parted : actions ≡ before ++ action.Check about ∷ later
