@@ -20,7 +20,7 @@ use Rattle.flow_systems.proofs.states.Soundness.{program_soundness}
 use Rattle.ask_claims.specs.Breaking.{PassesAll}
 use Rattle.ask_claims.specs.Laws.{ProvedClaimsHold}
 use Rattle.ask_claims.specs.Truth.{is_decided}
-use Rattle.ask_claims.proofs.laws.Sizes.{run_size}
+use Rattle.flow_systems.proofs.states.Sizes.{run_size}
 
 -- ---- a condition without choices is true or false
 sign : (z : ℤ) → (z <ℤ pos 0) ⊎ ((z ≡ pos 0) ⊎ (pos 0 <ℤ z))
