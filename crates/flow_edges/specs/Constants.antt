@@ -3,7 +3,7 @@ use Rattle.std.specs.Prelude.{◌+◌, ◌&&◌, ℕ, Bool, true, IsTrue, nat_ab
 use Rattle.lang_tree.specs.declared.form.Form.{Form}
 use Rattle.lang_tree.specs.Limits.{is_condition}
 use Rattle.lang_tree.specs.Tree.{Condition, free, compare, negation, both, either}
-use Rattle.lang_tree.specs.Tree.{Statement, Statements, set, havoc, assume, branch, loop, jump, label, nil, cons}
+use Rattle.lang_tree.specs.Tree.{Statement, Statements, set, havoc, assume, only_where, check, branch, loop, jump, label, nil, cons}
 
 -- adding 1 to the constant, or to the negated one, stays within 2^63 - 1
 abbrev pub has_room : Form → Bool
@@ -23,6 +23,8 @@ abbrev mutual
   has_rooms (set var form line) = true
   has_rooms (havoc var line) = true
   has_rooms (assume c line) = have_room c
+  has_rooms (only_where c line) = have_room c
+  has_rooms (check about c line) = have_room c
   has_rooms (branch c first second line) = have_room c && (have_rooms first && have_rooms second)
   has_rooms (loop kind c body line) = have_room c && have_rooms body
   has_rooms (jump kind line) = true

@@ -1,7 +1,7 @@
 -- How many ways and edges there are, counted without making them.
 use Rattle.std.specs.Prelude.{ℕ, ◌+◌, ◌*◌, ◌≤◌, ◌||◌, Bool, true, false, length, if◌then◌else◌}
 use Rattle.lang_tree.specs.Tree.{Condition, LoopKind, while_loop, for_loop, do_loop, breaks, continues}
-use Rattle.lang_tree.specs.Tree.{Statement, Statements, set, havoc, assume, branch, loop, jump, label, nil, cons}
+use Rattle.lang_tree.specs.Tree.{Statement, Statements, set, havoc, assume, only_where, check, branch, loop, jump, label, nil, cons}
 use Rattle.lang_tree.specs.Cases.{cases_of}
 use Rattle.lang_tree.specs.PointNumbers.{splits}
 use Rattle.flow_edges.specs.declared.edge_count.JumpCounts.{JumpCounts}
@@ -36,6 +36,8 @@ abbrev mutual
   way_count_of (set var form line) jumps next = next
   way_count_of (havoc var line) jumps next = next
   way_count_of (assume c line) jumps next = case_count true c * (if splits c then 1 else next)
+  way_count_of (only_where c line) jumps next = case_count true c * next
+  way_count_of (check about c line) jumps next = next
   way_count_of (branch c first second line) jumps next = case_count true c * way_count_in first jumps 1 + case_count false c
       * way_count_in second jumps 1
   way_count_of (loop kind c body line) jumps next = 1
@@ -69,6 +71,8 @@ abbrev mutual
   edge_count_of (set var form line) jumps next = 0
   edge_count_of (havoc var line) jumps next = 0
   edge_count_of (assume c line) jumps next = if splits c then next else 0
+  edge_count_of (only_where c line) jumps next = 0
+  edge_count_of (check about c line) jumps next = 0
   edge_count_of (branch c first second line) jumps next =
       edge_count_in first jumps 1 + (edge_count_in second jumps 1 + (if complete first || complete second then next else 0))
   edge_count_of (loop kind c body line) jumps next =

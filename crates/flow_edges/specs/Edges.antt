@@ -4,12 +4,12 @@ use Rattle.std.specs.Prelude.{if◌then◌else◌}
 use Rattle.lang_tree.specs.declared.change.Change.{Change}
 use Rattle.lang_tree.specs.declared.change.Change.TheVariants as change
 use Rattle.lang_tree.specs.Tree.{Condition, LoopKind, while_loop, for_loop, do_loop, breaks, continues}
-use Rattle.lang_tree.specs.Tree.{Statement, Statements, set, havoc, assume, branch, loop, jump, label, nil, cons}
+use Rattle.lang_tree.specs.Tree.{Statement, Statements, set, havoc, assume, only_where, check, branch, loop, jump, label, nil, cons}
 use Rattle.lang_tree.specs.Cases.{cases_of}
 use Rattle.lang_tree.specs.PointNumbers.{splits, points_of, points_in, join_of, exit_of}
 use Rattle.lang_tree.specs.Runs.{Item, node, mark, turn, end, nodes, head_work}
 use Rattle.flow_edges.specs.declared.edge.Action.{Action}
-use Rattle.flow_edges.specs.declared.edge.Action.TheVariants.{Assign, Havoc}
+use Rattle.flow_edges.specs.declared.edge.Action.TheVariants.{Assign, Havoc, Check}
 use Rattle.flow_edges.specs.declared.edge.Edge.{Edge}
 use Rattle.flow_edges.specs.Steps.{guards}
 
@@ -61,6 +61,8 @@ abbrev mutual
   ways_of (set var form line) n jumps next = prefixed (Assign var form ∷ []) next
   ways_of (havoc var line) n jumps next = prefixed (Havoc var ∷ []) next
   ways_of (assume c line) n jumps next = by_case true c (if splits c then arrived n else next)
+  ways_of (only_where c line) n jumps next = by_case true c next
+  ways_of (check about c line) n jumps next = prefixed (Check about ∷ []) next
   ways_of (branch c first second line) n jumps next =
       by_case true c (ways_in first n jumps (arrived (join_of first second n)))
       ++ by_case false c (ways_in second (n + points_in first) jumps (arrived (join_of first second n)))
@@ -111,6 +113,8 @@ abbrev mutual
   completes (set var form line) = true
   completes (havoc var line) = true
   completes (assume c line) = true
+  completes (only_where c line) = true
+  completes (check about c line) = true
   completes (branch c first second line) = complete first || complete second
   completes (loop kind c body line) = true
   completes (jump kind line) = false
@@ -136,6 +140,8 @@ abbrev mutual
   behind_of (set var form line) n rest = []
   behind_of (havoc var line) n rest = []
   behind_of (assume c line) n rest = if splits c then Some rest ∷ [] else []
+  behind_of (only_where c line) n rest = []
+  behind_of (check about c line) n rest = []
   behind_of (branch c first second line) n rest =
       behind_in first n (mark (join_of first second n) ∷ rest)
       ++ (behind_in second (n + points_in first) (mark (join_of first second n) ∷ rest)

@@ -1,7 +1,7 @@
 -- Why a program has no flow within the limits.
 use Rattle.std.specs.Prelude.{ℕ, ◌||◌, Bool, true, false, List, [], ◌∷◌, ◌++◌, Option, Some, None, length, nat_lt, option_map, position}
 use Rattle.std.specs.Prelude.{if◌then◌else◌}
-use Rattle.lang_tree.specs.Tree.{Condition, Statement, Statements, set, havoc, assume, branch, loop, jump, label, nil, cons}
+use Rattle.lang_tree.specs.Tree.{Condition, Statement, Statements, set, havoc, assume, only_where, check, branch, loop, jump, label, nil, cons}
 use Rattle.lang_tree.specs.Cases.{cases_of}
 use Rattle.lang_tree.specs.PointNumbers.{point_count}
 use Rattle.flow_edges.specs.declared.edge.Edge.{Edge}
@@ -20,11 +20,13 @@ line_if b line = if b then line ∷ [] else []
 
 abbrev mutual
   -- the lines of a statement and of those in it, in order of the text,
-  -- whose condition has more than 64 cases for a truth that is used: an assumption uses true alone
+  -- whose condition has more than 64 cases for a truth that is used: an assumption and a `where` use true alone, a check false alone
   pub wide_lines_of : Statement → List ℕ
   wide_lines_of (set var form line) = []
   wide_lines_of (havoc var line) = []
   wide_lines_of (assume c line) = line_if (is_wide true c) line
+  wide_lines_of (only_where c line) = line_if (is_wide true c) line
+  wide_lines_of (check about c line) = line_if (is_wide false c) line
   wide_lines_of (branch c first second line) = line_if (is_wide true c || is_wide false c) line
       ++ (wide_lines_in first ++ wide_lines_in second)
   wide_lines_of (loop kind c body line) = line_if (is_wide true c || is_wide false c) line ++ wide_lines_in body

@@ -3,7 +3,7 @@ use Rattle.std.specs.Prelude.{◌==◌, ◌&&◌, ◌||◌, ℕ, Bool, true, fal
 use Rattle.std.specs.List.{list_all}
 use Rattle.lang_tree.specs.Limits.{is_form}
 use Rattle.flow_edges.specs.declared.edge.Action.{Action}
-use Rattle.flow_edges.specs.declared.edge.Action.TheVariants.{Guard, Assign, Havoc}
+use Rattle.flow_edges.specs.declared.edge.Action.TheVariants.{Guard, Assign, Havoc, Check}
 use Rattle.flow_edges.specs.declared.edge.Edge.{Edge}
 use Rattle.flow_edges.specs.declared.point.Place.{Place}
 use Rattle.flow_edges.specs.declared.point.Place.TheVariants.{Entry, Loop, Label, Join, Assume, Exit}
@@ -43,6 +43,7 @@ abbrev pub is_action : ℕ → Action → Bool
 is_action n (Guard form) = is_form n form
 is_action n (Assign var form) = nat_lt var n && is_form n form
 is_action n (Havoc var) = nat_lt var n
+is_action n (Check about) = true
 
 -- it goes from a point to another than the entry, with at most 256 actions
 abbrev pub is_edge : ℕ → ℕ → Edge → Bool

@@ -9,3 +9,4 @@ pub mod Counts
 pub mod Faults
 pub mod Trails
 pub mod Places
+pub mod Checks

@@ -1,6 +1,6 @@
 -- The points of a program without their numbers.
 use Rattle.std.specs.Prelude.{ℕ, List, [], ◌∷◌, ◌++◌, if◌then◌else◌}
-use Rattle.lang_tree.specs.Tree.{Statement, Statements, set, havoc, assume, branch, loop, jump, label, nil, cons}
+use Rattle.lang_tree.specs.Tree.{Statement, Statements, set, havoc, assume, only_where, check, branch, loop, jump, label, nil, cons}
 use Rattle.lang_tree.specs.PointNumbers.{splits}
 use Rattle.flow_edges.specs.declared.point.Place.{Place}
 use Rattle.flow_edges.specs.declared.point.Place.TheVariants.{Loop, Label, Join, Assume}
@@ -16,6 +16,8 @@ abbrev mutual
   places_of (set var form line) = []
   places_of (havoc var line) = []
   places_of (assume c line) = if splits c then one_point Assume line else []
+  places_of (only_where c line) = []
+  places_of (check about c line) = []
   places_of (branch c first second line) = places_in first ++ (places_in second ++ one_point Join line)
   places_of (loop kind c body line) = one_point Loop line ++ places_in body
   places_of (jump kind line) = []

@@ -1,6 +1,6 @@
 -- The points of a program in order, with their places and lines.
 use Rattle.std.specs.Prelude.{ℕ, ◌+◌, List, [], ◌∷◌, ◌++◌, map, if◌then◌else◌}
-use Rattle.lang_tree.specs.Tree.{Statement, Statements, set, havoc, assume, branch, loop, jump, label, nil, cons}
+use Rattle.lang_tree.specs.Tree.{Statement, Statements, set, havoc, assume, only_where, check, branch, loop, jump, label, nil, cons}
 use Rattle.lang_tree.specs.PointNumbers.{splits, points_of, points_in, join_of}
 use Rattle.flow_edges.specs.declared.point.Place.{Place}
 use Rattle.flow_edges.specs.declared.point.Place.TheVariants.{Entry, Loop, Label, Join, Assume, Exit}
@@ -21,6 +21,8 @@ abbrev mutual
   made_by (set var form line) n = []
   made_by (havoc var line) n = []
   made_by (assume c line) n = if splits c then made n Assume line ∷ [] else []
+  made_by (only_where c line) n = []
+  made_by (check about c line) n = []
   made_by (branch c first second line) n = made_in first n ++ (made_in second (n + points_in first)
       ++ made (join_of first second n) Join line ∷ [])
   made_by (loop kind c body line) n = made n Loop line ∷ made_in body (n + 1)

@@ -1,14 +1,15 @@
 -- Labelled steps: what may be done with an item of work whatever the state, and the actions that this records.
 use Rattle.std.specs.Prelude.{◌≡◌, Bool, true, false, ℤ, pos, ◌≤ℤ◌, List, [], ◌∷◌, ◌++◌, map, slice_set, if◌then◌else◌}
 use Rattle.lang_tree.specs.declared.form.Form.{Form}
-use Rattle.lang_tree.specs.Tree.{Condition, while_loop, for_loop, do_loop, breaks, continues, set, havoc, assume, branch, loop, jump, label}
+use Rattle.lang_tree.specs.Tree.{Condition, while_loop, for_loop, do_loop, breaks, continues, set, havoc, assume}
+use Rattle.lang_tree.specs.Tree.{only_where, check, branch, loop, jump, label}
 use Rattle.lang_tree.specs.Cases.{cases_of}
 use Rattle.lang_tree.specs.Meaning.{State, value}
 use Rattle.lang_tree.specs.PointNumbers.{splits}
 use Rattle.lang_tree.specs.Runs.{Item, node, mark, turn, end, branch_work, head_work, turn_work, change_work, repeat_work, past_loop}
 use Rattle.lang_tree.specs.Runs.{end_of_body}
 use Rattle.flow_edges.specs.declared.edge.Action.{Action}
-use Rattle.flow_edges.specs.declared.edge.Action.TheVariants.{Guard, Assign, Havoc}
+use Rattle.flow_edges.specs.declared.edge.Action.TheVariants.{Guard, Assign, Havoc, Check}
 
 -- the actions recorded, and the work that is left then
 pub record Labelled : Type 0 where
@@ -33,6 +34,8 @@ steps_of (mark p) rest = []
 steps_of (node (set var form line) n) rest = labelled (Assign var form ∷ []) rest ∷ []
 steps_of (node (havoc var line) n) rest = labelled (Havoc var ∷ []) rest ∷ []
 steps_of (node (assume c line) n) rest = choices true c (if splits c then mark n ∷ rest else rest)
+steps_of (node (only_where c line) n) rest = choices true c rest
+steps_of (node (check about c line) n) rest = labelled (Check about ∷ []) rest ∷ []
 steps_of (node (branch c first second line) n) rest =
     choices true c (branch_work true first second n rest) ++ choices false c (branch_work false first second n rest)
 steps_of (node (loop kind c body line) n) rest = labelled [] (mark n ∷ head_work kind c body line n rest) ∷ []
@@ -47,9 +50,10 @@ steps_of (end do_loop c body line n) rest = choices true c (repeat_work true c b
     ++ choices false c (repeat_work false c body line n rest)
 
 -- actions lead from one integer state to another: a guard is at most 0, an assignment sets one place to the form's value, a free one to any
--- integer
+-- integer, and a check changes nothing
 abbrev pub Acts : List Action → State → State → Type 0
 Acts [] x y = y ≡ x
 Acts (Guard form ∷ actions) x y = (value form x ≤ℤ pos 0) × Acts actions x y
 Acts (Assign var form ∷ actions) x y = Acts actions (slice_set x var (value form x)) y
 Acts (Havoc var ∷ actions) x y = (z : ℤ) × Acts actions (slice_set x var z) y
+Acts (Check about ∷ actions) x y = Acts actions x y

@@ -1,7 +1,7 @@
 -- Edges that are walked, action by action.
 use Rattle.std.specs.Prelude.{ℕ, ◌+◌, ◌||◌, true, false, List, [], ◌++◌, map, flat_map, take, if◌then◌else◌}
 use Rattle.lang_tree.specs.declared.form.Form.{Form}
-use Rattle.lang_tree.specs.Tree.{Condition, Statement, Statements, set, havoc, assume, branch, loop, jump, label, nil, cons}
+use Rattle.lang_tree.specs.Tree.{Condition, Statement, Statements, set, havoc, assume, only_where, check, branch, loop, jump, label, nil, cons}
 use Rattle.lang_tree.specs.PointNumbers.{splits, points_of, points_in, join_of, exit_of}
 use Rattle.flow_edges.specs.declared.edge.Action.{Action}
 use Rattle.flow_edges.specs.declared.edge.Edge.{Edge}
@@ -52,6 +52,8 @@ abbrev mutual
   edges_in_node (set var form line) n jumps next = []
   edges_in_node (havoc var line) n jumps next = []
   edges_in_node (assume c line) n jumps next = if splits c then reached (begun_at n) next else []
+  edges_in_node (only_where c line) n jumps next = []
+  edges_in_node (check about c line) n jumps next = []
   edges_in_node (branch c first second line) n jumps next =
       edges_in_nodes first n jumps (arrived (join_of first second n))
       ++ (edges_in_nodes second (n + points_in first) jumps (arrived (join_of first second n))
@@ -73,6 +75,8 @@ abbrev pub edges_in_loop : Statement → ℕ → List Way → List Edge
 edges_in_loop (set var form line) n next = []
 edges_in_loop (havoc var line) n next = []
 edges_in_loop (assume c line) n next = []
+edges_in_loop (only_where c line) n next = []
+edges_in_loop (check about c line) n next = []
 edges_in_loop (branch c first second line) n next = []
 edges_in_loop (loop kind c body line) n next = edges_in_node (loop kind c body line) n no_jumps next
 edges_in_loop (jump kind line) n next = []

@@ -30,6 +30,8 @@ pub(crate) fn completes(stmt: &Stmt) -> bool
         Stmt::Set { .. }
         | Stmt::Havoc { .. }
         | Stmt::Assume { .. }
+        | Stmt::Where { .. }
+        | Stmt::Check { .. }
         | Stmt::While { .. }
         | Stmt::Do { .. }
         | Stmt::For { .. }

@@ -33,7 +33,12 @@ pub(crate) fn points_of(stmt: &Stmt) -> u32
     ensures { result ≡ points_of (statement_of stmt.now) }
 {
     match stmt {
-        Stmt::Set { .. } | Stmt::Havoc { .. } | Stmt::Break { .. } | Stmt::Continue { .. } => 0,
+        Stmt::Set { .. }
+        | Stmt::Havoc { .. }
+        | Stmt::Where { .. }
+        | Stmt::Check { .. }
+        | Stmt::Break { .. }
+        | Stmt::Continue { .. } => 0,
         Stmt::Assume { cond, .. } => { if splits(cond) { 1 } else { 0 } }
         Stmt::If { first, second, .. } => points_in(first.as_slice())
             + points_in(second.as_slice())

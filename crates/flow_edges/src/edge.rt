@@ -1,7 +1,7 @@
 //! What is done on the way from one point to the next.
 
 use base_list::Sequence;
-use lang_tree::Form;
+use lang_tree::{Check, Form};
 
 /// One action of an edge. Variables are numbered from 0 in order of declaration.
 #[derive(Drop)]
@@ -12,6 +12,8 @@ pub enum Action {
     Assign { var: u32, form: Form },
     /// The variable takes any value.
     Havoc { var: u32 },
+    /// Nothing happens: a check of the program stands here.
+    Check(Check),
 }
 
 /// Actions in order.

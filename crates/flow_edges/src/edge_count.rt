@@ -41,7 +41,8 @@ fn way_count(stmts: &[Stmt], jumps: JumpCounts, next: u32) -> u32
         return next;
     };
     match stmt {
-        Stmt::Set { .. } | Stmt::Havoc { .. } => way_count(rest, jumps, next),
+        Stmt::Set { .. } | Stmt::Havoc { .. } | Stmt::Check { .. } => way_count(rest, jumps, next),
+        Stmt::Where { cond, .. } => product(case_count(cond, true), way_count(rest, jumps, next)),
         Stmt::Assume { cond, .. } => {
             if splits(cond) {
                 case_count(cond, true)
@@ -92,7 +93,12 @@ fn edge_count_of(stmt: &Stmt, jumps: JumpCounts, next: u32) -> u32
     ensures { result ≡ min (edge_count_of (statement_of stmt.now) jumps next) ENOUGH }
 {
     match stmt {
-        Stmt::Set { .. } | Stmt::Havoc { .. } | Stmt::Break { .. } | Stmt::Continue { .. } => 0,
+        Stmt::Set { .. }
+        | Stmt::Havoc { .. }
+        | Stmt::Where { .. }
+        | Stmt::Check { .. }
+        | Stmt::Break { .. }
+        | Stmt::Continue { .. } => 0,
         Stmt::Assume { cond, .. } => { if splits(cond) { next } else { 0 } }
         Stmt::If { first, second, .. } => sum(
             edge_count_in(first.as_slice(), jumps, 1),

@@ -54,6 +54,15 @@ pub(crate) fn walk(
             longer.add(Action::Havoc { var: *var })?;
             walk(alloc, edges, longer, rest, later, jumps, next)
         }
+        Stmt::Check { check, .. } => {
+            let mut longer = trail;
+            longer.add(Action::Check(*check))?;
+            walk(alloc, edges, longer, rest, later, jumps, next)
+        }
+        Stmt::Where { cond, .. } => {
+            let allowed = list_cases(alloc, cond, true)?;
+            walk_cases(alloc, edges, &trail, &allowed, rest, later, jumps, next)
+        }
         Stmt::Assume { cond, .. } => {
             let cases = list_cases(alloc, cond, true)?;
             if cases.as_slice().len() > 1 {

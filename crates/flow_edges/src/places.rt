@@ -46,9 +46,12 @@ fn add_points_in(points: &mut Vec<Point>, stmt: &Stmt) -> Result<(), AllocError>
     ensures { OnOk result (points.new.items ≡ points.old.items ++ places_of (statement_of stmt.now)) }
 {
     match stmt {
-        Stmt::Set { .. } | Stmt::Havoc { .. } | Stmt::Break { .. } | Stmt::Continue { .. } => Ok(
-            (),
-        ),
+        Stmt::Set { .. }
+        | Stmt::Havoc { .. }
+        | Stmt::Where { .. }
+        | Stmt::Check { .. }
+        | Stmt::Break { .. }
+        | Stmt::Continue { .. } => Ok(()),
         Stmt::Assume { cond, line } => {
             if splits(cond) {
                 add_point(points, Place::Assume, *line)

@@ -92,9 +92,12 @@ fn add_edges_in(
 {
     let later = first + points_of(stmt);
     match stmt {
-        Stmt::Set { .. } | Stmt::Havoc { .. } | Stmt::Break { .. } | Stmt::Continue { .. } => {
-            Ok(())
-        }
+        Stmt::Set { .. }
+        | Stmt::Havoc { .. }
+        | Stmt::Where { .. }
+        | Stmt::Check { .. }
+        | Stmt::Break { .. }
+        | Stmt::Continue { .. } => Ok(()),
         Stmt::Assume { cond, .. } => {
             if splits(cond) {
                 let trail = Trail::new(alloc, first);
@@ -192,6 +195,8 @@ fn add_loop(
         Stmt::Set { .. }
         | Stmt::Havoc { .. }
         | Stmt::Assume { .. }
+        | Stmt::Where { .. }
+        | Stmt::Check { .. }
         | Stmt::If { .. }
         | Stmt::Break { .. }
         | Stmt::Continue { .. }

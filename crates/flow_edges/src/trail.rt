@@ -122,5 +122,6 @@ fn copy(action: &Action) -> Result<Action, AllocError>
             Ok(Action::Assign { var: *var, form })
         }
         Action::Havoc { var } => Ok(Action::Havoc { var: *var }),
+        Action::Check(check) => Ok(Action::Check(*check)),
     }
 }

@@ -31,7 +31,14 @@ fn wide_line_in(stmt: &Stmt) -> Option<u32>
         | Stmt::Break { .. }
         | Stmt::Continue { .. }
         | Stmt::Label { .. } => None,
-        Stmt::Assume { cond, line } => {
+        Stmt::Check { cond, line, .. } => {
+            if is_wide(cond, false) {
+                Some(*line)
+            } else {
+                None
+            }
+        }
+        Stmt::Assume { cond, line } | Stmt::Where { cond, line } => {
             if is_wide(cond, true) {
                 Some(*line)
             } else {

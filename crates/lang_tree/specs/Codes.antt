@@ -9,7 +9,10 @@ use Rattle.lang_tree.specs.declared.change.Change.{Change}
 use Rattle.lang_tree.specs.declared.change.Change.TheVariants as change
 use Rattle.lang_tree.specs.Tree.{Condition, free, compare, negation, both, either, LoopKind, while_loop, for_loop, do_loop, Jump, breaks}
 use Rattle.lang_tree.specs.Tree.{continues}
-use Rattle.lang_tree.specs.Tree.{Statement, Statements, set, havoc, assume, branch, loop, jump, label, nil, cons}
+use Rattle.lang_tree.specs.declared.check.Check.{Check}
+use Rattle.lang_tree.specs.declared.check.CheckKind.{CheckKind}
+use Rattle.lang_tree.specs.declared.check.CheckKind.TheVariants.{Assert}
+use Rattle.lang_tree.specs.Tree.{Statement, Statements, set, havoc, assume, only_where, check, branch, loop, jump, label, nil, cons}
 
 -- ---- numbers, names and forms
 -- the code of a number
@@ -166,6 +169,30 @@ unfolding jump_from
 jump_back breaks = refl
 jump_back continues = refl
 
+-- ---- checks
+-- the code of a kind of check
+abbrev pub check_kind_code : CheckKind → Gv
+check_kind_code Assert = gnil
+
+check_kind_from : Gv → CheckKind
+check_kind_from g = Assert
+
+check_kind_back : (k : CheckKind) → check_kind_from (check_kind_code k) ≡ k
+unfolding check_kind_from
+check_kind_back Assert = refl
+
+-- the code of a check
+abbrev pub check_code : Check → Gv
+check_code about = gcons (check_kind_code about.kind) (gnum about.at)
+
+check_from : Gv → Check
+check_from (gcons kind (gnum at)) = record { kind = check_kind_from kind; at = at }
+check_from g = record { kind = Assert; at = 0 }
+
+check_back : (about : Check) → check_from (check_code about) ≡ about
+unfolding check_from
+check_back about = ap (λ k. let r : Check = record { kind = k; at = about.at } in r) (check_kind_back about.kind)
+
 -- ---- statements
 abbrev mutual
   -- the code of a statement
@@ -179,6 +206,8 @@ abbrev mutual
       gcons (gnum 4) (gcons (kind_code kind) (gcons (condition_code cond) (gcons (statements_code body) (gnum line))))
   statement_code (jump kind line) = gcons (gnum 5) (gcons (jump_code kind) (gnum line))
   statement_code (label name line) = gcons (gnum 6) (gcons (name_code name) (gnum line))
+  statement_code (only_where cond line) = gcons (gnum 7) (gcons (condition_code cond) (gnum line))
+  statement_code (check about cond line) = gcons (gnum 8) (gcons (check_code about) (gcons (condition_code cond) (gnum line)))
 
   -- the code of a list of statements
   pub statements_code : Statements → Gv
@@ -195,7 +224,10 @@ mutual
   statement_from (gcons (gnum (suc (suc (suc (suc zero))))) (gcons kind (gcons cond (gcons body (gnum line))))) =
       loop (kind_from kind) (condition_from cond) (statements_from body) line
   statement_from (gcons (gnum (suc (suc (suc (suc (suc zero)))))) (gcons kind (gnum line))) = jump (jump_from kind) line
-  statement_from (gcons (gnum (suc (suc (suc (suc (suc (suc k))))))) (gcons name (gnum line))) = label (name_from name) line
+  statement_from (gcons (gnum (suc (suc (suc (suc (suc (suc zero))))))) (gcons name (gnum line))) = label (name_from name) line
+  statement_from (gcons (gnum (suc (suc (suc (suc (suc (suc (suc zero)))))))) (gcons cond (gnum line))) = only_where (condition_from cond) line
+  statement_from (gcons (gnum (suc (suc (suc (suc (suc (suc (suc (suc k))))))))) (gcons about (gcons cond (gnum line)))) =
+      check (check_from about) (condition_from cond) line
   statement_from g = havoc 0 0
 
   statements_from : Gv → Statements
@@ -217,6 +249,8 @@ mutual
       ∙ ap (λ b. loop kind cond b line) (statements_back body)
   statement_back (jump kind line) = ap (λ j. jump j line) (jump_back kind)
   statement_back (label name line) = ap (λ n. label n line) (name_back name)
+  statement_back (only_where cond line) = ap (λ c. only_where c line) (condition_back cond)
+  statement_back (check about cond line) = ap₂ (λ a c. check a c line) (check_back about) (condition_back cond)
 
   statements_back : (ss : Statements) → statements_from (statements_code ss) ≡ ss
   statements_back nil = refl

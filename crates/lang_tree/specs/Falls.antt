@@ -3,7 +3,7 @@ use Rattle.std.specs.Prelude.{◌≤◌, List, [], ◌∷◌}
 use Rattle.std.proofs.Common.{arith}
 use denote.Param.Weighed.{most}
 use Rattle.lang_tree.specs.declared.stmt.Stmt.{Stmt}
-use Rattle.lang_tree.specs.declared.stmt.Stmt.TheVariants.{Set, Havoc, Assume, If, While, Do, For, Break, Continue, Label}
+use Rattle.lang_tree.specs.declared.stmt.Stmt.TheVariants.{Set, Havoc, Assume, Where, Check, If, While, Do, For, Break, Continue, Label}
 use Rattle.lang_tree.specs.declared.stmt.Block.TheDeep.{deep-Stmt}
 use Rattle.lang_tree.specs.Tree.{node_count, nodes_in}
 use Rattle.lang_tree.specs.View.{statement_of, statements_of}
@@ -12,6 +12,8 @@ deep_one : (s : Stmt) → deep-Stmt s ≤ node_count (statement_of s)
 deep_one (Set var form line) = omega arith
 deep_one (Havoc var line) = omega arith
 deep_one (Assume cond line) = omega arith
+deep_one (Where cond line) = omega arith
+deep_one (Check about cond line) = omega arith
 deep_one (If cond first second line) = omega arith
 deep_one (While cond body line) = omega arith
 deep_one (Do cond body line) = omega arith

@@ -5,7 +5,7 @@ use Rattle.lang_tree.specs.declared.form.Form.{Form}
 use Rattle.lang_tree.specs.declared.change.Change.{Change}
 use Rattle.lang_tree.specs.declared.change.Change.TheVariants as change
 use Rattle.lang_tree.specs.Tree.{Condition, free, compare, negation, both, either, leaf_count, LoopKind, while_loop, for_loop, do_loop}
-use Rattle.lang_tree.specs.Tree.{Statement, Statements, set, havoc, assume, branch, loop, jump, label}
+use Rattle.lang_tree.specs.Tree.{Statement, Statements, set, havoc, assume, only_where, check, branch, loop, jump, label}
 use Rattle.lang_tree.specs.Tree.{nil, cons, nodes_in}
 use Rattle.lang_tree.specs.declared.limits.TheConstants.{MOST_VARIABLES}
 
@@ -47,6 +47,8 @@ abbrev mutual
   is_statement n inside (set var form line) = nat_lt var n && is_form n form
   is_statement n inside (havoc var line) = nat_lt var n
   is_statement n inside (assume cond line) = is_tested n cond
+  is_statement n inside (only_where cond line) = is_tested n cond
+  is_statement n inside (check about cond line) = is_tested n cond
   is_statement n inside (branch cond first second line) = is_tested n cond
       && (are_statements n inside first && are_statements n inside second)
   is_statement n inside (loop kind cond body line) = is_tested n cond && (is_kind n kind && are_statements n true body)

@@ -1,6 +1,6 @@
 -- How many points a statement makes. Points are numbered along the statements in order; the entry is 0.
 use Rattle.std.specs.Prelude.{ℕ, ◌+◌, Bool, true, nat_lt, if◌then◌else◌, length}
-use Rattle.lang_tree.specs.Tree.{Condition, Statement, Statements, set, havoc, assume, branch, loop, jump, label, nil, cons}
+use Rattle.lang_tree.specs.Tree.{Condition, Statement, Statements, set, havoc, assume, only_where, check, branch, loop, jump, label, nil, cons}
 use Rattle.lang_tree.specs.Cases.{cases_of}
 
 -- an assumption makes a point where it has more than one case
@@ -13,6 +13,8 @@ abbrev mutual
   points_of (set var form line) = 0
   points_of (havoc var line) = 0
   points_of (assume c line) = if splits c then 1 else 0
+  points_of (only_where c line) = 0
+  points_of (check about c line) = 0
   points_of (branch c first second line) = points_in first + points_in second + 1
   points_of (loop kind c body line) = 1 + points_in body
   points_of (jump kind line) = 0

@@ -1,9 +1,10 @@
 -- Runs of a program over integer states, by the list of work that is left to do.
-use Rattle.std.specs.Prelude.{◌≡◌, ℕ, ℤ, ◌+◌, Bool, true, List, [], ◌∷◌, ◌++◌, length, slice_set, if◌then◌else◌}
+use Rattle.std.specs.Prelude.{◌≡◌, ℕ, ℤ, ◌+◌, Bool, true, false, List, [], ◌∷◌, ◌++◌, length, slice_set, if◌then◌else◌, Contains}
 use Rattle.lang_tree.specs.declared.change.Change.{Change}
 use Rattle.lang_tree.specs.declared.change.Change.TheVariants as change
+use Rattle.lang_tree.specs.declared.check.Check.{Check}
 use Rattle.lang_tree.specs.Tree.{Condition, LoopKind, while_loop, for_loop, do_loop, breaks, continues}
-use Rattle.lang_tree.specs.Tree.{Statement, Statements, set, havoc, assume, branch, loop, jump, label, nil, cons}
+use Rattle.lang_tree.specs.Tree.{Statement, Statements, set, havoc, assume, only_where, check, branch, loop, jump, label, nil, cons}
 use Rattle.lang_tree.specs.Meaning.{State, value, MayBe}
 use Rattle.lang_tree.specs.PointNumbers.{splits, points_of, points_in, join_of, exit_of}
 
@@ -75,6 +76,8 @@ Does (mark p) rest x work y = (work ≡ rest) × (y ≡ x)
 Does (node (set var form line) n) rest x work y = (work ≡ rest) × (y ≡ slice_set x var (value form x))
 Does (node (havoc var line) n) rest x work y = (z : ℤ) × (work ≡ rest) × (y ≡ slice_set x var z)
 Does (node (assume c line) n) rest x work y = MayBe true c x × (work ≡ (if splits c then mark n ∷ rest else rest)) × (y ≡ x)
+Does (node (only_where c line) n) rest x work y = MayBe true c x × (work ≡ rest) × (y ≡ x)
+Does (node (check about c line) n) rest x work y = (work ≡ rest) × (y ≡ x)
 Does (node (branch c first second line) n) rest x work y = (truth : Bool) × MayBe truth c x × (work ≡ branch_work truth first second n rest)
     × (y ≡ x)
 Does (node (loop kind c body line) n) rest x work y = (work ≡ mark n ∷ head_work kind c body line n rest) × (y ≡ x)
@@ -111,3 +114,11 @@ IsRun variables body (c ∷ cs) = (c.work ≡ start_work body) × (length c.stat
 -- a configuration is at a point where the point's mark is the first item
 abbrev pub IsAt : Configuration → ℕ → Type 0
 IsAt c p = (rest : List Item) × (c.work ≡ mark p ∷ rest)
+
+-- a configuration is at a check with a condition where this node is the first item
+abbrev pub IsAtCheck : Configuration → Check → Condition → Type 0
+IsAtCheck c about cond = (line n : ℕ) × (rest : List Item) × (c.work ≡ node (check about cond line) n ∷ rest)
+
+-- a check with a condition is true in a run: where it stands the condition may not be false
+abbrev pub CheckIsTrue : Check → Condition → List Configuration → Type 0
+CheckIsTrue about cond run = (now : Configuration) → Contains run now → IsAtCheck now about cond → ¬ (MayBe false cond now.state)

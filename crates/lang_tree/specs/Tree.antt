@@ -4,6 +4,7 @@ use Rattle.lang_tree.specs.declared.form.Form.{Form}
 use Rattle.lang_tree.specs.declared.cond.Rel.{Rel}
 use Rattle.lang_tree.specs.declared.change.Change.{Change}
 use Rattle.lang_tree.specs.declared.change.Change.TheVariants as change
+use Rattle.lang_tree.specs.declared.check.Check.{Check}
 
 -- a choice that is left open, a comparison of a form with 0, or made of conditions
 pub data Condition : Type 0 where
@@ -30,6 +31,8 @@ mutual
     set : (var : ℕ) (form : Form) (line : ℕ) → Statement
     havoc : (var line : ℕ) → Statement
     assume : (cond : Condition) (line : ℕ) → Statement
+    only_where : (cond : Condition) (line : ℕ) → Statement
+    check : Check → (cond : Condition) (line : ℕ) → Statement
     branch : (cond : Condition) (first second : Statements) (line : ℕ) → Statement
     loop : (kind : LoopKind) (cond : Condition) (body : Statements) (line : ℕ) → Statement
     jump : Jump → (line : ℕ) → Statement
@@ -66,6 +69,8 @@ abbrev mutual
   node_count (set var form line) = 1
   node_count (havoc var line) = 1
   node_count (assume cond line) = 1
+  node_count (only_where cond line) = 1
+  node_count (check about cond line) = 1
   node_count (branch cond first second line) = 1 + nodes_in first + nodes_in second
   node_count (loop kind cond body line) = 1 + kind_count kind + nodes_in body
   node_count (jump kind line) = 1

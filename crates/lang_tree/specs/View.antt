@@ -3,9 +3,9 @@ use Rattle.std.specs.Prelude.{List, [], ◌∷◌}
 use Rattle.lang_tree.specs.declared.cond.Cond.{Cond, fold-Cond}
 use Rattle.lang_tree.specs.declared.cond.Cond.TheOpen.{Cond-F}
 use Rattle.lang_tree.specs.declared.stmt.Stmt.{Stmt}
-use Rattle.lang_tree.specs.declared.stmt.Stmt.TheVariants.{Set, Havoc, Assume, If, While, Do, For, Break, Continue, Label}
-use Rattle.lang_tree.specs.Tree.{Condition, free, compare, negation, both, either, Statement, Statements, set, havoc, assume, branch, loop}
-use Rattle.lang_tree.specs.Tree.{jump, label, nil, cons}
+use Rattle.lang_tree.specs.declared.stmt.Stmt.TheVariants.{Set, Havoc, Assume, Where, Check, If, While, Do, For, Break, Continue, Label}
+use Rattle.lang_tree.specs.Tree.{Condition, free, compare, negation, both, either, Statement, Statements, set, havoc, assume}
+use Rattle.lang_tree.specs.Tree.{only_where, check, branch, loop, jump, label, nil, cons}
 use Rattle.lang_tree.specs.Tree.{while_loop, for_loop, do_loop, breaks, continues}
 
 -- one level of a condition
@@ -25,6 +25,8 @@ abbrev pub statement_of : Stmt → Statement
 statement_of (Set var form line) = set var form line
 statement_of (Havoc var line) = havoc var line
 statement_of (Assume cond line) = assume (condition_of cond) line
+statement_of (Where cond line) = only_where (condition_of cond) line
+statement_of (Check about cond line) = check about (condition_of cond) line
 statement_of (If cond first second line) = branch (condition_of cond) first second line
 statement_of (While cond body line) = loop while_loop (condition_of cond) body line
 statement_of (Do cond body line) = loop do_loop (condition_of cond) body line

@@ -1,10 +1,11 @@
 //! Conditions.
 
-ghost use Rattle.std.specs.Prelude.{◌≡◌, ◌<◌, ◌^◌};
+ghost use Rattle.std.specs.Prelude.{◌≡◌, ◌<◌, ◌^◌, IfOk};
 ghost use Rattle.lang_tree.specs.Tree.{leaf_count};
 ghost use Rattle.lang_tree.specs.View.{condition_of};
 
 use crate::form::Form;
+use std::alloc::{AllocError, Global};
 
 /// How a form is compared with 0.
 #[derive(Clone, Copy, Debug, PartialEq, Eq)]
@@ -25,6 +26,29 @@ pub enum Cond {
     Not(Box<Cond>),
     Both(Box<Cond>, Box<Cond>),
     Either(Box<Cond>, Box<Cond>),
+}
+
+impl Cond {
+    /// The same condition once more.
+    pub fn again(&self, alloc: Global) -> Result<Cond, AllocError>
+        ensures { IfOk result (λ copy. condition_of copy ≡ condition_of self.now) }
+    {
+        match self {
+            Cond::Free => Ok(Cond::Free),
+            Cond::Cmp(rel, form) => Ok(Cond::Cmp(*rel, form.again()?)),
+            Cond::Not(inner) => Ok(Cond::Not(Box::new(alloc, inner.again(alloc)?)?)),
+            Cond::Both(first, second) => {
+                let first = first.again(alloc)?;
+                let second = second.again(alloc)?;
+                Ok(Cond::Both(Box::new(alloc, first)?, Box::new(alloc, second)?))
+            }
+            Cond::Either(first, second) => {
+                let first = first.again(alloc)?;
+                let second = second.again(alloc)?;
+                Ok(Cond::Either(Box::new(alloc, first)?, Box::new(alloc, second)?))
+            }
+        }
+    }
 }
 
 /// The number of `Free` and `Cmp` nodes.

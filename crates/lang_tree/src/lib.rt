@@ -4,6 +4,7 @@
 #![tactic(auto)]
 
 mod change;
+mod check;
 mod cond;
 mod form;
 mod law;
@@ -13,6 +14,7 @@ mod program;
 mod stmt;
 
 pub use change::Change;
+pub use check::{Check, CheckKind};
 pub use cond::{Cond, Rel, leaves};
 pub use form::{Coeffs, Form};
 pub use law::cases_are_truth;

@@ -5,6 +5,7 @@ ghost use Rattle.lang_tree.specs.Tree.{change_count, node_count, nodes_in};
 ghost use Rattle.lang_tree.specs.View.{statement_of, statements_of};
 
 use crate::change::Change;
+use crate::check::Check;
 use crate::cond::Cond;
 use crate::form::Form;
 use crate::name::Name;
@@ -27,6 +28,17 @@ pub enum Stmt {
     },
     /// The run goes on only where the condition may be true.
     Assume {
+        cond: Cond,
+        line: u32,
+    },
+    /// The run goes on only where the condition may be true. Unlike an `Assume` it makes no point, whatever its cases.
+    Where {
+        cond: Cond,
+        line: u32,
+    },
+    /// Nothing happens. The condition is one that may not be false here.
+    Check {
+        check: Check,
         cond: Cond,
         line: u32,
     },
