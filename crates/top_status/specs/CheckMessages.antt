@@ -51,6 +51,7 @@ cause_has_unknown (Check fault) = fault_has_unknown fault
 
 abbrev pub has_unknown : Status → Bool
 has_unknown status.Done = false
+has_unknown status.Open = false
 has_unknown (status.Certificate cause) = cause_has_unknown cause
 has_unknown status.Usage = false
 has_unknown (status.Read cause) = false
