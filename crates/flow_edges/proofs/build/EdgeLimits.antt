@@ -6,12 +6,12 @@ use Rattle.lang_tree.specs.declared.form.Form.{Form}
 use Rattle.lang_tree.specs.declared.change.Change.{Change}
 use Rattle.lang_tree.specs.declared.change.Change.TheVariants as change
 use Rattle.lang_tree.specs.Tree.{Condition, LoopKind, while_loop, for_loop, do_loop, breaks, continues, leaf_count, node_count, nodes_in}
-use Rattle.lang_tree.specs.Tree.{Statement, Statements, set, havoc, assume, branch, loop, jump, label, nil, cons}
+use Rattle.lang_tree.specs.Tree.{Statement, Statements, set, havoc, assume, only_where, check, branch, loop, jump, label, nil, cons}
 use Rattle.lang_tree.specs.Limits.{is_condition, is_tested, is_change, is_kind, is_statement, are_statements}
 use Rattle.lang_tree.specs.Cases.{cases_of}
 use Rattle.lang_tree.specs.PointNumbers.{splits, points_of, points_in, join_of, exit_of}
 use Rattle.flow_edges.specs.declared.edge.Action.{Action}
-use Rattle.flow_edges.specs.declared.edge.Action.TheVariants.{Guard, Assign, Havoc}
+use Rattle.flow_edges.specs.declared.edge.Action.TheVariants.{Guard, Assign, Havoc, Check}
 use Rattle.flow_edges.specs.declared.edge.Edge.{Edge}
 use Rattle.flow_edges.specs.FlowLimits.{is_action}
 use Rattle.flow_edges.specs.Constants.{have_room, has_rooms, have_rooms}
@@ -32,6 +32,8 @@ mutual
   room_of n i (set var form line) h = refl
   room_of n i (havoc var line) h = refl
   room_of n i (assume c line) h = condition_room n c (tested n c h)
+  room_of n i (only_where c line) h = condition_room n c (tested n c h)
+  room_of n i (check about c line) h = condition_room n c (tested n c h)
   room_of n i (branch c first second line) h =
       let p = and_parts (is_tested n c) (are_statements n i first && are_statements n i second) h in
       let q = and_parts (are_statements n i first) (are_statements n i second) p.1 in
@@ -61,6 +63,8 @@ mutual
   few_of (set var form line) = omega arith
   few_of (havoc var line) = omega arith
   few_of (assume c line) = few_if (splits c)
+  few_of (only_where c line) = omega arith
+  few_of (check about c line) = omega arith
   few_of (branch c first second line) = omega (arith, few_in first, few_in second)
   few_of (loop kind c body line) = omega (arith, few_in body)
   few_of (jump kind line) = omega arith
@@ -120,6 +124,8 @@ module _ (n : ℕ) where
     ways_fit_of i (set var form line) p j next h k a = prefixed_fit (Assign var form ∷ []) next (h, tt) a
     ways_fit_of i (havoc var line) p j next h k a = prefixed_fit (Havoc var ∷ []) next (h, tt) a
     ways_fit_of i (assume c line) p j next h k a = by_case_fit true c _ h (if_fit (splits c) p next a)
+    ways_fit_of i (only_where c line) p j next h k a = by_case_fit true c next h a
+    ways_fit_of i (check about c line) p j next h k a = prefixed_fit (Check about ∷ []) next (refl, tt) a
     ways_fit_of i (branch c first second line) p j next h k a =
         let t = and_parts (is_tested n c) (are_statements n i first && are_statements n i second) h in
         let u = and_parts (are_statements n i first) (are_statements n i second) t.1 in
@@ -183,6 +189,8 @@ module _ (n : ℕ) where
     edges_fit_of i (set var form line) p j next h k a = tt
     edges_fit_of i (havoc var line) p j next h k a = tt
     edges_fit_of i (assume c line) p j next h k a = if_edges_fit (splits c) (reached (begun_at p) next) (reached_fit p next a)
+    edges_fit_of i (only_where c line) p j next h k a = tt
+    edges_fit_of i (check about c line) p j next h k a = tt
     edges_fit_of i (branch c first second line) p j next h k a =
         let t = and_parts (is_tested n c) (are_statements n i first && are_statements n i second) h in
         let u = and_parts (are_statements n i first) (are_statements n i second) t.1 in

@@ -2,7 +2,7 @@
 use Rattle.std.proofs.Common.{◌≡◌, ◌∙◌, ℕ, ◌+◌, ◌*◌, ◌≤◌, Bool, true, false, min, refl, sym, ap, arith}
 use Rattle.std.specs.Prelude.{◌||◌, if◌then◌else◌}
 use Rattle.lang_tree.specs.Tree.{Condition, LoopKind, while_loop, for_loop, do_loop, breaks, continues}
-use Rattle.lang_tree.specs.Tree.{Statement, Statements, set, havoc, assume, branch, loop, jump, label, nil, cons}
+use Rattle.lang_tree.specs.Tree.{Statement, Statements, set, havoc, assume, only_where, check, branch, loop, jump, label, nil, cons}
 use Rattle.lang_tree.specs.PointNumbers.{splits}
 use Rattle.flow_edges.specs.declared.edge_count.JumpCounts.{JumpCounts}
 use Rattle.flow_edges.specs.declared.saturated.TheConstants.{ENOUGH}
@@ -57,6 +57,8 @@ mutual
   same_ways_of (set var form line) j k m n a h = h
   same_ways_of (havoc var line) j k m n a h = h
   same_ways_of (assume c line) j k m n a h = same_product (case_count true c) _ _ (same_if (splits c) 1 1 m n (same 1) h)
+  same_ways_of (only_where c line) j k m n a h = same_product (case_count true c) m n h
+  same_ways_of (check about c line) j k m n a h = h
   same_ways_of (branch c first second line) j k m n a h = same_choice c _ _ _ _ (same_ways_in first j k 1 1 a (same 1))
       (same_ways_in second j k 1 1 a (same 1))
   same_ways_of (loop kind c body line) j k m n a h = same 1
@@ -100,6 +102,8 @@ mutual
   same_edges_of (set var form line) j k m n a h = same 0
   same_edges_of (havoc var line) j k m n a h = same 0
   same_edges_of (assume c line) j k m n a h = same_if (splits c) m n 0 0 h (same 0)
+  same_edges_of (only_where c line) j k m n a h = same 0
+  same_edges_of (check about c line) j k m n a h = same 0
   same_edges_of (branch c first second line) j k m n a h =
       same_sum (edge_count_in first j 1) (edge_count_in first k 1) _ _ (same_edges_in first j k 1 1 a (same 1))
       (same_sum (edge_count_in second j 1) (edge_count_in second k 1) _ _ (same_edges_in second j k 1 1 a (same 1))

@@ -3,11 +3,14 @@ use Rattle.std.proofs.Common.{◌≡◌, ◌∙◌, ℕ, ◌+◌, ◌≤◌, ◌
 use Rattle.std.specs.Prelude.{if◌then◌else◌}
 use Rattle.std.proofs.lemmas.Bool.{lt-ltb, le-ltb}
 use Rattle.lang_tree.specs.declared.form.Form.{Form}
-use Rattle.lang_tree.specs.Tree.{Condition, Statement, Statements, set, havoc, assume, branch, jump, breaks, continues, cons}
+use Rattle.lang_tree.specs.declared.check.Check.{Check}
+use Rattle.lang_tree.specs.Tree.{Condition, Statement, Statements, set, havoc, assume, only_where, check, branch, jump, breaks, continues}
+use Rattle.lang_tree.specs.Tree.{cons}
 use Rattle.lang_tree.specs.Cases.{cases_of}
 use Rattle.lang_tree.specs.PointNumbers.{splits, points_of, points_in, join_of}
 use Rattle.flow_edges.specs.declared.edge.Action.{Action}
 use Rattle.flow_edges.specs.declared.edge.Action.TheVariants.{Assign, Havoc}
+use Rattle.flow_edges.specs.declared.edge.Action.TheVariants as action
 use Rattle.flow_edges.specs.declared.edge.Edge.{Edge}
 use Rattle.flow_edges.specs.Edges.{Way, Jumps, arrived, by_case, ways_of, ways_in}
 use Rattle.flow_edges.specs.Trails.{Begun, followed, reached, split}
@@ -47,6 +50,23 @@ module _ (before after : List Edge) (b : Begun) (ss rest : Statements) (s : Stat
       let ways = ways_in rest (n + q) jumps next in
       let one : List Action = Havoc var ∷ [] in
       by_first (havoc var line) e (h ∙ ap (λ t. before ++ reached t ways) g ∙ ap (λ z. before ++ z) (sym (reached-prefixed b one ways)))
+
+  -- where a check comes first, the edges that record it and go on from there are those of the statements
+  pub walked_check : (about : Check) (c : Condition) (line : ℕ) (longer : Begun) → s ≡ check about c line
+      → longer ≡ followed b (action.Check about ∷ []) →
+      after ≡ before ++ reached longer (ways_in rest (n + q) jumps next) → after ≡ before ++ reached b (ways_in ss n jumps next)
+  walked_check about c line longer e g h =
+      let ways = ways_in rest (n + q) jumps next in
+      let one : List Action = action.Check about ∷ [] in
+      by_first (check about c line) e (h ∙ ap (λ t. before ++ reached t ways) g ∙ ap (λ z. before ++ z) (sym (reached-prefixed b one ways)))
+
+  -- where a condition that holds in silence comes first, the edges that go on by its cases are those of the statements
+  pub walked_where : (c : Condition) (line : ℕ) (cases : List (List Form)) → s ≡ only_where c line → cases ≡ cases_of true c →
+      after ≡ before ++ split b cases (ways_in rest (n + q) jumps next) → after ≡ before ++ reached b (ways_in ss n jumps next)
+  walked_where c line cases e f h =
+      let ways = ways_in rest (n + q) jumps next in
+      by_first (only_where c line) e
+      (h ∙ ap (λ z. before ++ split b z ways) f ∙ ap (λ z. before ++ z) (sym (reached-by_case b true c ways)))
 
   -- an assumption, by what comes after its cases
   assumed : (c : Condition) (line : ℕ) (cases : List (List Form)) (ways : List Way) → s ≡ assume c line → cases ≡ cases_of true c →

@@ -7,11 +7,11 @@ use Rattle.lang_tree.specs.declared.form.Form.{Form}
 use Rattle.lang_tree.specs.declared.change.Change.{Change}
 use Rattle.lang_tree.specs.declared.change.Change.TheVariants as change
 use Rattle.lang_tree.specs.Tree.{Condition, LoopKind, while_loop, for_loop, do_loop, breaks, continues}
-use Rattle.lang_tree.specs.Tree.{Statement, Statements, set, havoc, assume, branch, loop, jump, label, nil, cons}
+use Rattle.lang_tree.specs.Tree.{Statement, Statements, set, havoc, assume, only_where, check, branch, loop, jump, label, nil, cons}
 use Rattle.lang_tree.specs.Cases.{cases_of}
 use Rattle.lang_tree.specs.PointNumbers.{splits, points_of, points_in, join_of, exit_of}
 use Rattle.flow_edges.specs.declared.edge.Action.{Action}
-use Rattle.flow_edges.specs.declared.edge.Action.TheVariants.{Assign, Havoc}
+use Rattle.flow_edges.specs.declared.edge.Action.TheVariants.{Assign, Havoc, Check}
 use Rattle.flow_edges.specs.declared.edge.Edge.{Edge}
 use Rattle.flow_edges.specs.Steps.{guards}
 use Rattle.flow_edges.specs.declared.edge_count.JumpCounts.{JumpCounts}
@@ -63,6 +63,8 @@ mutual
   count_of (set var form line) n j d next k a e = length-prefixed (Assign var form ∷ []) next ∙ e
   count_of (havoc var line) n j d next k a e = length-prefixed (Havoc var ∷ []) next ∙ e
   count_of (assume c line) n j d next k a e = length-by_case true c _ _ (length-if (splits c) (arrived n) next 1 k refl e)
+  count_of (only_where c line) n j d next k a e = length-by_case true c next k e
+  count_of (check about c line) n j d next k a e = length-prefixed (Check about ∷ []) next ∙ e
   count_of (branch c first second line) n j d next k a e =
       let join = arrived (join_of first second n) in
       length-both c _ _ _ _ (count_in first n j d join 1 a refl) (count_in second (n + points_in first) j d join 1 a refl)
@@ -134,6 +136,8 @@ mutual
   edges_of_node (havoc var line) n j d next k a e = refl
   edges_of_node (assume c line) n j d next k a e = length-if_edges (splits c) (reached (begun_at n) next) k
       (length-reached (begun_at n) next k e)
+  edges_of_node (only_where c line) n j d next k a e = refl
+  edges_of_node (check about c line) n j d next k a e = refl
   edges_of_node (branch c first second line) n j d next k a e =
       let join = join_of first second n in
       joined (edges_in_nodes first n j (arrived join)) _ _ _ (edges_of_nodes first n j d (arrived join) 1 a refl)

@@ -3,7 +3,7 @@ use Rattle.std.proofs.Common.{◌≡◌, ◌∙◌, ℕ, zero, suc, ◌+◌, Boo
 use Rattle.std.proofs.Common.{append_assoc}
 use Rattle.std.specs.Prelude.{◌||◌, Some, None, if◌then◌else◌}
 use Rattle.std.proofs.lemmas.List.{map-append, append-nil}
-use Rattle.lang_tree.specs.Tree.{Statement, Statements, set, havoc, assume, branch, loop, jump, label, nil, cons}
+use Rattle.lang_tree.specs.Tree.{Statement, Statements, set, havoc, assume, only_where, check, branch, loop, jump, label, nil, cons}
 use Rattle.lang_tree.specs.PointNumbers.{splits, points_of, points_in, join_of, exit_of}
 use Rattle.lang_tree.specs.Runs.{Item, mark, end, nodes, head_work}
 use Rattle.flow_edges.specs.declared.edge.Edge.{Edge}
@@ -76,6 +76,8 @@ mutual
   walked_of (set var form line) n rest = refl
   walked_of (havoc var line) n rest = refl
   walked_of (assume c line) n rest = if-point (splits c) n rest
+  walked_of (only_where c line) n rest = refl
+  walked_of (check about c line) n rest = refl
   walked_of (branch c first second line) n rest =
       let join = join_of first second n in
       let work = mark join ∷ rest in

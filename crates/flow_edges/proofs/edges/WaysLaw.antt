@@ -7,7 +7,7 @@ use Rattle.std.proofs.lemmas.List.Folds.{flat_map-map}
 use Rattle.lang_tree.specs.declared.change.Change.{Change}
 use Rattle.lang_tree.specs.declared.change.Change.TheVariants as change
 use Rattle.lang_tree.specs.Tree.{Condition, LoopKind, while_loop, for_loop, do_loop, breaks, continues}
-use Rattle.lang_tree.specs.Tree.{Statement, Statements, set, havoc, assume, branch, loop, jump, label, nil, cons}
+use Rattle.lang_tree.specs.Tree.{Statement, Statements, set, havoc, assume, only_where, check, branch, loop, jump, label, nil, cons}
 use Rattle.lang_tree.specs.Cases.{cases_of}
 use Rattle.lang_tree.specs.PointNumbers.{splits, points_of, points_in, join_of}
 use Rattle.lang_tree.specs.Runs.{Item, node, mark, turn, end, nodes, branch_work, body_work, head_work, turn_work, change_work, repeat_work}
@@ -93,6 +93,8 @@ ways_law (node (set var form line) n) rest other = sym (append-nil _)
 ways_law (node (havoc var line) n) rest other = sym (append-nil _)
 ways_law (node (assume c line) n) rest other =
     sym (ways-choices true c (if splits c then mark n ∷ rest else rest) ∙ ap (by_case true c) (ways-if (splits c) n rest))
+ways_law (node (only_where c line) n) rest other = sym (ways-choices true c rest)
+ways_law (node (check about c line) n) rest other = sym (append-nil _)
 ways_law (node (branch c first second line) n) rest other =
     let join = mark (join_of first second n) ∷ rest in
     ways-both c (branch_work true first second n rest) (branch_work false first second n rest) _ _

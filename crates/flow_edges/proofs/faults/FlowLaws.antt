@@ -6,7 +6,8 @@ use Rattle.std.specs.List.{list_all, position_from}
 use Rattle.std.proofs.lemmas.Bool.{and_from, and_parts, leb-true, le-leb, lt-ltb, ltb-false}
 use Rattle.std.proofs.lemmas.List.{length-map, length-take, take_all}
 use Rattle.std.proofs.lemmas.Iterator.Adapters.{position_from-zero}
-use Rattle.lang_tree.specs.Tree.{Statement, Statements, set, havoc, assume, branch, loop, jump, label, nil, cons, nodes_in}
+use Rattle.lang_tree.specs.Tree.{Statement, Statements, set, havoc, assume, only_where, check, branch, loop, jump, label, nil, cons}
+use Rattle.lang_tree.specs.Tree.{nodes_in}
 use Rattle.lang_tree.specs.Limits.{are_statements, is_program}
 use Rattle.lang_tree.specs.PointNumbers.{splits, point_count}
 use Rattle.flow_edges.specs.declared.edge.Edge.{Edge}
@@ -158,6 +159,8 @@ mutual
   inner_of (set var form line) = tt
   inner_of (havoc var line) = tt
   inner_of (assume c line) = inner_if (splits c) line
+  inner_of (only_where c line) = tt
+  inner_of (check about c line) = tt
   inner_of (branch c first second line) =
       each-append IsInner (places_in first) (places_in second ++ one_point Join line) (inner_in first)
       (each-append IsInner (places_in second) (one_point Join line) (inner_in second) ((refl, refl), tt))

@@ -3,11 +3,11 @@ use Rattle.std.proofs.Common.{◌≡◌, ◌∙◌, ℕ, ◌+◌, Bool, true, fa
 use Rattle.std.specs.Prelude.{◌||◌, if◌then◌else◌}
 use Rattle.lang_tree.specs.declared.form.Form.{Form}
 use Rattle.lang_tree.specs.Tree.{Condition, LoopKind, while_loop, for_loop, do_loop, breaks, continues}
-use Rattle.lang_tree.specs.Tree.{Statement, Statements, set, havoc, assume, branch, loop, jump, label, nil, cons}
+use Rattle.lang_tree.specs.Tree.{Statement, Statements, set, havoc, assume, only_where, check, branch, loop, jump, label, nil, cons}
 use Rattle.lang_tree.specs.Cases.{cases_of}
 use Rattle.lang_tree.specs.PointNumbers.{splits, points_of, points_in, join_of}
 use Rattle.flow_edges.specs.declared.edge.Action.{Action}
-use Rattle.flow_edges.specs.declared.edge.Action.TheVariants.{Assign, Havoc}
+use Rattle.flow_edges.specs.declared.edge.Action.TheVariants.{Assign, Havoc, Check}
 use Rattle.flow_edges.specs.declared.edge.Edge.{Edge}
 use Rattle.flow_edges.specs.Steps.{guards}
 use Rattle.flow_edges.specs.Edges.{Way, arrived, prefixed, by_case, changed, Jumps, end_ways, loop_jumps, ways_of, ways_in, body_ways}
@@ -79,6 +79,8 @@ mutual
   alike_of (set var form line) n j k us vs a h = alike_prefixed (Assign var form ∷ []) us vs h
   alike_of (havoc var line) n j k us vs a h = alike_prefixed (Havoc var ∷ []) us vs h
   alike_of (assume c line) n j k us vs a h = alike_by_case true c _ _ (alike_if (splits c) n us vs h)
+  alike_of (only_where c line) n j k us vs a h = alike_by_case true c us vs h
+  alike_of (check about c line) n j k us vs a h = alike_prefixed (Check about ∷ []) us vs h
   alike_of (branch c first second line) n j k us vs a h =
       let join = arrived (join_of first second n) in
       alike_both c _ _ _ _ (alike_in first n j k join join a (alike_same join))
@@ -136,6 +138,8 @@ mutual
   edges_alike_of (havoc var line) n j k us vs a h = refl
   edges_alike_of (assume c line) n j k us vs a h = edges_if (splits c) (reached (begun_at n) us) (reached (begun_at n) vs)
       (h.at (begun_at n))
+  edges_alike_of (only_where c line) n j k us vs a h = refl
+  edges_alike_of (check about c line) n j k us vs a h = refl
   edges_alike_of (branch c first second line) n j k us vs a h =
       let join = join_of first second n in
       let same = alike_same (arrived join) in

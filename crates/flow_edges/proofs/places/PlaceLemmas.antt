@@ -2,7 +2,7 @@
 use Rattle.std.proofs.Common.{◌≡◌, ◌∙◌, ℕ, ◌+◌, Bool, true, false, List, [], ◌∷◌, ◌++◌, map, refl, sym, ap, ap₂, append_assoc}
 use Rattle.std.specs.Prelude.{if◌then◌else◌}
 use Rattle.std.proofs.lemmas.List.{map-append}
-use Rattle.lang_tree.specs.Tree.{Statement, Statements, set, havoc, assume, branch, loop, jump, label, nil, cons}
+use Rattle.lang_tree.specs.Tree.{Statement, Statements, set, havoc, assume, only_where, check, branch, loop, jump, label, nil, cons}
 use Rattle.lang_tree.specs.PointNumbers.{splits, points_of, points_in, join_of}
 use Rattle.flow_edges.specs.declared.point.Place.TheVariants.{Entry, Loop, Join, Assume, Exit}
 use Rattle.flow_edges.specs.declared.point.Point.{Point}
@@ -24,6 +24,8 @@ mutual
   plain_by (set var form line) n = refl
   plain_by (havoc var line) n = refl
   plain_by (assume c line) n = plain-if (splits c) n line
+  plain_by (only_where c line) n = refl
+  plain_by (check about c line) n = refl
   plain_by (branch c first second line) n =
       let one : List Made = made (join_of first second n) Join line ∷ [] in
       plain-append (made_in first n) (made_in second (n + points_in first) ++ one) _ _ (plain_in first n)

@@ -5,7 +5,7 @@ use Rattle.std.specs.Prelude.{if◌then◌else◌}
 use Rattle.std.specs.List.{range_with_len}
 use Rattle.std.proofs.lemmas.List.{map-append, length-map}
 use Rattle.std.proofs.lemmas.List.FromFn.{length-range_with_len}
-use Rattle.lang_tree.specs.Tree.{Statement, Statements, set, havoc, assume, branch, loop, jump, label, nil, cons}
+use Rattle.lang_tree.specs.Tree.{Statement, Statements, set, havoc, assume, only_where, check, branch, loop, jump, label, nil, cons}
 use Rattle.lang_tree.specs.PointNumbers.{splits, points_of, points_in}
 use Rattle.flow_edges.specs.declared.point.Place.TheVariants.{Assume, Exit}
 use Rattle.flow_edges.specs.declared.point.Point.{Point}
@@ -39,6 +39,8 @@ mutual
   numbers_by (set var form line) n = refl
   numbers_by (havoc var line) n = refl
   numbers_by (assume c line) n = numbers_if (splits c) n line
+  numbers_by (only_where c line) n = refl
+  numbers_by (check about c line) n = refl
   numbers_by (branch c first second line) n =
       let p = points_in first in
       let q = points_in second in

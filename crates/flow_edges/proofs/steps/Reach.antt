@@ -8,13 +8,13 @@ use Rattle.lang_tree.specs.declared.cond.Rel.{Rel}
 use Rattle.lang_tree.specs.declared.cond.Rel.TheVariants.{Eq, Ne, Lt, Le, Gt, Ge}
 use Rattle.lang_tree.specs.Tree.{Condition, free, compare, negation, both, either, LoopKind, while_loop, for_loop, do_loop, breaks}
 use Rattle.lang_tree.specs.Tree.{continues}
-use Rattle.lang_tree.specs.Tree.{Statement, Statements, set, havoc, assume, branch, loop, jump, label, nil, cons}
+use Rattle.lang_tree.specs.Tree.{Statement, Statements, set, havoc, assume, only_where, check, branch, loop, jump, label, nil, cons}
 use Rattle.lang_tree.specs.Cases.{comparison_cases, crossed, cases_of}
 use Rattle.lang_tree.specs.PointNumbers.{splits, points_of, points_in, join_of, exit_of}
 use Rattle.lang_tree.specs.Runs.{Item, node, mark, turn, end, nodes, start_work, branch_work, body_work, head_work, turn_work, repeat_work}
 use Rattle.lang_tree.specs.Runs.{past_loop, end_of_body}
 use Rattle.flow_edges.specs.declared.edge.Action.{Action}
-use Rattle.flow_edges.specs.declared.edge.Action.TheVariants.{Assign, Havoc}
+use Rattle.flow_edges.specs.declared.edge.Action.TheVariants.{Assign, Havoc, Check}
 use Rattle.flow_edges.specs.Steps.{Labelled, labelled, guards, choices, steps_of}
 use Rattle.flow_edges.specs.Paths.{Leads, here, past, done}
 use Rattle.flow_edges.specs.Edges.{Behind, complete, completes, unreached, behind_of, behind_in, behind_points}
@@ -195,6 +195,10 @@ module _ (start : List Item) where
         let work = if splits c then mark n ∷ rest else rest in
         let y = some_choice true c work in
         reached_if (splits c) n rest (reached_by (node (assume c line) n) rest y.0 work y.1 y.2 h)
+    reach_node (only_where c line) n rest h =
+        let y = some_choice true c rest in (reached_by (node (only_where c line) n) rest y.0 rest y.1 y.2 h, tt)
+    reach_node (check about c line) n rest h =
+        (reached_by (node (check about c line) n) rest (labelled (Check about ∷ []) rest) rest (inl refl) refl h, tt)
     reach_node (branch c first second line) n rest h =
         let join = mark (join_of first second n) ∷ rest in
         let one_completes = complete first || complete second in

@@ -3,14 +3,15 @@ use Rattle.std.proofs.Common.{◌≡◌, ◌∙◌, inl, inr, ⊎_elim, Bool, tr
 use Rattle.std.specs.Prelude.{if◌then◌else◌}
 use Rattle.base_facts.specs.Elements.{In}
 use Rattle.lang_tree.specs.declared.form.Form.{Form}
-use Rattle.lang_tree.specs.Tree.{Condition, while_loop, for_loop, do_loop, breaks, continues, set, havoc, assume, branch, loop, jump, label}
+use Rattle.lang_tree.specs.Tree.{Condition, while_loop, for_loop, do_loop, breaks, continues, set, havoc, assume}
+use Rattle.lang_tree.specs.Tree.{only_where, check, branch, loop, jump, label}
 use Rattle.lang_tree.specs.Meaning.{State, MayBe}
 use Rattle.lang_tree.specs.Cases.{HoldAll, HoldSome, cases_of}
 use Rattle.lang_tree.specs.PointNumbers.{splits}
 use Rattle.lang_tree.specs.Runs.{Item, node, mark, turn, end, branch_work, head_work, turn_work, change_work, repeat_work, past_loop}
 use Rattle.lang_tree.specs.Runs.{end_of_body, Does}
 use Rattle.lang_tree.proofs.cases.CaseLaw.{cases_law}
-use Rattle.flow_edges.specs.declared.edge.Action.TheVariants.{Assign, Havoc}
+use Rattle.flow_edges.specs.declared.edge.Action.TheVariants.{Assign, Havoc, Check}
 use Rattle.flow_edges.specs.Steps.{Labelled, labelled, guards, choices, steps_of, Acts}
 use Rattle.flow_edges.specs.PathLaws.{IsMark, StepsAreRecorded}
 use Rattle.flow_edges.proofs.steps.ElementLemmas.{in-append, in-append_left, in-append_right, in-map, from_map}
@@ -100,6 +101,9 @@ recorded (node (havoc var line) n) rest x work y other d = (labelled (Havoc var 
 recorded (node (assume c line) n) rest x work y other d =
     let k = chosen true c (if splits c then mark n ∷ rest else rest) x d.0 in
     (k.0, k.1, k.2 ∙ sym d.1, subst (λ z. Acts k.0.actions x z) (sym d.2) k.3)
+recorded (node (only_where c line) n) rest x work y other d =
+    let k = chosen true c rest x d.0 in (k.0, k.1, k.2 ∙ sym d.1, subst (λ z. Acts k.0.actions x z) (sym d.2) k.3)
+recorded (node (check about c line) n) rest x work y other d = (labelled (Check about ∷ []) rest, inl refl, sym d.0, d.1)
 recorded (node (branch c first second line) n) rest x work y other d =
     chosen_step (node (branch c first second line) n) rest c (λ t. branch_work t first second n rest) x work y refl d
 recorded (node (loop kind c body line) n) rest x work y other d = (
@@ -144,6 +148,10 @@ stepped (node (havoc var line) n) rest x work y other r =
     let o = alone (node (havoc var line) n) rest (labelled (Havoc var ∷ []) rest) x work y refl r in (o.1.0, o.0, o.1.1)
 stepped (node (assume c line) n) rest x work y other r =
     let t = taken true c (if splits c then mark n ∷ rest else rest) r.0 x y r.1 r.3 in (t.0, sym r.2 ∙ sym t.1, t.2)
+stepped (node (only_where c line) n) rest x work y other r =
+    let t = taken true c rest r.0 x y r.1 r.3 in (t.0, sym r.2 ∙ sym t.1, t.2)
+stepped (node (check about c line) n) rest x work y other r =
+    alone (node (check about c line) n) rest (labelled (Check about ∷ []) rest) x work y refl r
 stepped (node (branch c first second line) n) rest x work y other r =
     taken_step (node (branch c first second line) n) rest c (λ t. branch_work t first second n rest) x work y refl r
 stepped (node (loop kind c body line) n) rest x work y other r =

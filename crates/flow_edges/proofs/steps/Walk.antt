@@ -7,12 +7,12 @@ use Rattle.base_facts.specs.Elements.{In}
 use Rattle.lang_tree.specs.declared.change.Change.{Change}
 use Rattle.lang_tree.specs.declared.change.Change.TheVariants as change
 use Rattle.lang_tree.specs.Tree.{Condition, LoopKind, while_loop, for_loop, do_loop, breaks, continues}
-use Rattle.lang_tree.specs.Tree.{Statement, Statements, set, havoc, assume, branch, loop, jump, label, nil, cons}
+use Rattle.lang_tree.specs.Tree.{Statement, Statements, set, havoc, assume, only_where, check, branch, loop, jump, label, nil, cons}
 use Rattle.lang_tree.specs.Cases.{cases_of}
 use Rattle.lang_tree.specs.PointNumbers.{splits, points_of, points_in, join_of, exit_of, point_count}
 use Rattle.lang_tree.specs.Runs.{Item, node, mark, turn, end, nodes, branch_work, body_work, head_work, turn_work, change_work, repeat_work}
 use Rattle.lang_tree.specs.Runs.{past_loop, end_of_body}
-use Rattle.flow_edges.specs.declared.edge.Action.TheVariants.{Assign, Havoc}
+use Rattle.flow_edges.specs.declared.edge.Action.TheVariants.{Assign, Havoc, Check}
 use Rattle.flow_edges.specs.Steps.{Labelled, labelled, guards, choices, steps_of}
 use Rattle.flow_edges.specs.Edges.{Behind, complete, completes, unreached, behind_of, behind_in, behind_points}
 use Rattle.flow_edges.specs.PathLaws.{IsMark}
@@ -37,6 +37,8 @@ mutual
   behind_count_of (set var form line) n rest = refl
   behind_count_of (havoc var line) n rest = refl
   behind_count_of (assume c line) n rest = count_if (splits c) rest
+  behind_count_of (only_where c line) n rest = refl
+  behind_count_of (check about c line) n rest = refl
   behind_count_of (branch c first second line) n rest =
       let join = mark (join_of first second n) ∷ rest in
       let one : List Behind = (if complete first || complete second then Some rest else None) ∷ [] in
@@ -234,6 +236,10 @@ module _ (P : List Item → Type 0) (Allowed : ℕ → List Item → Type 0)
     node_holds (assume c line) n rest a h j =
         by_work (node (assume c line) n) rest (if splits c then mark n ∷ rest else rest) (λ m. m) (λ s m. choice_work true c _ s m)
         (mark_if (splits c) n rest a (h refl))
+    node_holds (only_where c line) n rest a h j =
+        by_work (node (only_where c line) n) rest rest (λ m. m) (λ s m. choice_work true c rest s m) (h refl)
+    node_holds (check about c line) n rest a h j =
+        by_one (node (check about c line) n) rest (labelled (Check about ∷ []) rest) (λ m. m) refl (h refl)
     node_holds (branch c first second line) n rest a h j =
         let join = mark (join_of first second n) ∷ rest in
         let b = complete first || complete second in
@@ -293,6 +299,8 @@ module _ (P : List Item → Type 0) (Allowed : ℕ → List Item → Type 0)
     behind_node (set var form line) n rest a h j = tt
     behind_node (havoc var line) n rest a h j = tt
     behind_node (assume c line) n rest a h j = if_holds (splits c) n rest (h refl)
+    behind_node (only_where c line) n rest a h j = tt
+    behind_node (check about c line) n rest a h j = tt
     behind_node (branch c first second line) n rest a h j =
         let join = mark (join_of first second n) ∷ rest in
         let b = complete first || complete second in

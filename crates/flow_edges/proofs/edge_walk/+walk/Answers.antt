@@ -5,8 +5,8 @@ use Rattle.flow_edges.specs.Edges.{ways_in}
 use Rattle.flow_edges.specs.Steps.{guards}
 use Rattle.flow_edges.specs.Trails.{followed, jumps_of, reached, split, walked}
 use Rattle.flow_edges.proofs.edge_walk.Loops.{loop_step}
-use Rattle.flow_edges.proofs.edge_walk.WalkSteps.{walked_set, walked_havoc, walked_split, walked_assume, walked_branch, walked_break}
-use Rattle.flow_edges.proofs.edge_walk.WalkSteps.{branched}
+use Rattle.flow_edges.proofs.edge_walk.WalkSteps.{walked_set, walked_havoc, walked_check, walked_where, walked_split, walked_assume}
+use Rattle.flow_edges.proofs.edge_walk.WalkSteps.{walked_branch, walked_break, branched}
 use Rattle.flow_edges.proofs.edge_walk.+walk.Goals as goal
 
 pub walk-returns-in-Set : goal.walk-returns-in-Set
@@ -27,6 +27,25 @@ walk-returns-in-Havoc t c =
     (jumps_of c.args.jumps.now) (walked c.args.next.now)
     (ap statements_of c.in-Some.ensures.cases.0) c.points_of.ensures _ _ _ (ap statement_of c.in-Havoc.is) c.in_ok-add-in-Havoc.ensures)
     c.walk-in-Havoc.ensures
+
+pub walk-returns-in-Check : goal.walk-returns-in-Check
+walk-returns-in-Check t c =
+    on_ok_weaker c.walk-in-Check.result
+    (walked_check _ _ c.args.trail (statements_of c.args.stmts.now) (statements_of c.in-Some.rest.now) (statement_of c.in-Some.stmt.now)
+    c.args.first c.points_of.result
+    (jumps_of c.args.jumps.now) (walked c.args.next.now)
+    (ap statements_of c.in-Some.ensures.cases.0) c.points_of.ensures _ _ _ _ (ap statement_of c.in-Check.is) c.in_ok-add-in-Check.ensures)
+    c.walk-in-Check.ensures
+
+pub walk-returns-in-Where : goal.walk-returns-in-Where
+walk-returns-in-Where t c =
+    on_ok_weaker c.walk_cases.result
+    (walked_where _ _ c.args.trail (statements_of c.args.stmts.now) (statements_of c.in-Some.rest.now) (statement_of c.in-Some.stmt.now)
+    c.args.first c.points_of.result
+    (jumps_of c.args.jumps.now) (walked c.args.next.now)
+    (ap statements_of c.in-Some.ensures.cases.0) c.points_of.ensures (condition_of c.in-Where.cond) _ c.in_ok-cases-in-Where.cases
+    (ap statement_of c.in-Where.is) c.in_ok-cases-in-Where.ensures)
+    c.walk_cases.ensures
 
 pub walk_cases-loop-case-preserved : goal.walk_cases-loop-case-preserved
 walk_cases-loop-case-preserved t c =
@@ -50,13 +69,13 @@ walk-returns-then-as_slice-gt1 t c =
 
 pub walk-returns-in-Assume : goal.walk-returns-in-Assume
 walk-returns-in-Assume t c =
-    on_ok_weaker c.walk_cases.result
+    on_ok_weaker c.walk_cases-else-as_slice-gt1.result
     (walked_assume _ _ c.args.trail (statements_of c.args.stmts.now) (statements_of c.in-Some.rest.now) (statement_of c.in-Some.stmt.now)
     c.args.first c.points_of.result
     (jumps_of c.args.jumps.now) (walked c.args.next.now)
     (ap statements_of c.in-Some.ensures.cases.0) c.points_of.ensures (condition_of c.in-Assume.cond) _ c.in_ok-cases-in-Assume.cases
     (ap statement_of c.in-Assume.is) c.in_ok-cases-in-Assume.ensures (rw c.as_slice.ensures at c.if-as_slice-gt1.false))
-    c.walk_cases.ensures
+    c.walk_cases-else-as_slice-gt1.ensures
 
 pub walk-returns-in-If : goal.walk-returns-in-If
 walk-returns-in-If t c =
