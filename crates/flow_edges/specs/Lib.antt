@@ -10,3 +10,4 @@ pub mod Faults
 pub mod Trails
 pub mod Places
 pub mod Checks
+pub mod CheckLaws

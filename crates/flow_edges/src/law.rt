@@ -1,5 +1,6 @@
 //! Laws of the definitions, each the contract of a function that does nothing.
 
+ghost use Rattle.flow_edges.specs.CheckLaws.{ChecksAreOnEdges};
 ghost use Rattle.flow_edges.specs.Constants.{ConditionsHaveRoom};
 ghost use Rattle.flow_edges.specs.PathLaws.{BehindPoints, EdgesInRange, EdgesOfPrograms, PointsAreNumbered, StepsAreRecorded, WaysAreSteps};
 
@@ -38,4 +39,11 @@ pub fn edges_are_in_range()
 /// The comparisons of a program's conditions leave room for their guards, so that `cases` may be asked for them.
 pub fn conditions_have_room()
     ensures { ConditionsHaveRoom }
+{}
+
+/// A run comes to a check along an edge that has it: in each run of a program, where a check stands there is an edge of the
+/// program with this check among its actions, the run passed the edge's source, and what it did from there on are the actions
+/// of the edge that stand before the check.
+pub fn checks_are_on_edges()
+    ensures { ChecksAreOnEdges }
 {}

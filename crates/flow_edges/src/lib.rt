@@ -31,8 +31,8 @@ pub use edge::{Action, Actions, Edge, Edges};
 pub use fault::FlowFault;
 pub use graph::Flow;
 pub use law::{
-    conditions_have_room, edges_are_in_range, edges_are_paths, points_are_numbered,
-    steps_are_recorded, ways_are_steps, work_behind_points,
+    checks_are_on_edges, conditions_have_room, edges_are_in_range, edges_are_paths,
+    points_are_numbered, steps_are_recorded, ways_are_steps, work_behind_points,
 };
 pub use limits::MOST_POINTS;
 pub use listing::cases;

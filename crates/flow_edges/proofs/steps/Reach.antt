@@ -63,7 +63,8 @@ some_case false (both a b) = some_left (cases_of false a) (cases_of false b) (so
 some_case true (either a b) = some_left (cases_of true a) (cases_of true b) (some_case true a)
 some_case false (either a b) = some_crossed (cases_of false a) (cases_of false b) (some_case false a) (some_case false b)
 
-some_choice : (truth : Bool) (c : Condition) (work : List Item) → (s : Labelled) × In (choices truth c work) s × (s.work ≡ work)
+-- a condition has a choice of each truth, which leaves the work that it is given
+pub some_choice : (truth : Bool) (c : Condition) (work : List Item) → (s : Labelled) × In (choices truth c work) s × (s.work ≡ work)
 some_choice truth c work =
     let k = some_case truth c in
     (labelled (guards k.0) work, in-map (λ forms. labelled (guards forms) work) (cases_of truth c) k.0 k.1, refl)

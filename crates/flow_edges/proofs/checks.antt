@@ -1,0 +1,4 @@
+pub mod Lasting
+pub mod Onward
+pub mod SinceMark
+pub mod CheckLaw

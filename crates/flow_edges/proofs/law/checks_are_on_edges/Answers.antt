@@ -1,0 +1,5 @@
+use Rattle.flow_edges.proofs.checks.CheckLaw.{check_law}
+use Rattle.flow_edges.proofs.law.checks_are_on_edges.Goals as goal
+
+pub returns : goal.returns
+returns c = check_law
