@@ -2,4 +2,4 @@ pub mod Values
 pub mod Splits
 pub mod Readings
 pub mod Meanings
-pub mod Stays
+pub mod Places

@@ -121,13 +121,13 @@ text_of_proof program claims _ = program
 -- ---- the commands
 
 -- what a command does with its texts: the endings that they have where there is memory and nothing exceeds exact work; what may exceed it
--- instead; and the bytes that are written where it is done. For its message: the text in which that of an ending names a
--- line, and how many rows each point has, by which it numbers an unknown. And the limits that its words and its loads keep: of its
--- numbers, and of these and its texts
+-- instead; and the bytes that are written at an ending, where it is done or a check is open. For its message: the text in which that of an
+-- ending names a line, and how many rows each point has, by which it numbers an unknown. And the limits that its words and its loads keep:
+-- of its numbers, and of these and its texts
 pub record Command : Type 1 where
   pub ends : Status → Type 0
   pub exceeds : Excess → Type 0
-  pub writes : List ℕ → Type 0
+  pub writes : Status → List ℕ → Type 0
   pub named : Status → List ℕ
   pub has_rows : ℕ → Type 0
   pub in_range : Type 0
@@ -137,13 +137,18 @@ pub record Command : Type 1 where
 abbrev pub Commands : Type 1
 Commands = Request → Command
 
--- a command that decides about its texts, where nothing may come in place of its endings: its messages name no line and no unknown, and it
--- has no number and no text that needs a limit, unless it says otherwise
+-- bytes that are written where a command is done, and at no other ending
+abbrev pub done_writes : (List ℕ → Type 0) → Status → List ℕ → Type 0
+done_writes writes Done bytes = writes bytes
+done_writes writes _ bytes = ⊥
+
+-- a command that decides about its texts, where nothing may come in place of its endings, and which writes where it is done alone: its
+-- messages name no line and no unknown, and it has no number and no text that needs a limit, unless it says otherwise
 abbrev pub deciding : (Status → Type 0) → (List ℕ → Type 0) → Command
 deciding ends writes = record {
   ends = ends;
   exceeds = λ excess. ⊥;
-  writes = writes;
+  writes = λ status bytes. done_writes writes status bytes;
   named = λ status. [];
   has_rows = λ count. ⊥;
   in_range = Unit {0};

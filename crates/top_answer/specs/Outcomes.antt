@@ -9,15 +9,16 @@ use Rattle.top_status.specs.CheckMessages.{rows_of}
 use Rattle.top_status.specs.Messages.{line_in, message_of}
 use Rattle.ask_files.specs.declared.which.ReadCause.{ReadCause}
 use Rattle.top_status.specs.declared.status.Status.{Status}
-use Rattle.top_status.specs.declared.status.Status.TheVariants.{Done, Usage, Read, Exceeded, Memory}
+use Rattle.top_status.specs.declared.status.Status.TheVariants.{Done, Open, Usage, Read, Exceeded, Memory}
 use Rattle.top_texts.specs.Exact.{exact}
 use Rattle.top_texts.specs.Outcomes.{refused}
 use Rattle.top_texts.specs.declared.refusal.Refusal.{Refusal}
 
--- a status and bytes say of the texts of a command: the bytes are written where it is done, and there are none else; an ending stands, or
--- what exceeds exact work; want of memory needs no cause
+-- a status and bytes say of the texts of a command: the bytes are written where it is done or a check is open, and there are none else; an
+-- ending stands, or what exceeds exact work; want of memory needs no cause
 abbrev pub Says : Command → Status → List ℕ → Type 0
-Says command Done bytes = command.writes bytes
+Says command Done bytes = command.writes Done bytes
+Says command Open bytes = command.writes Open bytes
 Says command (Exceeded excess) bytes = (command.ends (Exceeded excess) ⊎ command.exceeds excess) × (bytes ≡ [])
 Says command Memory bytes = bytes ≡ []
 Says command status bytes = command.ends status × (bytes ≡ [])

@@ -36,12 +36,15 @@ pub fn ending_is_one()
 {}
 
 /// Words and contents have one output, for every command but `certify`: what is written is determined by them. Of a certificate it isn't
-/// said.
+/// said. It is written at one ending alone, the one that words and contents have.
 pub fn output_is_one()
-    ensures { (words contents : List (List ℕ)) (one other : List ℕ)
+    ensures bytes { (words contents : List (List ℕ)) (ending another : Status) (one other : List ℕ)
         → ((analysis : Analysis (List ℕ)) → request_of words ≢ Some (Analyse Certificate analysis))
-        → IsOutput (command_of ⟦<Exact as Meaning>⟧.means) words contents one
-        → IsOutput (command_of ⟦<Exact as Meaning>⟧.means) words contents other → one ≡ other }
+        → IsOutput (command_of ⟦<Exact as Meaning>⟧.means) words contents ending one
+        → IsOutput (command_of ⟦<Exact as Meaning>⟧.means) words contents another other → one ≡ other }
+    ensures ending { (words contents : List (List ℕ)) (ending : Status) (bytes : List ℕ)
+        → IsOutput (command_of ⟦<Exact as Meaning>⟧.means) words contents ending bytes
+        → Ends (command_of ⟦<Exact as Meaning>⟧.means) words contents ending }
 {}
 
 /// Bytes have one text as the certificate that they spell.

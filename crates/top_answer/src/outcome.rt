@@ -30,7 +30,7 @@ use top_texts::{
 #[derive(Drop)]
 pub(crate) struct Outcome {
     pub status: Status,
-    /// What is written; nothing where the status isn't done.
+    /// What is written; nothing where the status has no output.
     pub bytes: Vec<u8>,
     /// The number of rows by which the message numbers an unknown; 0 where it names none.
     pub rows: usize,
