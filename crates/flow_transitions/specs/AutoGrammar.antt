@@ -5,14 +5,21 @@ use Rattle.lang_tokens.specs.declared.token.Kind as lex_kind
 use Rattle.lang_tokens.specs.declared.token.Token as lex_token
 use Rattle.lang_grammar.specs.Grammar.{Kind, a_name, comma, semicolon, left_brace, right_brace, left_paren, right_paren, change_sign}
 use Rattle.lang_grammar.specs.Grammar.{replaces}
-use Rattle.lang_grammar.specs.Grammar.{demand_word, assumes as to_assume, other_word, the_end, Token, token, Expr, spell_expr, Groups}
+use Rattle.lang_grammar.specs.Grammar.{demand_word, other_word, the_end, Token, token, Expr, spell_expr, Groups}
+use Rattle.lang_grammar.specs.Grammar as grammar
 use Rattle.lang_grammar.specs.View.{kind_of}
 
 -- ---- tokens
--- what a token is here: `__VERIFIER_assume` stands nowhere, and each other one is what it is in a program
+-- what a token is here: `__VERIFIER_assume`, `assert` and `__VERIFIER_assert` stand nowhere, and each other one is what it is in a program
 abbrev pub kind_here : List ℕ → lex_kind.Kind → Kind
 kind_here bytes (lex_kind.TheVariants.Word word.VerifierAssume) = other_word
+kind_here bytes (lex_kind.TheVariants.Word word.Assert) = other_word
+kind_here bytes (lex_kind.TheVariants.Word word.VerifierAssert) = other_word
 kind_here bytes k = kind_of bytes k
+
+-- the word `assume`
+abbrev pub assume_word : Kind
+assume_word = demand_word grammar.assumes
 
 abbrev pub token_here : List ℕ → lex_token.Token → Token
 token_here text t = token (kind_here (slice_range text t.at (t.at + t.len)) t.kind) t.at
@@ -49,7 +56,7 @@ pub data Act : Type 0 where
 abbrev pub act_then : Act → List Token → List Token
 act_then (sets x a b e s) rest = token (a_name x) a ∷ token (change_sign replaces) b ∷ (spell_expr e ++ token semicolon s ∷ rest)
 act_then (assumes a b e c s) rest =
-    token (demand_word to_assume) a ∷ token left_paren b ∷ (spell_expr e ++ token right_paren c ∷ token semicolon s ∷ rest)
+    token assume_word a ∷ token left_paren b ∷ (spell_expr e ++ token right_paren c ∷ token semicolon s ∷ rest)
 
 abbrev pub acts_then : List Act → List Token → List Token
 acts_then [] rest = rest
@@ -142,7 +149,7 @@ pub data Frame : Type 0 where
   side : (name : List ℕ) → (at equal_at : ℕ) → Frame
 
 abbrev pub frame_then : Frame → List Token → List Token
-frame_then (condition a b) rest = token (demand_word to_assume) a ∷ token left_paren b ∷ rest
+frame_then (condition a b) rest = token assume_word a ∷ token left_paren b ∷ rest
 frame_then (side x a b) rest = token (a_name x) a ∷ token (change_sign replaces) b ∷ rest
 
 -- the sign behind the expression
@@ -198,7 +205,7 @@ begun_then (a_source c es w x a) rest = heads_then c (edges_then es (token (a_na
 begun_then (a_target c es w x a y b) rest =
     heads_then c (edges_then es (token (a_name (codes "edge")) w ∷ token (a_name x) a ∷ token (a_name y) b ∷ rest))
 begun_then (some_acts i) rest = inside_then i rest
-begun_then (an_assume i a) rest = inside_then i (token (demand_word to_assume) a ∷ rest)
+begun_then (an_assume i a) rest = inside_then i (token assume_word a ∷ rest)
 begun_then (an_assigned i x a) rest = inside_then i (token (a_name x) a ∷ rest)
 begun_then (some_expression i f begun) rest = inside_then i (frame_then f (begun ++ rest))
 begun_then (an_expression i f e) rest = inside_then i (frame_then f (spell_expr e ++ rest))

@@ -7,7 +7,7 @@ use Rattle.lang_grammar.specs.Expressions.{ReadsExpr, BeginsExpr}
 use Rattle.lang_grammar.specs.Reaches.{is_infix}
 use Rattle.lang_grammar.specs.Grammar.{Kind, a_name, comma, semicolon, left_brace, right_brace, left_paren, right_paren, change_sign}
 use Rattle.lang_grammar.specs.Grammar.{replaces}
-use Rattle.lang_grammar.specs.Grammar.{demand_word, assumes as to_assume, the_end, Token, token, Expr, number, spell_expr, Groups}
+use Rattle.lang_grammar.specs.Grammar.{the_end, Token, token, Expr, number, spell_expr, Groups}
 use Rattle.lang_grammar.proofs.phrase.Found.{ends_there}
 use Rattle.lang_grammar.proofs.phrase.Starts.{reads_run}
 use Rattle.flow_transitions.specs.AutoGrammar.{Spot, Names, commas_then, names_then, Act, sets, assumes, act_then, acts_then, Head}
@@ -20,7 +20,7 @@ use Rattle.flow_transitions.specs.AutoGrammar.{Inside, inside_then, Begun, begun
 use Rattle.flow_transitions.specs.AutoGrammar.{some_points, a_point, some_edges}
 use Rattle.flow_transitions.specs.AutoGrammar.{an_edge, a_source, a_target, some_acts, an_assume, an_assigned, some_expression}
 use Rattle.flow_transitions.specs.AutoGrammar.{an_expression}
-use Rattle.flow_transitions.specs.AutoGrammar.{an_assumption}
+use Rattle.flow_transitions.specs.AutoGrammar.{an_assumption, assume_word}
 use Rattle.flow_transitions.specs.AutoGrammar.{GoodAct, GoodActs, GoodEdges, Begins, IsUnexpected}
 use Rattle.flow_transitions.proofs.grammar.Lists.{begun_append, commas_more, acts_more, edges_more, good_more, all_good_more, cancel_commas}
 use Rattle.flow_transitions.proofs.grammar.Lists.{cancel_names}
@@ -58,7 +58,7 @@ Accepts (some_edges c es) k a = (k ≡ a_name (codes "edge")) ⊎ (k ≡ the_end
 Accepts (an_edge c es w) k a = IsName k
 Accepts (a_source c es w x b) k a = IsName k
 Accepts (a_target c es w x b y d) k a = k ≡ left_brace
-Accepts (some_acts i) k a = (k ≡ right_brace) ⊎ ((k ≡ demand_word to_assume) ⊎ IsName k)
+Accepts (some_acts i) k a = (k ≡ right_brace) ⊎ ((k ≡ assume_word) ⊎ IsName k)
 Accepts (an_assume i b) k a = k ≡ left_paren
 Accepts (an_assigned i x b) k a = k ≡ change_sign replaces
 Accepts (some_expression i f begun) k a = BeginsExpr (begun ++ token k a ∷ [])
@@ -197,8 +197,7 @@ accepted_begins b k a g h = on b g h where
       (all_good_more i.edges (edge_by i i.acts a) g.0 g.1)
       (ap (heads_then i.heads) (sym (edges_more i.edges (edge_by i i.acts a) over)))
   on (some_acts i) g (inr (inl e)) =
-      by (some_acts i) (demand_word to_assume) _ (whole i.heads (i.edges ++ edge_by i (i.acts ++ assumes a 0 (number 0 0) 0 0 ∷ []) 0 ∷ []))
-      e
+      by (some_acts i) assume_word _ (whole i.heads (i.edges ++ edge_by i (i.acts ++ assumes a 0 (number 0 0) 0 0 ∷ []) 0 ∷ [])) e
       (done_good i (assumes a 0 (number 0 0) 0 0) g tt) (inside_done i (assumes a 0 (number 0 0) 0 0))
   on (some_acts i) g (inr (inr (x, e))) =
       by (some_acts i) _ _ (whole i.heads (i.edges ++ edge_by i (i.acts ++ sets x a 0 (number 0 0) 0 ∷ []) 0 ∷ [])) e
@@ -443,14 +442,12 @@ begins_accepted b k a g (s, rest, r) = on b g (sym (begun_append b (token k a �
         start (h ∷ fs) e = cc
   on (some_acts i) g e = let q = within i (token k a ∷ rest) s r.end_at g r.good e in start q.0 q.1 q.2 q.3 where
     start : (hs : List Act) (c : ℕ) (tail : List Token) → token k a ∷ rest ≡ acts_then hs (token right_brace c ∷ tail)
-        → (k ≡ right_brace) ⊎ ((k ≡ demand_word to_assume) ⊎ IsName k)
+        → (k ≡ right_brace) ⊎ ((k ≡ assume_word) ⊎ IsName k)
     start [] c tail e = inl (cc)
     start (sets x p o f t ∷ hs) c tail e = inr (inr (x, cc))
     start (assumes p o f t u ∷ hs) c tail e = inr (inl (cc))
-  on (an_assume i d) g e =
-      let q = within i (token (demand_word to_assume) d ∷ token k a ∷ rest) s r.end_at g r.good e in start q.0 q.1 q.2 q.3 where
-    start : (hs : List Act) (c : ℕ) (tail : List Token)
-        → token (demand_word to_assume) d ∷ token k a ∷ rest ≡ acts_then hs (token right_brace c ∷ tail)
+  on (an_assume i d) g e = let q = within i (token assume_word d ∷ token k a ∷ rest) s r.end_at g r.good e in start q.0 q.1 q.2 q.3 where
+    start : (hs : List Act) (c : ℕ) (tail : List Token) → token assume_word d ∷ token k a ∷ rest ≡ acts_then hs (token right_brace c ∷ tail)
         → k ≡ left_paren
     start [] c tail e = cc
     start (sets x p o f t ∷ hs) c tail e = cc

@@ -13,7 +13,7 @@ use Rattle.flow_transitions.specs.AutoGrammar.{kind_here, tokens_here}
 
 -- it stands in no expression
 abbrev pub is_foreign : Kind → Bool
-is_foreign (demand_word k) = true
+is_foreign (demand_word d) = true
 is_foreign other_word = true
 is_foreign _ = false
 
@@ -124,11 +124,15 @@ nests_alike xs ys a h (front, k, rest, split, fine, begins, deep) =
 -- ---- the tokens of a text
 alike_kind : (b : List ℕ) (k : lex_kind.Kind) → Same (kind_of b k) (kind_here b k)
 alike_kind b (lex_kind.TheVariants.Word word.VerifierAssume) = inr (refl, refl)
+alike_kind b (lex_kind.TheVariants.Word word.Assert) = inr (refl, refl)
+alike_kind b (lex_kind.TheVariants.Word word.VerifierAssert) = inr (refl, refl)
 alike_kind b (lex_kind.TheVariants.Word _) = inl refl
 alike_kind b _ = inl refl
 
 alike_back : (b : List ℕ) (k : lex_kind.Kind) → Same (kind_here b k) (kind_of b k)
 alike_back b (lex_kind.TheVariants.Word word.VerifierAssume) = inr (refl, refl)
+alike_back b (lex_kind.TheVariants.Word word.Assert) = inr (refl, refl)
+alike_back b (lex_kind.TheVariants.Word word.VerifierAssert) = inr (refl, refl)
 alike_back b (lex_kind.TheVariants.Word _) = inl refl
 alike_back b _ = inl refl
 
