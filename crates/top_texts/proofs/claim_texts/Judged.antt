@@ -19,7 +19,7 @@ use Rattle.ask_claims.specs.Laws.{OpenStatesBreak, ProvedVerdictsHold}
 use Rattle.ask_claims.specs.Lines.{verdicts_text}
 use Rattle.ask_claims.specs.declared.claim.Claim.{Claim}
 use Rattle.ask_claims.specs.declared.fault.ClaimFault.{ClaimFault}
-use Rattle.ask_claims.specs.declared.outcome.Verdict.{Verdict}
+use Rattle.ask_verdicts.specs.declared.outcome.Verdict.{Verdict}
 use Rattle.ask_claims.proofs.laws.Lists.{verdict_at}
 use Rattle.ask_words.specs.declared.request.Domain.{Domain}
 use Rattle.ask_words.specs.declared.request.Policy.{Policy}

@@ -20,8 +20,8 @@ use Rattle.ask_claims.specs.Claims.{AreAtPoints, Stands, Stated, stated_of}
 use Rattle.ask_claims.specs.Verdicts.{SaysOpen}
 use Rattle.ask_claims.specs.Lines.{claim_lines, is_proved, verdict_text, verdicts_text}
 use Rattle.ask_claims.specs.declared.claim.Claim.{Claim}
-use Rattle.ask_claims.specs.declared.outcome.Verdict.{Verdict}
-use Rattle.ask_claims.specs.declared.outcome.Verdict.TheVariants.{Proved}
+use Rattle.ask_verdicts.specs.declared.outcome.Verdict.{Verdict}
+use Rattle.ask_verdicts.specs.declared.outcome.Verdict.TheVariants.{Proved}
 use Rattle.ask_claims.proofs.laws.Lists.{verdicts_are_one}
 use Rattle.ask_words.specs.declared.request.Domain.{Domain}
 use Rattle.ask_words.specs.declared.request.Policy.{Policy}
