@@ -1,7 +1,10 @@
 -- The checks of a program, and where they stand on its edges.
-use Rattle.std.specs.Prelude.{◌≡◌, ℕ, Bool, List, [], ◌∷◌, ◌++◌, Option, Some}
+use Rattle.std.specs.Prelude.{◌≡◌, ℕ, ◌<◌, false, List, [], ◌∷◌, ◌++◌, length, map, take}
+use Rattle.base_facts.specs.Elements.{In}
 use Rattle.lang_tree.specs.declared.check.Check.{Check}
 use Rattle.lang_tree.specs.Tree.{Condition, Statement, Statements, set, havoc, assume, only_where, check, branch, loop, jump, label, nil, cons}
+use Rattle.lang_tree.specs.Cases.{cases_of}
+use Rattle.flow_edges.specs.declared.checked.CheckCases.{CheckCases}
 use Rattle.flow_edges.specs.declared.edge.Action.{Action}
 use Rattle.flow_edges.specs.declared.edge.Action.TheVariants as action
 
@@ -28,7 +31,21 @@ abbrev mutual
   checks_in nil = []
   checks_in (cons s rest) = checks_of s ++ checks_in rest
 
--- these actions come before a check among actions; each check stands at most once among those of an edge
+-- a check with the cases in which its condition may be false
+abbrev pub with_cases : Checked → CheckCases
+with_cases c = record { check = c.about; against = cases_of false c.cond }
+
+-- the checks of a program in order of the text, each with the cases against it
+abbrev pub checks_of_program : Statements → List CheckCases
+checks_of_program body = map with_cases (checks_in body)
+
+-- these actions come before a check among actions
 pub record StandsBehind (actions : List Action) (about : Check) (before : List Action) : Type 0 where
   pub later : List Action
   pub parted : actions ≡ before ++ action.Check about ∷ later
+
+-- so many actions come before a check among actions, and it isn't among those
+pub record ComesFirst (actions : List Action) (about : Check) (count : ℕ) : Type 0 where
+  pub within : count < length actions
+  pub stands : StandsBehind actions about (take count actions)
+  pub first : ¬ (In (take count actions) (action.Check about))

@@ -60,8 +60,8 @@ pub(crate) fn walk(
             walk(alloc, edges, longer, rest, later, jumps, next)
         }
         Stmt::Where { cond, .. } => {
-            let cases = list_cases(alloc, cond, true)?;
-            walk_cases(alloc, edges, &trail, &cases, rest, later, jumps, next)
+            let allowed = list_cases(alloc, cond, true)?;
+            walk_cases(alloc, edges, &trail, &allowed, rest, later, jumps, next)
         }
         Stmt::Assume { cond, .. } => {
             let cases = list_cases(alloc, cond, true)?;

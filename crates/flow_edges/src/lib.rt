@@ -5,6 +5,7 @@
 
 mod build;
 mod case;
+mod checked;
 mod completion;
 mod count;
 mod edge;
@@ -27,6 +28,7 @@ mod wide;
 
 pub use build::flow;
 pub use case::{Case, Cases, CasesFault};
+pub use checked::{CheckCases, Checks, checks, prefix_of};
 pub use edge::{Action, Actions, Edge, Edges};
 pub use fault::FlowFault;
 pub use graph::Flow;

@@ -2,7 +2,7 @@
 use Rattle.std.specs.Prelude.{◌==◌, ◌+◌, ◌-◌, ◌*◌, ℕ, Bool, true, false, List, [], ◌∷◌, length, map, max}
 use Rattle.std.specs.List.{filter, list_any, sum_by, count_by, range_with_len}
 use Rattle.flow_edges.specs.declared.edge.Action.{Action}
-use Rattle.flow_edges.specs.declared.edge.Action.TheVariants.{Guard, Assign, Havoc}
+use Rattle.flow_edges.specs.declared.edge.Action.TheVariants.{Guard, Assign, Havoc, Check}
 use Rattle.flow_edges.specs.declared.edge.Edge.{Edge}
 use Rattle.flow_systems.specs.FreeValues.{free_count}
 use Rattle.flow_systems.specs.Equations.{Equations}
@@ -12,12 +12,14 @@ abbrev pub is_guard : Action → Bool
 is_guard (Guard form) = true
 is_guard (Assign var form) = false
 is_guard (Havoc var) = false
+is_guard (Check about) = false
 
 -- a free assignment
 abbrev pub is_havoc : Action → Bool
 is_havoc (Guard form) = false
 is_havoc (Assign var form) = false
 is_havoc (Havoc var) = true
+is_havoc (Check about) = false
 
 -- how many guards there are
 abbrev pub guard_count : List Action → ℕ

@@ -2,7 +2,7 @@
 use Rattle.std.specs.Prelude.{pos}
 use Rattle.lang_tree.specs.declared.form.Form.{Form}
 use Rattle.flow_edges.specs.declared.edge.Action.{Action}
-use Rattle.flow_edges.specs.declared.edge.Action.TheVariants.{Guard, Assign, Havoc}
+use Rattle.flow_edges.specs.declared.edge.Action.TheVariants.{Guard, Assign, Havoc, Check}
 use Rattle.flow_systems.specs.declared.sums.Constants.{Constants}
 use Rattle.flow_systems.specs.declared.sums.Constants.TheVariants.{Kept, Zero}
 
@@ -15,6 +15,7 @@ abbrev pub linear_action : Action → Action
 linear_action (Guard form) = Guard (linear_form form)
 linear_action (Assign var form) = Assign var (linear_form form)
 linear_action (Havoc var) = Havoc var
+linear_action (Check about) = Check about
 
 -- a form with its own constant or with 0
 abbrev pub form_with : Constants → Form → Form

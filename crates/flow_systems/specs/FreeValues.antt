@@ -2,7 +2,7 @@
 use Rattle.std.specs.Prelude.{◌≡◌, ◌↔◌, ℕ, suc, List, [], ◌∷◌, length, slice_set}
 use Rattle.base_numbers.specs.Rational.{ℚ, zero_ℚ, ◌≤ℚ◌}
 use Rattle.flow_edges.specs.declared.edge.Action.{Action}
-use Rattle.flow_edges.specs.declared.edge.Action.TheVariants.{Guard, Assign, Havoc}
+use Rattle.flow_edges.specs.declared.edge.Action.TheVariants.{Guard, Assign, Havoc, Check}
 use Rattle.flow_systems.specs.States.{RationalState, valueℚ, Traces}
 
 -- how many free assignments there are
@@ -11,6 +11,7 @@ free_count [] = 0
 free_count (Guard form ∷ actions) = free_count actions
 free_count (Assign var form ∷ actions) = free_count actions
 free_count (Havoc var ∷ actions) = suc (free_count actions)
+free_count (Check about ∷ actions) = free_count actions
 
 -- the trace from one state to another that takes these values at the free assignments, in order
 abbrev pub Follows : List Action → RationalState → List ℚ → RationalState → Type 0
@@ -20,6 +21,7 @@ Follows (Guard form ∷ actions) x free y = (valueℚ form x ≤ℚ zero_ℚ) ×
 Follows (Assign var form ∷ actions) x free y = Follows actions (slice_set x var (valueℚ form x)) free y
 Follows (Havoc var ∷ actions) x [] y = ⊥
 Follows (Havoc var ∷ actions) x (q ∷ free) y = Follows actions (slice_set x var q) free y
+Follows (Check about ∷ actions) x free y = Follows actions x free y
 
 -- each trace along the actions takes some values, one for each free assignment, and these determine its end
 pub record IsFollowed (actions : List Action) : Type 0 where

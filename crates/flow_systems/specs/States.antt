@@ -4,7 +4,7 @@ use Rattle.base_numbers.specs.Rational.{ℚ, whole, zero_ℚ, ◌+ℚ◌, ◌*�
 use Rattle.lang_tree.specs.declared.form.Form.{Form}
 use Rattle.lang_tree.specs.Meaning.{State}
 use Rattle.flow_edges.specs.declared.edge.Action.{Action}
-use Rattle.flow_edges.specs.declared.edge.Action.TheVariants.{Guard, Assign, Havoc}
+use Rattle.flow_edges.specs.declared.edge.Action.TheVariants.{Guard, Assign, Havoc, Check}
 
 -- one fraction per variable, in order of declaration
 abbrev pub RationalState : Type 0
@@ -25,9 +25,10 @@ abbrev pub rational : State → RationalState
 rational x = map whole x
 
 -- a trace along actions leads from one state to another: a guard is at most 0, an assignment sets one place to the form's value, a free one
--- to any fraction
+-- to any fraction, and a check changes nothing
 abbrev pub Traces : List Action → RationalState → RationalState → Type 0
 Traces [] x y = y ≡ x
 Traces (Guard form ∷ actions) x y = (valueℚ form x ≤ℚ zero_ℚ) × Traces actions x y
 Traces (Assign var form ∷ actions) x y = Traces actions (slice_set x var (valueℚ form x)) y
 Traces (Havoc var ∷ actions) x y = (q : ℚ) × Traces actions (slice_set x var q) y
+Traces (Check about ∷ actions) x y = Traces actions x y

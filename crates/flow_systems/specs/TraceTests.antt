@@ -3,7 +3,7 @@ use Rattle.std.specs.Prelude.{◌≡◌, ◌↔◌, ℕ, ℤ, Bool, true, false,
 use Rattle.std.specs.Prelude.{MatchResult}
 use Rattle.base_numbers.specs.Rational.{ℚ, zero_ℚ, le_ℚ}
 use Rattle.flow_edges.specs.declared.edge.Action.{Action}
-use Rattle.flow_edges.specs.declared.edge.Action.TheVariants.{Guard, Assign, Havoc}
+use Rattle.flow_edges.specs.declared.edge.Action.TheVariants.{Guard, Assign, Havoc, Check}
 use Rattle.base_fractions.specs.declared.wide.Wide.{Wide}
 use Rattle.base_fractions.specs.Fits.{long_limit}
 use Rattle.base_fractions.specs.Operation.{Operation, first_wide, operation_of}
@@ -20,6 +20,7 @@ trace_operations (Assign var form ∷ actions) x free row = form_operations form
     ++ trace_operations actions (slice_set x var (valueℚ form x)) free row
 trace_operations (Havoc var ∷ actions) x [] row = []
 trace_operations (Havoc var ∷ actions) x (q ∷ free) row = trace_operations actions (slice_set x var q) free row
+trace_operations (Check about ∷ actions) x free row = trace_operations actions x free row
 
 -- the row's value at the trace's end; or a guard fails, so that the trace has no end
 abbrev pub TraceValue : List Action → RationalState → List ℚ → List ℤ → Option ℚ → Type 0

@@ -44,6 +44,7 @@ fn step(
             state[*var as usize] = free[0];
             Ok(Some(1))
         }
+        Action::Check(_) => Ok(Some(0)),
     }
 }
 

@@ -1,7 +1,7 @@
 -- Why a transition system has no flow within the limits.
 use Rattle.std.specs.Prelude.{◌||◌, ℕ, Bool, true, false, List, Option, Some, None, length, nat_lt, option_map, position, if◌then◌else◌}
 use Rattle.std.specs.List.{find}
-use Rattle.lang_tree.specs.Tree.{Statement, Statements, set, havoc, assume, branch, loop, jump, label, nil, cons}
+use Rattle.lang_tree.specs.Tree.{Statement, Statements, set, havoc, assume, only_where, check, branch, loop, jump, label, nil, cons}
 use Rattle.flow_edges.specs.declared.edge.Edge.{Edge}
 use Rattle.flow_edges.specs.Faults.{is_wide, is_long}
 use Rattle.flow_transitions.specs.declared.auto_edge.AutoEdge.{AutoEdge}
@@ -14,6 +14,8 @@ abbrev pub is_wide_act : Statement → Bool
 is_wide_act (set var form line) = false
 is_wide_act (havoc var line) = false
 is_wide_act (assume cond line) = is_wide true cond
+is_wide_act (only_where cond line) = false
+is_wide_act (check about cond line) = false
 is_wide_act (branch cond first second line) = false
 is_wide_act (loop kind cond body line) = false
 is_wide_act (jump kind line) = false

@@ -1,7 +1,7 @@
 -- Which points and edges make a transition system within the limits.
 use Rattle.std.specs.Prelude.{◌==◌, ◌&&◌, ℕ, Bool, true, false, List, [], ◌∷◌, length, nat_lt, nat_le}
 use Rattle.std.specs.List.{list_all}
-use Rattle.lang_tree.specs.Tree.{Statement, Statements, set, havoc, assume, branch, loop, jump, label, nil, cons}
+use Rattle.lang_tree.specs.Tree.{Statement, Statements, set, havoc, assume, only_where, check, branch, loop, jump, label, nil, cons}
 use Rattle.lang_tree.specs.Limits.{is_form, is_tested}
 use Rattle.lang_tree.specs.declared.limits.TheConstants.{MOST_VARIABLES}
 use Rattle.flow_edges.specs.declared.limits.TheConstants.{MOST_POINTS}
@@ -16,6 +16,8 @@ abbrev pub is_act : ℕ → Statement → Bool
 is_act n (set var form line) = nat_lt var n && is_form n form
 is_act n (havoc var line) = nat_lt var n
 is_act n (assume cond line) = is_tested n cond
+is_act n (only_where cond line) = false
+is_act n (check about cond line) = false
 is_act n (branch cond first second line) = false
 is_act n (loop kind cond body line) = false
 is_act n (jump kind line) = false

@@ -1,7 +1,7 @@
 -- The edges of a transition system: for each edge of the text one for each choice of cases along it.
 use Rattle.std.specs.Prelude.{◌==◌, ◌++◌, ℕ, Bool, true, List, [], ◌∷◌, map, filter, flat_map}
 use Rattle.std.specs.List.{range_with_len}
-use Rattle.lang_tree.specs.Tree.{Statement, Statements, set, havoc, assume, branch, loop, jump, label, nil, cons}
+use Rattle.lang_tree.specs.Tree.{Statement, Statements, set, havoc, assume, only_where, check, branch, loop, jump, label, nil, cons}
 use Rattle.lang_tree.specs.Cases.{cases_of}
 use Rattle.flow_edges.specs.declared.edge.Action.{Action}
 use Rattle.flow_edges.specs.declared.edge.Action.TheVariants.{Assign, Havoc}
@@ -14,6 +14,8 @@ abbrev pub choices_of : Statement → List (List Action)
 choices_of (set var form line) = (Assign var form ∷ []) ∷ []
 choices_of (havoc var line) = (Havoc var ∷ []) ∷ []
 choices_of (assume cond line) = map guards (cases_of true cond)
+choices_of (only_where cond line) = []
+choices_of (check about cond line) = []
 choices_of (branch cond first second line) = []
 choices_of (loop kind cond body line) = []
 choices_of (jump kind line) = []

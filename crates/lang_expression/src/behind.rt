@@ -13,6 +13,7 @@ ghost use Rattle.lang_reader.specs.Modes.{lexeme_kind, machine_of};
 ghost use Rattle.lang_reader.specs.Values.{value_of};
 ghost use Rattle.lang_reader.specs.Views.{state_of};
 
+use crate::demands::demanded;
 use crate::sides::{assigned, right_side};
 use lang_grammar::{Change, Symbol};
 use lang_meaning::ParseFault;
@@ -42,10 +43,7 @@ fn decided(
             let line = line_of(source.text, place);
             Ok(Mode::Ends(one(source.alloc, Stmt::Do { cond, body, line })?))
         }
-        Test::Assume => {
-            let line = line_of(source.text, place);
-            Ok(Mode::Ends(one(source.alloc, Stmt::Assume { cond, line })?))
-        }
+        Test::Demand(demand) => Ok(Mode::Ends(demanded(source, demand, place, cond)?)),
     }
 }
 

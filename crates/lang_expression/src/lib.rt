@@ -2,6 +2,7 @@
 #![tactic(auto)]
 
 mod behind;
+mod demands;
 mod operand;
 mod sides;
 

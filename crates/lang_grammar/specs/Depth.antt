@@ -3,7 +3,7 @@ use Rattle.std.specs.Prelude.{◌++◌, ℕ, suc, List, [], ◌∷◌, Option, S
 use Rattle.lang_grammar.specs.Grammar.{Expr, number, variable, free, grouped, prefixed, joined, Declarator, bare, given, Declarators}
 use Rattle.lang_grammar.specs.Grammar.{declares, declares_more, Core, empty, block, if_alone, if_else, Update, set, step_after, step_before}
 use Rattle.lang_grammar.specs.Grammar.{ForFirst, no_first, declared_first, updated_first, ForTest, no_test, given_test, ForLast, no_last}
-use Rattle.lang_grammar.specs.Grammar.{updated_last, repeat, repeat_after, repeat_for, jumps, assumed, updates, Sub, labelled, plain, Items}
+use Rattle.lang_grammar.specs.Grammar.{updated_last, repeat, repeat_after, repeat_for, jumps, demands, updates, Sub, labelled, plain, Items}
 use Rattle.lang_grammar.specs.Grammar.{no_items, label, declaration, item, Parameters, nothing, void_at, Return, no_return, returns}
 use Rattle.lang_grammar.specs.Grammar.{returns_minus, Program, program}
 
@@ -61,7 +61,7 @@ abbrev mutual
   opens_core d (repeat_for a b f t l s) =
       Some d ∷ None ∷ (opens_first (suc d) f ++ (opens_test (suc d) t ++ (opens_last (suc d) l ++ opens_sub (suc d) s)))
   opens_core d (jumps j a b) = None ∷ None ∷ []
-  opens_core d (assumed a b e c i) = None ∷ None ∷ (opens_expr d e ++ None ∷ None ∷ [])
+  opens_core d (demands k a b e c i) = None ∷ None ∷ (opens_expr d e ++ None ∷ None ∷ [])
   opens_core d (updates u c) = opens_update d u ++ None ∷ []
 
   -- what the tokens of a statement with its labels open

@@ -41,6 +41,11 @@ pub data Jump : Type 0 where
   breaks : Jump
   continues : Jump
 
+-- `assume` and `assert`
+pub data Demand : Type 0 where
+  assumes : Demand
+  asserts : Demand
+
 -- What a token is. The words that stand for one thing are one kind; `other_word` is a reserved word that stands nowhere.
 pub data Kind : Type 0 where
   a_name : List ℕ → Kind
@@ -66,7 +71,7 @@ pub data Kind : Type 0 where
   for_word : Kind
   jump_word : Jump → Kind
   return_word : Kind
-  assume_word : Kind
+  demand_word : Demand → Kind
   nondet_word : Kind
   other_word : Kind
   the_end : Kind
@@ -234,7 +239,7 @@ mutual
     repeat_after : ℕ → Sub → ℕ → ℕ → Expr → ℕ → ℕ → Core
     repeat_for : ℕ → ℕ → ForFirst → ForTest → ForLast → Sub → Core
     jumps : Jump → ℕ → ℕ → Core
-    assumed : ℕ → ℕ → Expr → ℕ → ℕ → Core
+    demands : Demand → ℕ → ℕ → Expr → ℕ → ℕ → Core
     updates : Update → ℕ → Core
 
   -- a statement under another one, with its labels
@@ -264,7 +269,8 @@ abbrev mutual
   spell_core (repeat_for a b f t l s) = token for_word a ∷ token left_paren b
       ∷ (spell_first f ++ (spell_test t ++ (spell_last l ++ spell_sub s)))
   spell_core (jumps j a b) = token (jump_word j) a ∷ token semicolon b ∷ []
-  spell_core (assumed a b e c d) = token assume_word a ∷ token left_paren b ∷ (spell_expr e ++ token right_paren c ∷ token semicolon d ∷ [])
+  spell_core (demands k a b e c d) =
+      token (demand_word k) a ∷ token left_paren b ∷ (spell_expr e ++ token right_paren c ∷ token semicolon d ∷ [])
   spell_core (updates u c) = spell_update u ++ token semicolon c ∷ []
 
   -- how a statement with its labels is spelled
@@ -295,7 +301,7 @@ abbrev mutual
   ending_core (repeat_after a s b c e d i) = shut
   ending_core (repeat_for a b f t l s) = ending_sub s
   ending_core (jumps j a b) = shut
-  ending_core (assumed a b e c d) = shut
+  ending_core (demands k a b e c d) = shut
   ending_core (updates u c) = shut
 
   -- whether a statement with its labels ends with such an `if`
@@ -315,7 +321,7 @@ abbrev mutual
   GoodCore (repeat_after a s b c e d i) = GoodSub s × Groups 0 e
   GoodCore (repeat_for a b f t l s) = GoodFirst f × GoodTest t × GoodLast l × GoodSub s
   GoodCore (jumps j a b) = Unit {0}
-  GoodCore (assumed a b e c d) = Groups 0 e
+  GoodCore (demands k a b e c d) = Groups 0 e
   GoodCore (updates u c) = GoodUpdate u
 
   -- a statement with its labels is good

@@ -4,7 +4,7 @@ use Rattle.lang_grammar.specs.Grammar.{Op, plus_op, minus_op, replaces, Kind, a_
 use Rattle.lang_grammar.specs.Grammar.{left_brace, right_brace}
 use Rattle.lang_grammar.specs.Grammar.{comma, semicolon, colon, change_sign, step_sign, int_word, main_word, void_word, if_word, else_word}
 use Rattle.lang_grammar.specs.Grammar.{while_word}
-use Rattle.lang_grammar.specs.Grammar.{do_word, for_word, jump_word, return_word, assume_word, nondet_word, the_end, Token, token}
+use Rattle.lang_grammar.specs.Grammar.{do_word, for_word, jump_word, return_word, demand_word, nondet_word, the_end, Token, token}
 
 -- what has to stand behind an expression
 pub data Ender : Type 0 where
@@ -141,7 +141,7 @@ statement_entry p d while_word = takes (condition (suc d) ∷ statement in_sub (
 statement_entry p d do_word = takes (statement in_sub (suc d) ∷ do_end (suc d) ∷ next p d)
 statement_entry p d for_word = takes (header (suc d) ∷ statement in_sub (suc d) ∷ next p d)
 statement_entry p d (jump_word j) = takes (only statement_end ∷ next p d)
-statement_entry p d assume_word = takes (condition d ∷ only statement_end ∷ next p d)
+statement_entry p d (demand_word k) = takes (condition d ∷ only statement_end ∷ next p d)
 statement_entry p d (step_sign g) = takes (some_name ∷ only statement_end ∷ next p d)
 statement_entry p d _ = stops
 

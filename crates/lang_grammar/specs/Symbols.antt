@@ -1,12 +1,13 @@
 -- What the code's symbols stand for.
 use Rattle.std.specs.Prelude.{[]}
 use Rattle.lang_grammar.specs.Grammar as g
-use Rattle.lang_grammar.specs.Grammar.{Relation, Op, Change, Direction, Jump, Kind}
+use Rattle.lang_grammar.specs.Grammar.{Relation, Op, Change, Direction, Jump, Demand, Kind}
 use Rattle.lang_grammar.specs.declared.symbol.Relation as code_relation
 use Rattle.lang_grammar.specs.declared.symbol.Op as code_op
 use Rattle.lang_grammar.specs.declared.symbol.Change as code_change
 use Rattle.lang_grammar.specs.declared.symbol.Direction as code_direction
 use Rattle.lang_grammar.specs.declared.symbol.Jump as code_jump
+use Rattle.lang_grammar.specs.declared.symbol.Demand as code_demand
 use Rattle.lang_grammar.specs.declared.symbol.Symbol as code_symbol
 
 -- what a comparison of the code stands for
@@ -43,6 +44,11 @@ abbrev pub jump_of : code_jump.Jump → Jump
 jump_of code_jump.TheVariants.Breaks = g.breaks
 jump_of code_jump.TheVariants.Continues = g.continues
 
+-- what `assume` or `assert` of the code stands for
+abbrev pub demand_of : code_demand.Demand → Demand
+demand_of code_demand.TheVariants.Assumes = g.assumes
+demand_of code_demand.TheVariants.Asserts = g.asserts
+
 -- what a symbol of the code stands for
 abbrev pub symbol_kind : code_symbol.Symbol → Kind
 symbol_kind code_symbol.TheVariants.Name = g.a_name []
@@ -68,7 +74,7 @@ symbol_kind code_symbol.TheVariants.Do = g.do_word
 symbol_kind code_symbol.TheVariants.For = g.for_word
 symbol_kind (code_symbol.TheVariants.Jump j) = g.jump_word (jump_of j)
 symbol_kind code_symbol.TheVariants.Return = g.return_word
-symbol_kind code_symbol.TheVariants.Assume = g.assume_word
+symbol_kind (code_symbol.TheVariants.Demand k) = g.demand_word (demand_of k)
 symbol_kind code_symbol.TheVariants.Nondet = g.nondet_word
 symbol_kind code_symbol.TheVariants.Other = g.other_word
 symbol_kind code_symbol.TheVariants.End = g.the_end

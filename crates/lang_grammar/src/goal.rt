@@ -145,7 +145,7 @@ fn sub(depth: u32, symbol: Symbol) -> Entry
     match symbol {
         Symbol::Name => Entry::One(Goal::AfterName(Place::Sub, depth)),
         Symbol::Semicolon => Entry::Nothing,
-        Symbol::Assume => Entry::Two(Goal::Condition(depth), Goal::Only(Mark::Semicolon)),
+        Symbol::Demand(_) => Entry::Two(Goal::Condition(depth), Goal::Only(Mark::Semicolon)),
         Symbol::Step(_) => Entry::Two(Goal::SomeName, Goal::Only(Mark::Semicolon)),
         Symbol::Jump(_) => Entry::One(Goal::Only(Mark::Semicolon)),
         Symbol::LeftBrace | Symbol::If | Symbol::While | Symbol::Do | Symbol::For
@@ -196,7 +196,11 @@ fn item(place: Place, depth: u32, symbol: Symbol) -> Entry
         Symbol::Name => Entry::Two(Goal::AfterName(place, depth), next),
         Symbol::Semicolon => Entry::One(next),
         Symbol::Int => Entry::Two(Goal::Declarator(depth), next),
-        Symbol::Assume => Entry::Three(Goal::Condition(depth), Goal::Only(Mark::Semicolon), next),
+        Symbol::Demand(_) => Entry::Three(
+            Goal::Condition(depth),
+            Goal::Only(Mark::Semicolon),
+            next,
+        ),
         Symbol::Step(_) => Entry::Three(Goal::SomeName, Goal::Only(Mark::Semicolon), next),
         Symbol::Jump(_) => Entry::Two(Goal::Only(Mark::Semicolon), next),
         Symbol::RightBrace => Entry::Nothing,

@@ -10,4 +10,4 @@ mod symbol;
 pub use expression::{Extent, examine_expression};
 pub use laws::{every_front, one_program};
 pub use machine::{Syntax, examine};
-pub use symbol::{Change, Direction, Jump, Op, Relation, Symbol, symbol_of};
+pub use symbol::{Change, Demand, Direction, Jump, Op, Relation, Symbol, symbol_of};

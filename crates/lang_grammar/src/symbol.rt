@@ -50,6 +50,13 @@ pub enum Jump {
     Continues,
 }
 
+/// `assume` and `assert`.
+#[derive(Clone, Copy)]
+pub enum Demand {
+    Assumes,
+    Asserts,
+}
+
 /// What a token is to the grammar, whatever its name or number
 /// (docs/FORMATS.md, "Grammar").
 #[derive(Clone, Copy)]
@@ -77,7 +84,7 @@ pub enum Symbol {
     For,
     Jump(Jump),
     Return,
-    Assume,
+    Demand(Demand),
     Nondet,
     /// A reserved word that stands nowhere in a program.
     Other,
@@ -130,7 +137,8 @@ fn word_symbol(word: Word) -> Symbol
         Word::Break => Symbol::Jump(Jump::Breaks),
         Word::Continue => Symbol::Jump(Jump::Continues),
         Word::Return => Symbol::Return,
-        Word::Assume | Word::VerifierAssume => Symbol::Assume,
+        Word::Assume | Word::VerifierAssume => Symbol::Demand(Demand::Assumes),
+        Word::Assert | Word::VerifierAssert => Symbol::Demand(Demand::Asserts),
         Word::Nondet | Word::VerifierNondetInt => Symbol::Nondet,
         _ => Symbol::Other,
     }

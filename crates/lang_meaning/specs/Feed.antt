@@ -1,11 +1,11 @@
 -- The walk token by token, with a stack of what is pending.
 use Rattle.std.specs.Prelude.{if◌then◌else◌, nat_lt, Bool, true, false, ℕ, pos, List, [], ◌∷◌, length, Option, Some, None, Result, Ok}
 use Rattle.lang_grammar.specs.Grammar.{Op, or_op, and_op, compare_op, plus_op, minus_op, times_op, level, Prefix, negative, positive}
-use Rattle.lang_grammar.specs.Grammar.{negation, Change, Direction}
+use Rattle.lang_grammar.specs.Grammar.{negation, Change, Direction, Demand}
 use Rattle.lang_grammar.specs.Grammar.{Kind, a_name, a_number, infix_sign, bang, left_paren, right_paren, left_brace, right_brace, comma}
 use Rattle.lang_grammar.specs.Grammar.{semicolon, colon}
 use Rattle.lang_grammar.specs.Grammar.{change_sign, step_sign, int_word, if_word, else_word, while_word, do_word, for_word, jump_word}
-use Rattle.lang_grammar.specs.Grammar.{return_word, assume_word, nondet_word, Token, token}
+use Rattle.lang_grammar.specs.Grammar.{return_word, demand_word, nondet_word, Token, token}
 use Rattle.lang_tree.specs.declared.change.Change as tree_change
 use Rattle.lang_tree.specs.declared.change.Change.TheVariants as change
 use Rattle.lang_tree.specs.Tree as tree
@@ -16,7 +16,7 @@ use Rattle.lang_meaning.specs.Forms.{constant_form, variable_form}
 use Rattle.lang_meaning.specs.Walk.{Value, a_form, a_truth, a_nondet, two_conditions, State, start_state, followed_by, one, counted}
 use Rattle.lang_meaning.specs.Walk.{labelled_by, known_number}
 use Rattle.lang_meaning.specs.Walk.{combined, prefix_value, ranged, regarded, tested, right_side, assignment, assigned, always, jump_kind}
-use Rattle.lang_meaning.specs.Walk.{jumped, step_node}
+use Rattle.lang_meaning.specs.Walk.{jumped, counted_for, demanded, step_node}
 use Rattle.lang_meaning.specs.Walk.{declared_by, closed, program_of}
 
 -- what a condition in parentheses belongs to
@@ -25,7 +25,7 @@ pub data Test : Type 0 where
   of_while : Test
   -- a `do` whose body has these nodes
   of_do : Statements → Test
-  of_assume : Test
+  of_demand : Demand → Test
 
 -- what statements belong to
 pub data Within : Type 0 where
@@ -284,7 +284,7 @@ module _ (line : ℕ → ℕ) (width : ℕ) where
   decided of_if a st fs c = counted a st >>= λ now. Ok (at now (under (of_branch c a) nil ∷ fs) stands)
   decided of_while a st fs c = counted a st >>= λ now. Ok (at now (under (of_loop c a) nil ∷ fs) stands)
   decided (of_do ns) a st fs c = Ok (at st fs (ends (one (tree.loop tree.do_loop c ns (line a)))))
-  decided of_assume a st fs c = Ok (at st fs (ends (one (tree.assume c (line a)))))
+  decided (of_demand k) a st fs c = Ok (at st fs (ends (demanded line k a c)))
 
   -- behind a whole expression
   abbrev pub after_paren : State → List Frame × Value → Outcome
@@ -324,7 +324,7 @@ module _ (line : ℕ → ℕ) (width : ℕ) where
   begun st fs do_word a = counted a st >>= λ now. Ok (at now (under (of_body a) nil ∷ fs) stands)
   begun st fs for_word a = Ok (at st fs (heads a))
   begun st fs (jump_word j) a = jumped (is_inside fs) a st >>= λ now. Ok (at now fs (ends (one (tree.jump (jump_kind j) (line a)))))
-  begun st fs assume_word a = counted a st >>= λ now. Ok (at now fs (opens of_assume a))
+  begun st fs (demand_word k) a = counted_for k a st >>= λ now. Ok (at now fs (opens (of_demand k) a))
   begun st fs (step_sign g) a = counted a st >>= λ now. Ok (at now fs (stepping g a))
   begun st fs _ a = Ok (at st fs stands)
 

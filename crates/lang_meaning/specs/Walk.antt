@@ -9,16 +9,17 @@ use Rattle.lang_grammar.specs.Grammar.{Prefix, negative, positive, negation, Cha
 use Rattle.lang_grammar.specs.Grammar.{number, variable, free}
 use Rattle.lang_grammar.specs.Grammar.{grouped, prefixed, joined, Declarator, bare, given, Declarators, declares, declares_more, Core}
 use Rattle.lang_grammar.specs.Grammar.{empty, block, if_alone}
-use Rattle.lang_grammar.specs.Grammar.{if_else, repeat, repeat_after, repeat_for, jumps, assumed, updates, Update, set, step_after}
+use Rattle.lang_grammar.specs.Grammar.{if_else, repeat, repeat_after, repeat_for, jumps, demands, updates, Update, set, step_after}
 use Rattle.lang_grammar.specs.Grammar.{step_before, ForFirst, no_first}
 use Rattle.lang_grammar.specs.Grammar.{declared_first, updated_first, ForTest, no_test, given_test, ForLast, no_last, updated_last, Jump}
-use Rattle.lang_grammar.specs.Grammar.{breaks, continues}
+use Rattle.lang_grammar.specs.Grammar.{breaks, continues, Demand, assumes, asserts}
 use Rattle.lang_grammar.specs.Grammar.{Sub, labelled, plain, Items, no_items, label, declaration, item, Program, program}
 use Rattle.lang_tree.specs.declared.change.Change as tree_change
 use Rattle.lang_tree.specs.declared.change.Change.TheVariants as change
 use Rattle.lang_tree.specs.declared.form.Form.{Form}
 use Rattle.lang_tree.specs.declared.cond.Rel.{Rel}
 use Rattle.lang_tree.specs.declared.cond.Rel.TheVariants as rel
+use Rattle.lang_tree.specs.declared.check.CheckKind.TheVariants as check_kind
 use Rattle.lang_tree.specs.Numbers.{is_number}
 use Rattle.lang_tree.specs.Tree as tree
 use Rattle.lang_tree.specs.Tree.{Condition, Statement, Statements, nil, cons, leaf_count}
@@ -204,6 +205,16 @@ abbrev pub jumped : Bool → ℕ → State → Result State ParseFault
 jumped true a st = counted a st
 jumped false a st = Err (OutsideLoop a)
 
+-- the nodes of an `assume` or `assert` at this place: one, or two
+abbrev pub counted_for : Demand → ℕ → State → Result State ParseFault
+counted_for assumes a st = counted a st
+counted_for asserts a st = counted a st >>= λ now. counted a now
+
+-- what an `assume` or `assert` at this place is: the run goes on only where its condition may be true; before that an `assert` is checked
+abbrev pub demanded : (ℕ → ℕ) → Demand → ℕ → Condition → Statements
+demanded line assumes a x = one (tree.assume x (line a))
+demanded line asserts a x = cons (tree.check (record { kind = check_kind.Assert; at = a }) x (line a)) (one (tree.only_where x (line a)))
+
 -- a variable is declared, with what it takes
 abbrev pub declared_by : (ℕ → ℕ) → List ℕ → ℕ → Option Form → State → Result (State × Statement) ParseFault
 declared_by line x a o st = elim (place_of x st.names) [
@@ -300,8 +311,8 @@ module _ (line : ℕ → ℕ) (width : ℕ) where
           followed_by r.1 (one (tree.loop (tree.for_loop u.1) x q.1 (line a))),
         )
     walk_core inside (jumps j a b) st = jumped inside a st >>= λ now. Ok (now, one (tree.jump (jump_kind j) (line a)))
-    walk_core inside (assumed a b e c d) st = counted a st >>= λ now. walk_expr now e >>= λ v. tested a v
-        >>= λ x. Ok (now, one (tree.assume x (line a)))
+    walk_core inside (demands k a b e c d) st = counted_for k a st >>= λ now. walk_expr now e >>= λ v. tested a v
+        >>= λ x. Ok (now, demanded line k a x)
     walk_core inside (updates u c) st = walk_update u st >>= λ r. Ok (r.0, change_nodes r.1)
 
     pub walk_sub : (inside : Bool) → Sub → State → Result (State × Statements) ParseFault
@@ -337,7 +348,7 @@ abbrev mutual
   declared_core (repeat_after a s b c e d i) = declared_sub s
   declared_core (repeat_for a b f t l s) = declared_before f + declared_sub s
   declared_core (jumps j a b) = 0
-  declared_core (assumed a b e c d) = 0
+  declared_core (demands k a b e c d) = 0
   declared_core (updates u c) = 0
 
   pub declared_sub : Sub → ℕ

@@ -1,9 +1,9 @@
 -- What the frames of the second pass stand for.
 use Rattle.std.specs.Prelude.{List, map}
 use Rattle.lang_grammar.specs.Grammar.{Prefix, negative, positive, negation}
-use Rattle.lang_grammar.specs.Symbols.{op_of, change_of}
+use Rattle.lang_grammar.specs.Symbols.{op_of, change_of, demand_of}
 use Rattle.lang_tree.specs.View.{condition_of, statements_of}
-use Rattle.lang_meaning.specs.Feed.{Test, of_if, of_while, of_do, of_assume, Within, of_items, of_branch, of_other, of_loop, of_body}
+use Rattle.lang_meaning.specs.Feed.{Test, of_if, of_while, of_do, of_demand, Within, of_items, of_branch, of_other, of_loop, of_body}
 use Rattle.lang_meaning.specs.Feed.{of_for, Frame, side, before}
 use Rattle.lang_meaning.specs.Feed.{group, test, assigns, initial, header, header_tested, under}
 use Rattle.lang_reader.specs.Values.{value_of}
@@ -21,7 +21,7 @@ abbrev pub test_of : code_test.Test → Test
 test_of code_test.TheVariants.If = of_if
 test_of code_test.TheVariants.While = of_while
 test_of (code_test.TheVariants.Do b) = of_do b
-test_of code_test.TheVariants.Assume = of_assume
+test_of (code_test.TheVariants.Demand k) = of_demand (demand_of k)
 
 abbrev pub within_of : code_within.Within → Within
 within_of (code_within.TheVariants.Items k) = of_items k

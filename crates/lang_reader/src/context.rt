@@ -5,11 +5,13 @@ ghost use Rattle.base_limits.specs.declared.limits.TheConstants.{MOST_TEXT_BYTES
 ghost use Rattle.lang_tokens.specs.Lines.{line_at};
 ghost use Rattle.lang_tree.specs.View.{statement_of};
 ghost use Rattle.lang_meaning.specs.Expressions.{knowing};
-ghost use Rattle.lang_meaning.specs.Walk.{start_state, counted, jumped, labelled_by, known_number, assignment, declared_by, closed};
+ghost use Rattle.lang_grammar.specs.Symbols.{demand_of};
+ghost use Rattle.lang_meaning.specs.Walk.{start_state, counted, counted_for, jumped, labelled_by, known_number, assignment, declared_by, closed};
 ghost use Rattle.lang_meaning.specs.Gives.{Gives};
 ghost use Rattle.lang_reader.specs.Views.{state_of};
 
 use crate::names::NameTable;
+use lang_grammar::Demand;
 use lang_meaning::{Limit, ParseFault};
 use lang_tokens::line_of;
 use lang_tree::{Form, MOST_VARIABLES, Name, Names, Stmt};
@@ -88,6 +90,19 @@ impl Context {
             self.counted(at)
         } else {
             Err(ParseFault::OutsideLoop { at })
+        }
+    }
+
+    /// Counts the nodes of the `assume` or `assert` at `at`.
+    pub fn counted_for(&mut self, demand: Demand, at: u32) -> Result<(), ParseFault>
+        ensures { Gives (λ _. state_of self.new) result (counted_for (demand_of demand) at (state_of self.old)) }
+    {
+        match demand {
+            Demand::Assumes => self.counted(at),
+            Demand::Asserts => {
+                self.counted(at)?;
+                self.counted(at)
+            }
         }
     }
 

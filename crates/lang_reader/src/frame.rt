@@ -1,7 +1,7 @@
 //! What is pending while a text is read.
 
 use crate::value::Value;
-use lang_grammar::{Change, Op};
+use lang_grammar::{Change, Demand, Op};
 use lang_tree::{Block, Change as ForChange, Cond, Name, Stmt};
 
 /// A sign before an operand.
@@ -19,7 +19,8 @@ pub enum Test {
     While,
     /// A `do` with its body.
     Do(Block),
-    Assume,
+    /// An `assume` or `assert`.
+    Demand(Demand),
 }
 
 /// What statements belong to. A place is that of the first token of an `if` or a loop.

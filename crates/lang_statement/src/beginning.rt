@@ -64,9 +64,9 @@ fn opened(source: &Source, reader: &mut Reader, symbol: Symbol, place: u32) -> N
             let node = jump_node(jump, line_of(source.text, place));
             Ok(Mode::Ends(one(source.alloc, node)?))
         }
-        Symbol::Assume => {
-            reader.context.counted(place)?;
-            Ok(Mode::Opens(Test::Assume, place))
+        Symbol::Demand(demand) => {
+            reader.context.counted_for(demand, place)?;
+            Ok(Mode::Opens(Test::Demand(demand), place))
         }
         Symbol::Step(direction) => {
             reader.context.counted(place)?;

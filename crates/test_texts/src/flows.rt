@@ -42,6 +42,10 @@ fn write_action(text: &mut String, action: &Action) -> Result<(), AllocError> {
             write_form(text, form)
         }
         Action::Havoc { .. } => text.push_str(" x=?"),
+        Action::Check(check) => {
+            let at = check.at;
+            write!(text, " check@{at}")
+        }
     }
 }
 
@@ -95,6 +99,15 @@ const PROGRAMS: &[(&[u8], &str)] = &[
     (
         b"int main() { int x = 0; while (x < 100) { x = x + 1; } }",
         "entry 0\nloop 1\nexit 0\n0>1 x=0x+0\n1>1 1x-99 x=1x+1\n1>2 -1x+100\n",
+    ),
+    // An `assert` makes no point; the cases in which it holds are ways.
+    (
+        b"int main() { int x = 0; while (x < 100) { assert(x < 50); x++; } }",
+        "entry 0\nloop 1\nexit 0\n0>1 x=0x+0\n1>1 1x-99 check@42 1x-49 x=1x+1\n1>2 -1x+100\n",
+    ),
+    (
+        b"int main() { int x; __VERIFIER_assert(x != 3); assert(nondet()); }",
+        "entry 0\nexit 0\n0>1 x=? check@20 1x-2 check@47\n0>1 x=? check@20 -1x+4 check@47\n",
     ),
     (
         b"int main() { int x; while (nondet()) {\nif (x < 5) a: ; else assume(x != 3);\nassume(x == 7); } }",

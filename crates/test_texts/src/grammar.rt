@@ -37,6 +37,26 @@ const TEXTS: &[(&[u8], Syntax)] = &[
     ),
     (b"int main() { while (!x) a: ++x; }", Syntax::Whole),
     (b"int main() { __VERIFIER_assume(x <= 1); }", Syntax::Whole),
+    (
+        b"int main() { assert(x <= 1); if (1) __VERIFIER_assert(nondet()); }",
+        Syntax::Whole,
+    ),
+    (b"int main() { assert x; }", Syntax::Unexpected { at: 20 }),
+    (b"int main() { assert(); }", Syntax::Unexpected { at: 20 }),
+    (
+        b"int main() { assert(x = 1); }",
+        Syntax::Unexpected { at: 22 },
+    ),
+    (b"int main() { assert(x) }", Syntax::Unexpected { at: 23 }),
+    (
+        b"int main() { x = assert(1); }",
+        Syntax::Unexpected { at: 17 },
+    ),
+    (b"int main() { int assert; }", Syntax::Unexpected { at: 17 }),
+    (
+        b"int main() { assume: assert(1); }",
+        Syntax::Unexpected { at: 19 },
+    ),
     (b"", Syntax::Unexpected { at: 0 }),
     (b"int main() {", Syntax::Unexpected { at: 12 }),
     (b"int main() { } ;", Syntax::Unexpected { at: 15 }),
@@ -100,6 +120,7 @@ const SHAPES: &[(&[u8], &[u8], usize, &[u8], Syntax)] = &[
         b"); }",
         Syntax::Whole,
     ),
+    (START, b"assert(x); ", 5_000, b"}", Syntax::Whole),
 ];
 
 #[test]

@@ -4,7 +4,7 @@ use Rattle.base_numbers.specs.Rational.{ℚ, whole, zero_ℚ, one_ℚ, ◌+ℚ�
 use Rattle.base_numbers.specs.Vector.{dot, add_vec, scale_vec}
 use Rattle.lang_tree.specs.declared.form.Form.{Form}
 use Rattle.flow_edges.specs.declared.edge.Action.{Action}
-use Rattle.flow_edges.specs.declared.edge.Action.TheVariants.{Guard, Assign, Havoc}
+use Rattle.flow_edges.specs.declared.edge.Action.TheVariants.{Guard, Assign, Havoc, Check}
 use Rattle.flow_systems.specs.States.{RationalState}
 
 -- the start values and then the free values, in order
@@ -60,6 +60,7 @@ guards_from k fs [] = []
 guards_from k fs (Guard form ∷ actions) = composed form fs ∷ guards_from k fs actions
 guards_from k fs (Assign var form ∷ actions) = guards_from k (slice_set fs var (composed form fs)) actions
 guards_from k fs (Havoc var ∷ actions) = guards_from (suc k) (slice_set fs var (column k)) actions
+guards_from k fs (Check about ∷ actions) = guards_from k fs actions
 
 -- the state of forms at the end
 unfoldable pub ends_from : ℕ → List Affine → List Action → List Affine
@@ -67,6 +68,7 @@ ends_from k fs [] = fs
 ends_from k fs (Guard form ∷ actions) = ends_from k fs actions
 ends_from k fs (Assign var form ∷ actions) = ends_from k (slice_set fs var (composed form fs)) actions
 ends_from k fs (Havoc var ∷ actions) = ends_from (suc k) (slice_set fs var (column k)) actions
+ends_from k fs (Check about ∷ actions) = ends_from k fs actions
 
 -- how many free values a word has
 unfoldable pub free_count : List Action → ℕ
@@ -74,6 +76,7 @@ free_count [] = 0
 free_count (Guard form ∷ actions) = free_count actions
 free_count (Assign var form ∷ actions) = free_count actions
 free_count (Havoc var ∷ actions) = suc (free_count actions)
+free_count (Check about ∷ actions) = free_count actions
 
 -- how many columns a word over n variables has
 unfoldable pub width : ℕ → List Action → ℕ

@@ -3,7 +3,7 @@ use Rattle.std.proofs.Common.{◌≡◌, ◌∙◌, ℕ, ◌+◌, ◌<◌, List,
 use Rattle.std.proofs.lemmas.List.{get_or-map, drop_more}
 use Rattle.lang_tree.specs.declared.form.Form.{Form}
 use Rattle.flow_edges.specs.declared.edge.Action.{Action}
-use Rattle.flow_edges.specs.declared.edge.Action.TheVariants.{Guard, Assign, Havoc}
+use Rattle.flow_edges.specs.declared.edge.Action.TheVariants.{Guard, Assign, Havoc, Check}
 use Rattle.flow_systems.specs.Constants.{form_with, action_with}
 use Rattle.flow_systems.specs.FreeValues.{free_count}
 use Rattle.flow_systems.specs.declared.sums.Constants.{Constants}
@@ -36,6 +36,7 @@ free_with Kept action = refl
 free_with Zero (Guard form) = refl
 free_with Zero (Assign var form) = refl
 free_with Zero (Havoc var) = refl
+free_with Zero (Check about) = refl
 
 -- the action at a place
 pub action_with-at : (constants : Constants) (actions : List Action) (i : ℕ) (action : Action) → i < length actions

@@ -12,7 +12,7 @@ use Rattle.std.proofs.lemmas.List.Sums.{count_by-le-length}
 use Rattle.std.proofs.lemmas.List.Elements.{filter-append}
 use Rattle.std.proofs.lemmas.List.Recursion.{is_count_by}
 use Rattle.flow_edges.specs.declared.edge.Action.{Action}
-use Rattle.flow_edges.specs.declared.edge.Action.TheVariants.{Guard, Assign, Havoc}
+use Rattle.flow_edges.specs.declared.edge.Action.TheVariants.{Guard, Assign, Havoc, Check}
 use Rattle.flow_edges.specs.declared.edge.Edge.{Edge}
 use Rattle.flow_edges.specs.declared.graph.Flow.{Flow}
 use Rattle.flow_edges.specs.FlowLimits.{is_action, is_edge}
@@ -30,6 +30,7 @@ free_count-is actions = is_count_by free_count is_havoc refl step actions
     step (Guard form) more = refl
     step (Assign var form) more = refl
     step (Havoc var) more = let e : suc (free_count more) ≡ 1 + free_count more = omega arith in e
+    step (Check about) more = refl
 
 -- the greater of two numbers as the code finds it
 pub max-is : (a b : ℕ) → ord_max nat_cmp a b ≡ max a b

@@ -8,12 +8,12 @@ use Rattle.base_facts.specs.Elements.{In}
 use Rattle.base_numbers.specs.Rational.{whole, zero_ℚ, ◌≤ℚ◌}
 use Rattle.base_numbers.specs.Extended.{fin, ◌≤ᴱ◌}
 use Rattle.base_numbers.proofs.rational.Laws.{whole-zero, whole_le}
-use Rattle.lang_tree.specs.Tree.{Statements, while_loop, for_loop, do_loop, breaks, continues, set, havoc, assume, branch, loop, jump}
-use Rattle.lang_tree.specs.Tree.{label}
+use Rattle.lang_tree.specs.Tree.{Statements, while_loop, for_loop, do_loop, breaks, continues, set, havoc, assume, only_where, check}
+use Rattle.lang_tree.specs.Tree.{branch, loop, jump, label}
 use Rattle.lang_tree.specs.Meaning.{State, value}
 use Rattle.lang_tree.specs.Runs.{Item, node, mark, turn, end, start_work, Does, Configuration, Step, Follows}
 use Rattle.flow_edges.specs.declared.edge.Action.{Action}
-use Rattle.flow_edges.specs.declared.edge.Action.TheVariants.{Guard, Assign, Havoc}
+use Rattle.flow_edges.specs.declared.edge.Action.TheVariants.{Guard, Assign, Havoc, Check}
 use Rattle.flow_edges.specs.Steps.{Labelled, steps_of, Acts}
 use Rattle.flow_edges.specs.Paths.{Leads, here, past, done, Arrives, at_mark, by_step, Path}
 use Rattle.flow_edges.specs.PathLaws.{EdgesArePaths, IsMark}
@@ -33,6 +33,7 @@ trace-append [] b x y z h k = subst (λ w. Traces b w z) h k
 trace-append (Guard f ∷ a) b x y z h k = (h.0, trace-append a b x y z h.1 k)
 trace-append (Assign var f ∷ a) b x y z h k = trace-append a b (slice_set x var (valueℚ f x)) y z h k
 trace-append (Havoc var ∷ a) b x y z h k = (h.0, trace-append a b (slice_set x var h.0) y z h.1 k)
+trace-append (Check about ∷ a) b x y z h k = trace-append a b x y z h k
 
 -- actions that lead from one integer state to another are a trace
 acts_trace : (actions : List Action) (x y : State) → Acts actions x y → Traces actions (rational x) (rational y)
@@ -46,6 +47,7 @@ acts_trace (Assign var f ∷ actions) x y h =
     subst (λ z. Traces actions z (rational y)) e (acts_trace actions (slice_set x var (value f x)) y h)
 acts_trace (Havoc var ∷ actions) x y h =
     (whole h.0, subst (λ z. Traces actions z (rational y)) (map-set whole x var h.0) (acts_trace actions (slice_set x var h.0) y h.1))
+acts_trace (Check about ∷ actions) x y h = acts_trace actions x y h
 
 -- a labelled step with the item that leaves this work, along which a trace leads from one state to the other
 abbrev Recorded : Item → List Item → State → List Item → State → Type 0
@@ -61,6 +63,8 @@ keeps_length (mark p) rest x work y d = ap length d.1
 keeps_length (node (set var form line) n) rest x work y d = ap length d.1 ∙ length-set x var (value form x)
 keeps_length (node (havoc var line) n) rest x work y d = ap length d.2 ∙ length-set x var d.0
 keeps_length (node (assume c line) n) rest x work y d = ap length d.2
+keeps_length (node (only_where c line) n) rest x work y d = ap length d.2
+keeps_length (node (check about c line) n) rest x work y d = ap length d.1
 keeps_length (node (branch c first second line) n) rest x work y d = ap length d.3
 keeps_length (node (loop kind c body line) n) rest x work y d = ap length d.1
 keeps_length (node (jump breaks line) n) rest x work y d = ap length d.1

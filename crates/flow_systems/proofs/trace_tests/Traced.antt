@@ -8,7 +8,7 @@ use Rattle.std.proofs.lemmas.List.Folds.{list_all_at}
 use Rattle.base_numbers.specs.Rational.{ℚ, zero_ℚ, le_ℚ, ◌≤ℚ◌}
 use Rattle.base_numbers.specs.Extended.{fin}
 use Rattle.flow_edges.specs.declared.edge.Action.{Action}
-use Rattle.flow_edges.specs.declared.edge.Action.TheVariants.{Guard, Assign, Havoc}
+use Rattle.flow_edges.specs.declared.edge.Action.TheVariants.{Guard, Assign, Havoc, Check}
 use Rattle.lang_tree.specs.declared.form.Form.{Form}
 use Rattle.base_fractions.specs.Fits.{long_limit}
 use Rattle.base_fractions.specs.Operation.{Operation, first_wide}
@@ -32,6 +32,7 @@ pub free_count-cons : (action : Action) (rest : List Action) → free_count (act
 free_count-cons (Guard form) rest = let e : free_count rest ≡ 0 + free_count rest = omega arith in e
 free_count-cons (Assign var form) rest = let e : free_count rest ≡ 0 + free_count rest = omega arith in e
 free_count-cons (Havoc var) rest = omega arith
+free_count-cons (Check about) rest = let e : free_count rest ≡ 0 + free_count rest = omega arith in e
 
 -- ---- one action
 module _ (form : Form) (x : RationalState) (free : List ℚ) where

@@ -5,14 +5,14 @@ use Rattle.std.proofs.lemmas.Bool.{and_parts, false≢true}
 use Rattle.base_facts.specs.Elements.{In}
 use Rattle.base_facts.proofs.elements.Membership.{in_map, of_map, in_flat_map, of_flat_map}
 use Rattle.lang_tree.specs.declared.form.Form.{Form}
-use Rattle.lang_tree.specs.Tree.{Statement, Statements, set, havoc, assume, branch, loop, jump, label, nil, cons}
+use Rattle.lang_tree.specs.Tree.{Statement, Statements, set, havoc, assume, only_where, check, branch, loop, jump, label, nil, cons}
 use Rattle.lang_tree.specs.Cases.{cases_of}
 use Rattle.lang_tree.specs.Meaning.{State, value}
 use Rattle.lang_tree.specs.Runs.{node, mark}
 use Rattle.lang_tree.specs.PointNumbers.{splits}
 use Rattle.std.specs.Prelude.{slice_set, if◌then◌else◌}
 use Rattle.flow_edges.specs.declared.edge.Action.{Action}
-use Rattle.flow_edges.specs.declared.edge.Action.TheVariants.{Guard, Assign, Havoc}
+use Rattle.flow_edges.specs.declared.edge.Action.TheVariants.{Guard, Assign, Havoc, Check}
 use Rattle.flow_edges.specs.Steps.{Labelled, labelled, guards, steps_of, Acts}
 use Rattle.flow_edges.proofs.steps.StepLaw.{steps_law}
 use Rattle.flow_transitions.specs.AutoLimits.{is_act, are_acts}
@@ -26,12 +26,14 @@ acts-append [] b x y z h k = subst (λ w. Acts b w z) h k
 acts-append (Guard f ∷ a) b x y z h k = (h.0, acts-append a b x y z h.1 k)
 acts-append (Assign var f ∷ a) b x y z h k = acts-append a b (slice_set x var (value f x)) y z h k
 acts-append (Havoc var ∷ a) b x y z h k = (h.0, acts-append a b (slice_set x var h.0) y z h.1 k)
+acts-append (Check about ∷ a) b x y z h k = acts-append a b x y z h k
 
 acts_split : (a b : List Action) (x z : State) → Acts (a ++ b) x z → (y : State) × Acts a x y × Acts b y z
 acts_split [] b x z h = (x, refl, h)
 acts_split (Guard f ∷ a) b x z h = let r = acts_split a b x z h.1 in (r.0, (h.0, r.1), r.2)
 acts_split (Assign var f ∷ a) b x z h = acts_split a b (slice_set x var (value f x)) z h
 acts_split (Havoc var ∷ a) b x z h = let r = acts_split a b (slice_set x var h.0) z h.1 in (r.0, (h.0, r.1), r.2)
+acts_split (Check about ∷ a) b x z h = acts_split a b x z h
 
 -- ---- one act
 -- the choices of an act are the actions of its labelled steps as a program's statement
@@ -47,6 +49,8 @@ choices_are_steps n (assume c line) h = map_map (cases_of true c)
         (λ forms. labelled (guards forms) (if splits c then mark 0 ∷ [] else [])) cs)
     map_map [] = refl
     map_map (forms ∷ cs) = ap (λ r. guards forms ∷ r) (map_map cs)
+choices_are_steps n (only_where c line) h = absurd (false≢true h)
+choices_are_steps n (check about c line) h = absurd (false≢true h)
 choices_are_steps n (branch c first second line) h = absurd (false≢true h)
 choices_are_steps n (loop kind c body line) h = absurd (false≢true h)
 choices_are_steps n (jump kind line) h = absurd (false≢true h)

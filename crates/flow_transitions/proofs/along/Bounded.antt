@@ -13,7 +13,7 @@ use Rattle.base_numbers.specs.Extended.{fin, ◌≤ᴱ◌}
 use Rattle.base_numbers.proofs.rational.Laws.{whole-zero, whole_le}
 use Rattle.lang_tree.specs.Meaning.{State, value}
 use Rattle.flow_edges.specs.declared.edge.Action.{Action}
-use Rattle.flow_edges.specs.declared.edge.Action.TheVariants.{Guard, Assign, Havoc}
+use Rattle.flow_edges.specs.declared.edge.Action.TheVariants.{Guard, Assign, Havoc, Check}
 use Rattle.flow_edges.specs.Steps.{Acts}
 use Rattle.flow_edges.proofs.steps.ElementLemmas.{contains_in}
 use Rattle.flow_systems.specs.States.{dotℚ, rational, Traces}
@@ -46,12 +46,14 @@ acts_trace (Assign var f ∷ actions) x y h =
     subst (λ z. Traces actions z (rational y)) assigned (acts_trace actions (slice_set x var (value f x)) y h)
 acts_trace (Havoc var ∷ actions) x y h =
     (whole h.0, subst (λ z. Traces actions z (rational y)) (map-set whole x var h.0) (acts_trace actions (slice_set x var h.0) y h.1))
+acts_trace (Check about ∷ actions) x y h = acts_trace actions x y h
 
 acts_size : (actions : List Action) (x y : State) → Acts actions x y → length y ≡ length x
 acts_size [] x y h = ap length h
 acts_size (Guard f ∷ actions) x y h = acts_size actions x y h.1
 acts_size (Assign var f ∷ actions) x y h = acts_size actions (slice_set x var (value f x)) y h ∙ length-set x var (value f x)
 acts_size (Havoc var ∷ actions) x y h = acts_size actions (slice_set x var h.0) y h.1 ∙ length-set x var h.0
+acts_size (Check about ∷ actions) x y h = acts_size actions x y h
 
 -- ---- elements
 all_in : {A : Type 0} (p : A → Bool) (xs : List A) (x : A) → IsTrue (list_all p xs) → In xs x → IsTrue (p x)

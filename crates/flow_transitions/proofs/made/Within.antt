@@ -4,7 +4,8 @@ use Rattle.std.specs.Prelude.{◌&&◌, ◌||◌, ◌==◌, IsTrue, None, not, n
 use Rattle.std.specs.List.{list_all, range_with_len}
 use Rattle.std.proofs.lemmas.Bool.{and_from, and_parts, false≢true, leb-true, le-leb, ltb-true, lt-ltb}
 use Rattle.lang_tree.specs.declared.limits.TheConstants.{MOST_VARIABLES}
-use Rattle.lang_tree.specs.Tree.{Condition, Statement, Statements, set, havoc, assume, branch, loop, jump, label, nil, cons, leaf_count}
+use Rattle.lang_tree.specs.Tree.{Condition, Statement, Statements, set, havoc, assume, only_where, check, branch, loop, jump, label, nil}
+use Rattle.lang_tree.specs.Tree.{cons, leaf_count}
 use Rattle.lang_tree.specs.Limits.{is_condition, is_tested}
 use Rattle.lang_tree.specs.Cases.{cases_of}
 use Rattle.flow_edges.specs.declared.limits.TheConstants.{MOST_POINTS}
@@ -90,6 +91,8 @@ act_room : (n : ℕ) (s : Statement) → IsTrue (is_act n s) → IsTrue (has_roo
 act_room n (set var form line) h = refl
 act_room n (havoc var line) h = refl
 act_room n (assume c line) h = condition_room n c (tested n c h)
+act_room n (only_where c line) h = absurd (false≢true h)
+act_room n (check about c line) h = absurd (false≢true h)
 act_room n (branch c first second line) h = absurd (false≢true h)
 act_room n (loop kind c body line) h = absurd (false≢true h)
 act_room n (jump kind line) h = refl
@@ -118,6 +121,8 @@ module _ (n : ℕ) where
   choice_fits (assume c line) h =
       each-map (Each (IsForm n)) (Each Fits) guards (λ forms k. each-map (IsForm n) Fits Guard (λ f q. q) forms k) (cases_of true c)
       (cases_forms n true c (tested n c h))
+  choice_fits (only_where c line) h = tt
+  choice_fits (check about c line) h = tt
   choice_fits (branch c first second line) h = tt
   choice_fits (loop kind c body line) h = tt
   choice_fits (jump kind line) h = tt

@@ -4,7 +4,7 @@ use Rattle.lang_grammar.specs.Grammar.{replaces, minus_op, Prefix, negative, pos
 use Rattle.lang_grammar.specs.Grammar.{left_paren, right_paren}
 use Rattle.lang_grammar.specs.Grammar.{left_brace, right_brace, comma, semicolon, colon, change_sign, step_sign, int_word, main_word}
 use Rattle.lang_grammar.specs.Grammar.{void_word, if_word}
-use Rattle.lang_grammar.specs.Grammar.{else_word, while_word, return_word, assume_word, nondet_word, the_end, sign_of, Token, token, Expr}
+use Rattle.lang_grammar.specs.Grammar.{else_word, while_word, return_word, demand_word, nondet_word, the_end, sign_of, Token, token, Expr}
 use Rattle.lang_grammar.specs.Grammar.{number, variable, free}
 use Rattle.lang_grammar.specs.Grammar.{grouped, prefixed, joined, spell_expr, Declarator, bare, given, Declarators, declares, declares_more}
 use Rattle.lang_grammar.specs.Grammar.{spell_declarator}
@@ -12,7 +12,7 @@ use Rattle.lang_grammar.specs.Grammar.{spell_declarators, do_word, for_word, jum
 use Rattle.lang_grammar.specs.Grammar.{ForFirst, no_first}
 use Rattle.lang_grammar.specs.Grammar.{declared_first, updated_first, spell_first, ForTest, no_test, given_test, spell_test, ForLast}
 use Rattle.lang_grammar.specs.Grammar.{no_last, updated_last}
-use Rattle.lang_grammar.specs.Grammar.{spell_last, Core, empty, block, if_alone, if_else, repeat, repeat_after, repeat_for, jumps, assumed}
+use Rattle.lang_grammar.specs.Grammar.{spell_last, Core, empty, block, if_alone, if_else, repeat, repeat_after, repeat_for, jumps, demands}
 use Rattle.lang_grammar.specs.Grammar.{updates, Sub, labelled}
 use Rattle.lang_grammar.specs.Grammar.{plain, Items, no_items, label, declaration, item, spell_core, spell_sub, spell_items, Parameters}
 use Rattle.lang_grammar.specs.Grammar.{nothing, void_at}
@@ -174,7 +174,7 @@ module _ (f : Kind → ℕ) (w : ℕ) (none : (k : Kind) → IsPlain k → f k �
           total_append f (spell_last l) (spell_sub s),
         )
     core_total (jumps j a b) = omega (arith, none (jump_word j) tt, none semicolon tt)
-    core_total (assumed a b e c d) = test_total assume_word a b e c (token semicolon d ∷ []) (none assume_word tt)
+    core_total (demands k a b e c d) = test_total (demand_word k) a b e c (token semicolon d ∷ []) (none (demand_word k) tt)
         ∙ omega (arith, none semicolon tt)
     core_total (updates u c) = omega (arith, update_total u, none semicolon tt, total_append f (spell_update u) (token semicolon c ∷ []))
 

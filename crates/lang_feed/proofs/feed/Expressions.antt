@@ -13,7 +13,7 @@ use Rattle.lang_meaning.specs.Forms.{constant_form, variable_form}
 use Rattle.lang_meaning.specs.Walk.{Value, a_form, a_nondet, State, known_number, prefix_value, ranged, regarded}
 use Rattle.lang_meaning.specs.Feed as feeds
 use Rattle.lang_meaning.specs.Feed.{combined_small, Frame, side, before, group, test, assigns, initial, header, header_tested, under, of_if}
-use Rattle.lang_meaning.specs.Feed.{of_while, of_assume, wants, has, stands}
+use Rattle.lang_meaning.specs.Feed.{of_while, wants, has, stands}
 use Rattle.lang_meaning.specs.Feed.{heading, after, ends, Mode, Machine, at, Outcome, complete, join_tighter, pushed}
 use Rattle.lang_feed.proofs.feed.SmallConditions.{walk_small}
 use Rattle.lang_meaning.proofs.results.Binds.{bind_assoc, bind_same, bind_both, bind_right}

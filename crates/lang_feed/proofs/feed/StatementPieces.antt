@@ -1,16 +1,18 @@
 -- What a statement leaves within another one, and behind it.
 use Rattle.std.proofs.Common.{◌≡◌, ◌∙◌, ℕ, List, [], ◌∷◌, Ok, refl, sym, ap, ◌++◌, length, Bool, Result, append_assoc}
 use Rattle.lang_grammar.specs.Grammar.{Kind, else_word, while_word, Token, token, Ending, shut, waiting, right_paren, left_paren}
-use Rattle.lang_grammar.specs.Grammar.{right_brace, left_brace, semicolon, if_word, do_word, Groups, Expr, spell_expr, assumed, spell_core}
+use Rattle.lang_grammar.specs.Grammar.{right_brace, left_brace, semicolon, if_word, do_word, Groups, Expr, spell_expr, Demand, demands}
+use Rattle.lang_grammar.specs.Grammar.{spell_core}
 use Rattle.lang_grammar.proofs.grammar.Complete.{NotElse, GoesOn}
 use Rattle.lang_tree.specs.Tree as tree
 use Rattle.lang_tree.specs.Tree.{Condition, Statement, Statements, nil, cons}
 use Rattle.lang_meaning.specs.Results.{◌>>=◌}
-use Rattle.lang_meaning.specs.Walk.{State, followed_by, one, closed, counted, tested, walk_expr, walk_core}
+use Rattle.lang_meaning.specs.Walk.{State, followed_by, one, closed, counted, counted_for, demanded, tested, walk_expr}
+use Rattle.lang_meaning.specs.Walk.{walk_core}
 use Rattle.lang_meaning.specs.Feed as feeds
 use Rattle.lang_meaning.specs.Feed.{Frame, side, before, group, test, assigns, initial, header, header_tested, of_items, of_branch}
 use Rattle.lang_meaning.specs.Feed.{of_other, of_loop, of_body, of_for, under, wrapped, stands, after, Machine, at, Outcome, is_inside}
-use Rattle.lang_meaning.specs.Feed.{pushed, settled, of_if, of_while, of_do, of_assume, wants}
+use Rattle.lang_meaning.specs.Feed.{pushed, settled, of_if, of_while, of_do, of_demand, wants}
 use Rattle.lang_feed.proofs.feed.Expressions.{feed, fed_expr}
 use Rattle.lang_meaning.specs.declared.fault.ParseFault.{ParseFault}
 use Rattle.lang_meaning.proofs.results.Binds.{bind_both, bind_right}
@@ -261,16 +263,17 @@ module _ (line : ℕ → ℕ) (width : ℕ) where
       ∙ bind_right (second r.0) _ (λ q. Ok (q.0, one (tree.branch x r.1 q.1 (line a)))) _
       (λ q. pass q.0 q.0 (under (of_other x r.1 a) nil ∷ fs) fs q.1 (one (tree.branch x r.1 q.1 (line a))) n w h refl refl))))
 
-  -- an assumption does what its condition does
-  pub case_assumed : (a b c d : ℕ) (e : Expr) (w : List Token) (st : State) (fs : List Frame) (n : Bool) → IsOpen fs → Groups 0 e
-      → Does (spell_core (assumed a b e c d)) w st fs (walk_core line width n (assumed a b e c d) st)
-  case_assumed a b c d e w st fs n o g =
-      bind_both (counted a st) (λ now. Ok (at now fs (feeds.opens of_assume a)))
+  -- an `assume` or `assert` does what its condition does
+  pub case_demands : (k : Demand) (a b c d : ℕ) (e : Expr) (w : List Token) (st : State) (fs : List Frame) (n : Bool) → IsOpen fs
+      → Groups 0 e
+      → Does (spell_core (demands k a b e c d)) w st fs (walk_core line width n (demands k a b e c d) st)
+  case_demands k a b c d e w st fs n o g =
+      bind_both (counted_for k a st) (λ now. Ok (at now fs (feeds.opens (of_demand k) a)))
       (λ s. F (token left_paren b ∷ ((spell_expr e ++ token right_paren c ∷ token semicolon d ∷ []) ++ w)) s)
       (λ now. walk_expr line width now e
-      >>= λ v. tested a v >>= λ x. Ok (now, one (tree.assume x (line a)))) _
-      (λ now. condition_fed a of_assume now fs e c (token semicolon d ∷ []) w (λ x. Ok (now, one (tree.assume x (line a)))) g
-      (λ x. ap (λ (m : Machine). F w m) (settled_open now fs (one (tree.assume x (line a))) o)))
+      >>= λ v. tested a v >>= λ x. Ok (now, demanded line k a x)) _
+      (λ now. condition_fed a (of_demand k) now fs e c (token semicolon d ∷ []) w (λ x. Ok (now, demanded line k a x)) g
+      (λ x. ap (λ (m : Machine). F w m) (settled_open now fs (demanded line k a x) o)))
 
   -- a `do` does what its body does
   pub case_do : (a b c d i : ℕ) (e : Expr) (y w : List Token) (st : State) (fs : List Frame) (walked : Walk) → IsOpen fs → Groups 0 e

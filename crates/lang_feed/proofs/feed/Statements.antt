@@ -8,7 +8,7 @@ use Rattle.lang_grammar.specs.Grammar.{declares_more, bare, given, spell_declara
 use Rattle.lang_grammar.specs.Grammar.{Update, set, step_after, step_before, spell_update, GoodUpdate, ForFirst, no_first, declared_first}
 use Rattle.lang_grammar.specs.Grammar.{updated_first, spell_first, GoodFirst, ForTest, no_test, given_test, spell_test, GoodTest, ForLast}
 use Rattle.lang_grammar.specs.Grammar.{no_last, updated_last, spell_last, GoodLast, Jump, Core, empty, block, if_alone, if_else, repeat}
-use Rattle.lang_grammar.specs.Grammar.{repeat_after, repeat_for, jumps, assumed, updates, Sub, labelled, plain, Items, no_items, label}
+use Rattle.lang_grammar.specs.Grammar.{repeat_after, repeat_for, jumps, demands, updates, Sub, labelled, plain, Items, no_items, label}
 use Rattle.lang_grammar.specs.Grammar.{declaration, item, spell_core, spell_sub, spell_items, ending_core, ending_sub, GoodCore, GoodSub}
 use Rattle.lang_grammar.specs.Grammar.{GoodItems, Return, no_return, returns, returns_minus, spell_return, Parameters, nothing, void_at}
 use Rattle.lang_grammar.specs.Grammar.{program, spell}
@@ -34,7 +34,7 @@ use Rattle.lang_meaning.proofs.results.Binds.{bind_both, bind_left, bind_right, 
 use Rattle.lang_feed.proofs.feed.SmallConditions.{walk_small, small_then, tested_same, side_respects, assigned_respects}
 use Rattle.lang_feed.proofs.feed.StatementPieces.{follow_nil, follow_assoc, Follows, goes_follows, shut_follows, IsOpen, pushed_close}
 use Rattle.lang_feed.proofs.feed.StatementPieces.{pushed_attach, pushed_open, pushed_inside, settled_open, pass, pass_items, Walk, Does}
-use Rattle.lang_feed.proofs.feed.StatementPieces.{DoesItems, case_block, case_if_alone, case_repeat, case_if_else, case_assumed, case_do}
+use Rattle.lang_feed.proofs.feed.StatementPieces.{DoesItems, case_block, case_if_alone, case_repeat, case_if_else, case_demands, case_do}
 
 module _ (line : ℕ → ℕ) (width : ℕ) where
   abbrev F : List Token → Machine → Outcome
@@ -390,7 +390,7 @@ module _ (line : ℕ → ℕ) (width : ℕ) where
         (ending_sub s) g.0 g.1 g.2 h
         (λ now ns x m. sub_fed s w now (under (of_for (length st.known) a ns x m) nil ∷ fs) true refl tt g.3 h)
     core_fed (jumps j a b) w st fs n i o g h = case_jumps j a b w st fs n o i
-    core_fed (assumed a b e c d) w st fs n i o g h = case_assumed line width a b c d e w st fs n o g
+    core_fed (demands k a b e c d) w st fs n i o g h = case_demands line width k a b c d e w st fs n o g
     core_fed (updates u c) w st fs n i o g h = case_updates u c w st fs o g
 
     sub_fed : (s : Sub) (w : List Token) (st : State) (fs : List Frame) (n : Bool) → is_inside fs ≡ n → IsOpen fs → GoodSub s

@@ -7,7 +7,7 @@ use Rattle.lang_grammar.specs.Grammar.{GoodDeclarators, Core, empty}
 use Rattle.lang_grammar.specs.Grammar.{set, step_after, step_before, ForFirst, no_first, declared_first, updated_first, spell_first}
 use Rattle.lang_grammar.specs.Grammar.{GoodFirst, ForTest}
 use Rattle.lang_grammar.specs.Grammar.{no_test, given_test, spell_test, GoodTest, ForLast, no_last, updated_last, spell_last, GoodLast}
-use Rattle.lang_grammar.specs.Grammar.{block, if_alone, if_else, repeat, repeat_after, repeat_for, jumps, assumed, updates, Sub, labelled}
+use Rattle.lang_grammar.specs.Grammar.{block, if_alone, if_else, repeat, repeat_after, repeat_for, jumps, demands, updates, Sub, labelled}
 use Rattle.lang_grammar.specs.Grammar.{plain, Items, no_items, label}
 use Rattle.lang_grammar.specs.Grammar.{declaration, item, spell_core, spell_sub, spell_items, GoodCore, GoodSub, GoodItems, Return}
 use Rattle.lang_grammar.specs.Grammar.{no_return, returns}
@@ -103,10 +103,10 @@ shape_given : (gs : List Goal) (x : List Token) (t : Token) (y w : List Token) (
 shape_given gs x t y w o p r h = ap (λ z. None ∷ None ∷ z) (ap (λ (v : List Token). trace gs v) (append_assoc x (t ∷ y) w) ∙ h
     ∙ sym (append_assoc o (None ∷ p) r))
 
-shape_assume : (gs : List Goal) (x : List Token) (t u : Token) (w : List Token) (o r : List (Option ℕ))
+shape_demand : (gs : List Goal) (x : List Token) (t u : Token) (w : List Token) (o r : List (Option ℕ))
     → trace gs (x ++ t ∷ u ∷ w) ≡ o ++ None ∷ None ∷ r → None ∷ None ∷ trace gs ((x ++ t ∷ u ∷ []) ++ w)
     ≡ None ∷ None ∷ ((o ++ None ∷ None ∷ []) ++ r)
-shape_assume gs x t u w o r h = ap (λ z. None ∷ None ∷ z) (ap (λ (v : List Token). trace gs v) (append_assoc x (t ∷ u ∷ []) w) ∙ h
+shape_demand gs x t u w o r h = ap (λ z. None ∷ None ∷ z) (ap (λ (v : List Token). trace gs v) (append_assoc x (t ∷ u ∷ []) w) ∙ h
     ∙ sym (append_assoc o (None ∷ None ∷ []) r))
 
 declarators_trace : (xs : Declarators) (d : ℕ) (gs : List Goal) (w : List Token) → GoodDeclarators xs
@@ -216,7 +216,7 @@ mutual
       ∷ (next p d ++ gs)) (spell_expr e) (token right_paren c) (spell_sub s) w (opens_expr (suc d) e) (opens_sub (suc d) s) _ d
       (expr_trace e until_paren 0 (suc d) (statement in_sub (suc d) ∷ (next p d ++ gs)) (token right_paren c ∷ (spell_sub s ++ w)) g.0
       ∙ ap (λ x. opens_expr (suc d) e ++ None ∷ x) (sub_trace s (suc d) (next p d ++ gs) w g.1))
-  core_trace (assumed a b e c i) p d gs w g = shape_assume (operand d ∷ more until_paren d ∷ only statement_end ∷ (next p d ++ gs))
+  core_trace (demands k a b e c i) p d gs w g = shape_demand (operand d ∷ more until_paren d ∷ only statement_end ∷ (next p d ++ gs))
       (spell_expr e) (token right_paren c) (token semicolon i) w (opens_expr d e) (trace (next p d ++ gs) w)
       (expr_trace e until_paren 0 d (only statement_end ∷ (next p d ++ gs)) (token right_paren c ∷ token semicolon i ∷ w) g)
   core_trace (repeat_after a s b c e i j) p d gs w g = shape_do (statement in_sub (suc d) ∷ do_end (suc d) ∷ (next p d ++ gs)) (spell_sub s)

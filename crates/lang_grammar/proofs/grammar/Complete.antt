@@ -7,7 +7,7 @@ use Rattle.lang_grammar.specs.Grammar.{if_alone, if_else}
 use Rattle.lang_grammar.specs.Grammar.{set, step_after, step_before, ForFirst, no_first, declared_first, updated_first, ForTest, no_test}
 use Rattle.lang_grammar.specs.Grammar.{given_test}
 use Rattle.lang_grammar.specs.Grammar.{ForLast, no_last, updated_last, spell_first, spell_test, spell_last}
-use Rattle.lang_grammar.specs.Grammar.{repeat, repeat_after, repeat_for, jumps, assumed, updates, Sub, labelled, plain, Items, no_items}
+use Rattle.lang_grammar.specs.Grammar.{repeat, repeat_after, repeat_for, jumps, demands, updates, Sub, labelled, plain, Items, no_items}
 use Rattle.lang_grammar.specs.Grammar.{label, declaration, item, spell_core}
 use Rattle.lang_grammar.specs.Grammar.{spell_sub, spell_items, shut, ending_core, ending_sub, GoodCore, GoodSub, GoodItems, Return}
 use Rattle.lang_grammar.specs.Grammar.{no_return, returns, while_word, left_paren}
@@ -81,7 +81,7 @@ abbrev mutual
   pending_core d (repeat_after a s b c e i j) = []
   pending_core d (repeat_for a b f t l s) = pending_sub (suc d) s
   pending_core d (jumps j a b) = []
-  pending_core d (assumed a b e c i) = []
+  pending_core d (demands k a b e c i) = []
   pending_core d (updates u c) = []
 
   -- the goals of the open `if`s of a statement with its labels
@@ -191,7 +191,7 @@ mutual
       ∙ test_run t (suc d) (header_last (suc d) ∷ statement in_sub (suc d) ∷ (next p d ++ gs)) _
       ∙ last_run l (suc d) (statement in_sub (suc d) ∷ (next p d ++ gs)) _ ∙ sub_run s (suc d) (next p d ++ gs) w g.3)
   core_run (jumps j a b) p d gs w g = refl
-  core_run (assumed a b e c i) p d gs w g = simp append_assoc (expr_run e _ d d (only statement_end ∷ (next p d ++ gs)) _)
+  core_run (demands k a b e c i) p d gs w g = simp append_assoc (expr_run e _ d d (only statement_end ∷ (next p d ++ gs)) _)
   core_run (updates (set x a g b e) c) p d gs w h = rw append_assoc (expr_run e _ d d (next p d ++ gs) _)
   core_run (updates (step_after x a g b) c) p d gs w h = refl
   core_run (updates (step_before g a x b) c) p d gs w h = refl

@@ -2,14 +2,14 @@
 use Rattle.std.proofs.Common.{◌≡◌, ◌∙◌, ◌++◌, ℕ, suc, List, [], ◌∷◌, refl, sym, ap, ap₂, append_assoc, arith}
 use Rattle.lang_grammar.specs.Grammar.{Kind, infix_sign, minus_op, a_name, a_number, right_paren, left_paren, right_brace, left_brace}
 use Rattle.lang_grammar.specs.Grammar.{semicolon, change_sign, int_word, main_word, if_word, else_word, while_word, return_word}
-use Rattle.lang_grammar.specs.Grammar.{assume_word, the_end}
+use Rattle.lang_grammar.specs.Grammar.{demand_word, the_end}
 use Rattle.lang_grammar.specs.Grammar.{do_word, for_word, negative, positive, negation, number, variable, free, grouped, prefixed, joined}
 use Rattle.lang_grammar.specs.Grammar.{Update, spell_update, GoodUpdate, ForFirst, no_first, declared_first, updated_first, spell_first}
 use Rattle.lang_grammar.specs.Grammar.{GoodFirst, ForTest, no_test}
 use Rattle.lang_grammar.specs.Grammar.{given_test, spell_test, GoodTest, ForLast, no_last, updated_last, spell_last, GoodLast, repeat_after}
 use Rattle.lang_grammar.specs.Grammar.{repeat_for, jumps, updates}
 use Rattle.lang_grammar.specs.Grammar.{Token, token, Expr, spell_expr, spell_declarators}
-use Rattle.lang_grammar.specs.Grammar.{Core, empty, block, if_alone, if_else, repeat, assumed, set, step_after, step_before, Sub, labelled}
+use Rattle.lang_grammar.specs.Grammar.{Core, empty, block, if_alone, if_else, repeat, demands, set, step_after, step_before, Sub, labelled}
 use Rattle.lang_grammar.specs.Grammar.{plain}
 use Rattle.lang_grammar.specs.Grammar.{Items, no_items, label, declaration, item, spell_core, spell_sub, spell_items, ending_core}
 use Rattle.lang_grammar.specs.Grammar.{ending_sub, GoodCore, GoodSub, GoodItems, Parameters, nothing, void_at, Return, no_return, returns}
@@ -20,7 +20,7 @@ use Rattle.lang_grammar.proofs.grammar.Sound.{Clear}
 use Rattle.lang_grammar.proofs.grammar.Unique.{weight, IsEnd, unique, unique_expr, tail_of, head_of}
 use Rattle.lang_grammar.proofs.grammar.OncePieces.{cond_once, goes_clear, any_clear, shut_clear, not_else, label_core, int_core, Ends}
 use Rattle.lang_grammar.proofs.grammar.OncePieces.{end_core, end_name, end_int, end_goes, if_alone_same, if_else_same, repeat_same}
-use Rattle.lang_grammar.proofs.grammar.OncePieces.{repeat_after_same, repeat_for_same, set_same, assumed_same, labelled_same, label_same}
+use Rattle.lang_grammar.proofs.grammar.OncePieces.{repeat_after_same, repeat_for_same, set_same, demands_same, labelled_same, label_same}
 use Rattle.lang_grammar.proofs.grammar.OncePieces.{declaration_same, declarators_once}
 
 -- ---- assignments and steps, and what ends them
@@ -157,11 +157,12 @@ mutual
       let r = cond_once while_word a b f c left_paren a2 b2 f2 c2 right_paren (spell_sub s) (spell_sub s2) w x tt g.0 h.0 e in
       let q = sub_once s s2 w x g.1 h.1 m n r.rest in
       (repeat_same a b f c s a2 b2 f2 c2 s2 r.one r.two r.same r.three q.0, q.1)
-  core_once (assumed a b f c d) (assumed a2 b2 f2 c2 d2) w x g h m n e =
-      let r = cond_once assume_word a b f c left_paren a2 b2 f2 c2 right_paren (token semicolon d ∷ []) (token semicolon d2 ∷ []) w x tt g h
-      e in
+  core_once (demands y a b f c d) (demands y2 a2 b2 f2 c2 d2) w x g h m n e =
+      let k : token (demand_word y) a ≡ token (demand_word y2) a2 = head_of _ _ _ _ e in
+      let r = cond_once (demand_word y) a b f c left_paren a2 b2 f2 c2 right_paren (token semicolon d ∷ []) (token semicolon d2 ∷ []) w x tt
+      g h (cc) in
       let q : token semicolon d ≡ token semicolon d2 = head_of _ _ _ _ r.rest in
-      (assumed_same a b f c d a2 b2 f2 c2 d2 r.one r.two r.same r.three (cc), tail_of _ _ _ _ r.rest)
+      (demands_same y a b f c d y2 a2 b2 f2 c2 d2 k r.two r.same r.three (cc), tail_of _ _ _ _ r.rest)
   core_once (repeat_after a s b c f d i) (repeat_after a2 s2 b2 c2 f2 d2 i2) w x g h m n e =
       let r = sub_once s s2 (do_tail b c f d i ++ w) (do_tail b2 c2 f2 d2 i2 ++ x) g.0 h.0 (goes_clear (ending_sub s) _ refl)
       (goes_clear (ending_sub s2) _ refl) (sym (append_assoc (spell_sub s) (do_tail b c f d i) w)

@@ -4,10 +4,10 @@ use Rattle.lang_grammar.specs.Grammar.{Change, replaces, Kind, infix_sign, a_nam
 use Rattle.lang_grammar.specs.Grammar.{semicolon, colon, change_sign, int_word, else_word, return_word}
 use Rattle.lang_grammar.specs.Grammar.{do_word, for_word}
 use Rattle.lang_grammar.specs.Grammar.{ForFirst, ForTest}
-use Rattle.lang_grammar.specs.Grammar.{ForLast, repeat_after, repeat_for, jumps, updates}
+use Rattle.lang_grammar.specs.Grammar.{ForLast, repeat_after, repeat_for, updates, Demand, demand_word}
 use Rattle.lang_grammar.specs.Grammar.{Token, token, Groups, Expr, spell_expr, bare, given, Declarators, declares, declares_more}
 use Rattle.lang_grammar.specs.Grammar.{spell_declarators}
-use Rattle.lang_grammar.specs.Grammar.{GoodDeclarators, Core, empty, block, if_alone, if_else, repeat, assumed, set, step_after}
+use Rattle.lang_grammar.specs.Grammar.{GoodDeclarators, Core, if_alone, if_else, repeat, demands, set}
 use Rattle.lang_grammar.specs.Grammar.{step_before, Sub, labelled}
 use Rattle.lang_grammar.specs.Grammar.{Items, label, declaration, spell_core, Ending, shut, waiting}
 use Rattle.lang_grammar.proofs.grammar.Complete.{NotElse, GoesOn}
@@ -139,10 +139,11 @@ pub set_same : (v : List ℕ) (a b : ℕ) (g : Change) (f : Expr) (v2 : List ℕ
     → set v a g b f ≡ set v2 a2 g2 b2 f2
 set_same v a b g f v2 a2 b2 g2 f2 h i j = cc
 
--- an assumption is determined by its parts
-pub assumed_same : (a b : ℕ) (f : Expr) (c d a2 b2 : ℕ) (f2 : Expr) (c2 d2 : ℕ) → a ≡ a2 → b ≡ b2 → f ≡ f2 → c ≡ c2 → d ≡ d2
-    → assumed a b f c d ≡ assumed a2 b2 f2 c2 d2
-assumed_same a b f c d a2 b2 f2 c2 d2 h i j k l = cc
+-- an `assume` or `assert` is determined by its parts
+pub demands_same : (y : Demand) (a b : ℕ) (f : Expr) (c d : ℕ) (y2 : Demand) (a2 b2 : ℕ) (f2 : Expr) (c2 d2 : ℕ)
+    → token (demand_word y) a ≡ token (demand_word y2) a2 → b ≡ b2 → f ≡ f2 → c ≡ c2 → d ≡ d2
+    → demands y a b f c d ≡ demands y2 a2 b2 f2 c2 d2
+demands_same y a b f c d y2 a2 b2 f2 c2 d2 h i j k l = cc
 
 -- a labelled statement is determined by its label and the statement
 pub labelled_same : (v : List ℕ) (a b : ℕ) (s : Sub) (v2 : List ℕ) (a2 b2 : ℕ) (t : Sub) → token (a_name v) a ≡ token (a_name v2) a2

@@ -6,7 +6,7 @@ use Rattle.lang_grammar.specs.Grammar.{int_word, main_word}
 use Rattle.lang_grammar.specs.Grammar.{do_word, for_word, jump_word, Update, spell_update, GoodUpdate, no_first, declared_first}
 use Rattle.lang_grammar.specs.Grammar.{updated_first}
 use Rattle.lang_grammar.specs.Grammar.{spell_first, no_test, given_test, spell_test, no_last, updated_last}
-use Rattle.lang_grammar.specs.Grammar.{updates, void_word, if_word, else_word, while_word, return_word, assume_word, nondet_word, the_end}
+use Rattle.lang_grammar.specs.Grammar.{updates, void_word, if_word, else_word, while_word, return_word, demand_word, nondet_word, the_end}
 use Rattle.lang_grammar.specs.Grammar.{Token, token, Expr}
 use Rattle.lang_grammar.specs.Grammar.{spell_expr, Declarators, declares, declares_more, bare, given, spell_declarators}
 use Rattle.lang_grammar.specs.Grammar.{empty, set, step_after, step_before, labelled, plain, no_items, label}
@@ -27,7 +27,7 @@ use Rattle.lang_grammar.specs.Machine.{returned_entry, some_number_entry, only_e
 use Rattle.lang_grammar.proofs.grammar.Sound.{no_more, and_more, Ended}
 use Rattle.lang_grammar.proofs.grammar.Sound.{just, minus, Holds}
 use Rattle.lang_grammar.proofs.machine.BackPieces.{Back, ExprThen, expr_then, back_operand, back_more, OneCore, end_text, core_if}
-use Rattle.lang_grammar.proofs.machine.BackPieces.{core_while, core_assume, core_do, core_for, core_jump, core_block}
+use Rattle.lang_grammar.proofs.machine.BackPieces.{core_while, core_demand, core_do, core_for, core_jump, core_block}
 
 -- ---- assignments and steps
 abbrev UpdateThen : Ender → List Goal → List Token → Type 0
@@ -195,7 +195,7 @@ back_statement p d while_word gs a w = λ h. in_place p d gs _ (core_while a (su
 back_statement p d do_word gs a w = λ h. in_place p d gs _ (core_do a (suc d) (next p d ++ gs) w h)
 back_statement p d for_word gs a w = λ h. in_place p d gs _ (core_for a (suc d) (next p d ++ gs) w h)
 back_statement p d (jump_word j) gs a w = λ h. in_place p d gs _ (core_jump a j (next p d ++ gs) w h)
-back_statement p d assume_word gs a w = λ h. in_place p d gs _ (core_assume a d (next p d ++ gs) w h)
+back_statement p d (demand_word k) gs a w = λ h. in_place p d gs _ (core_demand k a d (next p d ++ gs) w h)
 back_statement p d (step_sign s) gs a w = λ h. in_place p d gs _ (core_updated (next p d ++ gs) _
     (before_then until_semicolon a s (next p d ++ gs) w h))
 back_statement p d _ gs a w = tt

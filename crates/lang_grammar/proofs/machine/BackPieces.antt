@@ -2,18 +2,17 @@
 use Rattle.std.proofs.Common.{◌≡◌, ◌∙◌, ◌++◌, inl, inr, ℕ, suc, List, [], ◌∷◌, refl, sym, ap, append_assoc, subst}
 use Rattle.lang_grammar.specs.Grammar.{Op, plus_op, minus_op, negative, positive, negation, Kind, a_name, a_number, infix_sign, bang}
 use Rattle.lang_grammar.specs.Grammar.{left_paren, right_paren, left_brace, right_brace, comma, semicolon}
-use Rattle.lang_grammar.specs.Grammar.{do_word, for_word, jump_word, Jump, ForFirst}
+use Rattle.lang_grammar.specs.Grammar.{do_word, for_word, jump_word, Jump, Demand, ForFirst}
 use Rattle.lang_grammar.specs.Grammar.{spell_first, ForTest, spell_test, ForLast, spell_last, repeat_after, repeat_for}
-use Rattle.lang_grammar.specs.Grammar.{jumps, if_word, else_word, while_word, assume_word, nondet_word, Token, token, Groups, Expr}
+use Rattle.lang_grammar.specs.Grammar.{jumps, if_word, else_word, while_word, demand_word, nondet_word, Token, token, Groups, Expr}
 use Rattle.lang_grammar.specs.Grammar.{number, variable, free, grouped, prefixed, spell_expr}
-use Rattle.lang_grammar.specs.Grammar.{Core, block, if_alone, if_else, repeat, assumed, Sub}
+use Rattle.lang_grammar.specs.Grammar.{Core, block, if_alone, if_else, repeat, demands, Sub}
 use Rattle.lang_grammar.specs.Grammar.{spell_core, spell_sub, spell_items, Ending, shut, waiting, ending_core, ending_sub, GoodCore}
 use Rattle.lang_grammar.specs.Machine.{Ender, until_paren, until_semicolon, until_declared, in_sub, in_block, next}
 use Rattle.lang_grammar.specs.Machine.{statement_end, Goal, operand, more, statement}
 use Rattle.lang_grammar.specs.Machine.{do_end, header}
 use Rattle.lang_grammar.specs.Machine.{maybe_else, condition, declarator, only, Entry, takes}
 use Rattle.lang_grammar.specs.Machine.{skips, stops, prefix_entry, operand_entry, more_entry}
-use Rattle.lang_grammar.specs.Machine.{entry}
 use Rattle.lang_grammar.proofs.grammar.Complete.{NotElse}
 use Rattle.lang_grammar.proofs.grammar.Sound.{Links, ended, link, spell_links, GoodLinks, extend_all, spell_all, groups_all, any_level}
 use Rattle.lang_grammar.proofs.grammar.Sound.{Clear, no_more, and_more, Ended}
@@ -127,9 +126,10 @@ else_text : (a b c j : ℕ) (e : Expr) (s t : Sub) (w v u z : List Token) → w 
     → v ≡ spell_sub s ++ u → u ≡ token else_word j ∷ (spell_sub t ++ z) → token if_word a ∷ w ≡ spell_core (if_else a b e c s j t) ++ z
 else_text a b c j e s t w v u z h i k = rw (h, i, k) (simp append_assoc refl)
 
-assume_text : (a b c d : ℕ) (e : Expr) (w v u : List Token) → w ≡ token left_paren b ∷ (spell_expr e ++ token right_paren c ∷ v)
-    → v ≡ token semicolon d ∷ u → token assume_word a ∷ w ≡ spell_core (assumed a b e c d) ++ u
-assume_text a b c d e w v u h i = rw (h, i) (simp append_assoc refl)
+demand_text : (k : Demand) (a b c d : ℕ) (e : Expr) (w v u : List Token)
+    → w ≡ token left_paren b ∷ (spell_expr e ++ token right_paren c ∷ v)
+    → v ≡ token semicolon d ∷ u → token (demand_word k) a ∷ w ≡ spell_core (demands k a b e c d) ++ u
+demand_text k a b c d e w v u h i = rw (h, i) (simp append_assoc refl)
 
 do_text : (a b c i j : ℕ) (s : Sub) (e : Expr) (w v u : List Token) → w ≡ spell_sub s ++ v
     → v ≡ token while_word b ∷ token left_paren c ∷ (spell_expr e ++ token right_paren i ∷ token semicolon j ∷ u)
@@ -158,10 +158,10 @@ pub core_while : (a i j : ℕ) (gs : List Goal) (w : List Token) → Holds (cond
     → OneCore gs (token while_word a ∷ w)
 core_while a i j gs w (b, e, c, v, q, g, (s, u, r, k, cl, rest)) = (repeat a b e c s, u, while_text a b c e s w v u q r, (g, k), cl, rest)
 
--- an assumption is one statement
-pub core_assume : (a i : ℕ) (gs : List Goal) (w : List Token) → Holds (condition i ∷ only statement_end ∷ gs) w
-    → OneCore gs (token assume_word a ∷ w)
-core_assume a i gs w (b, e, c, v, q, g, (d, u, r, rest)) = (assumed a b e c d, u, assume_text a b c d e w v u q r, g, tt, rest)
+-- an `assume` or `assert` is one statement
+pub core_demand : (k : Demand) (a i : ℕ) (gs : List Goal) (w : List Token) → Holds (condition i ∷ only statement_end ∷ gs) w
+    → OneCore gs (token (demand_word k) a ∷ w)
+core_demand k a i gs w (b, e, c, v, q, g, (d, u, r, rest)) = (demands k a b e c d, u, demand_text k a b c d e w v u q r, g, tt, rest)
 
 -- a `do` is one statement
 pub core_do : (a i : ℕ) (gs : List Goal) (w : List Token) → Holds (statement in_sub i ∷ do_end i ∷ gs) w → OneCore gs (token do_word a ∷ w)

@@ -1,9 +1,10 @@
 -- What the pieces of a walk leave within the limits.
 use Rattle.std.proofs.Common.{◌≡◌, ◌++◌, ◌+◌, ◌≤◌, ◌<◌, ℕ, suc, List, [], ◌∷◌, length, Bool, true, false, cond, IsTrue}
-use Rattle.std.proofs.Common.{Result, Ok, Err, Option, Some, None, refl, arith, nat_lt, nat_eq, subst}
+use Rattle.std.proofs.Common.{Result, Ok, Err, Option, Some, None, refl, ap, ◌∙◌, arith, nat_lt, nat_eq, subst}
 use Rattle.std.proofs.lemmas.Bool.{lt-ltb, ltb-true}
 use Rattle.std.specs.List.{list_any, position_or_len}
 use Rattle.std.specs.Str.{bytes_eq}
+use Rattle.lang_grammar.specs.Grammar.{Demand, assumes, asserts}
 use Rattle.lang_tree.specs.declared.form.Form.{Form}
 use Rattle.lang_tree.specs.Limits.{is_form, is_change, is_statement, are_statements}
 use Rattle.lang_tree.specs.declared.change.Change.{Change}
@@ -14,11 +15,11 @@ use Rattle.lang_meaning.specs.declared.fault.ParseFault.{ParseFault}
 use Rattle.lang_meaning.specs.declared.fault.ParseFault.TheVariants as fault
 use Rattle.lang_meaning.specs.declared.fault.Limit.TheVariants as limit
 use Rattle.lang_meaning.specs.Names.{place_of}
-use Rattle.lang_meaning.specs.Walk.{State, followed_by, one, counted, labelled_by, number_if_known, known_number}
+use Rattle.lang_meaning.specs.Walk.{State, followed_by, one, counted, counted_for, labelled_by, number_if_known, known_number}
 use Rattle.lang_meaning.specs.Walk.{assignment, changed, change_nodes}
 use Rattle.lang_meaning.proofs.forms.Ranges.{both_true, and_split}
 use Rattle.lang_tree.specs.declared.limits.TheConstants.{MOST_VARIABLES}
-use Rattle.lang_meaning.proofs.limits.Values.{OnValue, on_cond}
+use Rattle.lang_meaning.proofs.limits.Values.{OnValue, on_bind, on_cond}
 use Rattle.lang_meaning.proofs.limits.Values.{SideFits}
 
 -- a number of a variable that is named
@@ -74,6 +75,27 @@ counted_fits a st h = on_test (nat_lt st.count 512) refl where
       (cond b (Ok (record st { count = suc st.count })) (Err (fault.Limit a limit.Statements)))
   on_test true e = (record { few_names = h; few_nodes = ltb-true st.count 512 e }, refl, refl)
   on_test false e = tt
+
+-- one more for an `assume`, two more for an `assert`
+abbrev pub more_for : Demand → ℕ → ℕ
+more_for assumes n = suc n
+more_for asserts n = suc (suc n)
+
+-- the nodes of an `assume` or `assert` are counted
+abbrev pub CountedFor : Demand → State → State → Type 0
+CountedFor k st now = Fits now × (now.names ≡ st.names) × (now.count ≡ more_for k st.count)
+
+-- what holds of a value gives what follows from it
+on_weaker : {A : Type 0} (P Q : A → Type 0) (r : Result A ParseFault) → OnValue P r → ((x : A) → P x → Q x) → OnValue Q r
+on_weaker P Q (Ok x) h g = g x h
+on_weaker P Q (Err e) h g = tt
+
+-- they fit where they are counted
+pub counted_for_fits : (k : Demand) (a : ℕ) (st : State) → length st.names ≤ MOST_VARIABLES → OnValue (CountedFor k st) (counted_for k a st)
+counted_for_fits assumes a st h = counted_fits a st h
+counted_for_fits asserts a st h = on_bind (Counted st) (CountedFor asserts st) (counted a st) (λ now. counted a now) (counted_fits a st h)
+    (λ now i. on_weaker (Counted now) (CountedFor asserts st) (counted a now) (counted_fits a now i.0.few_names)
+    (λ more j. (j.0, j.1 ∙ i.1, j.2 ∙ ap suc i.2)))
 
 -- statements followed by others keep to the limits
 pub follow_good : (N : ℕ) (inside : Bool) (ns ms : Statements) → IsTrue (are_statements N inside ns) → IsTrue (are_statements N inside ms)

@@ -8,9 +8,9 @@ use Rattle.lang_grammar.specs.Grammar.{Jump, Update, set as set_update, ForFirst
 use Rattle.lang_grammar.specs.Grammar.{given_test, ForLast}
 use Rattle.lang_grammar.specs.Grammar.{no_last, updated_last, repeat_after, repeat_for, jumps, updates, Direction, up, down, Expr, number}
 use Rattle.lang_grammar.specs.Grammar.{variable, free, grouped, prefixed, joined, Declarator, bare}
-use Rattle.lang_grammar.specs.Grammar.{given, Declarators, declares, declares_more, Core, empty, block, if_alone, if_else, repeat, assumed}
+use Rattle.lang_grammar.specs.Grammar.{given, Declarators, declares, declares_more, Core, empty, block, if_alone, if_else, repeat, demands}
 use Rattle.lang_grammar.specs.Grammar.{step_after, step_before, Sub, labelled, plain, Items, no_items, label, declaration, item, Token}
-use Rattle.lang_grammar.specs.Grammar.{Program, program}
+use Rattle.lang_grammar.specs.Grammar.{Program, program, Demand, assumes, asserts}
 use Rattle.lang_tree.specs.declared.form.Form.{Form}
 use Rattle.lang_tree.specs.Numbers.{is_number}
 use Rattle.lang_tree.specs.Limits.{is_form, is_condition, is_tested, is_change, is_kind, is_statement, are_statements, is_program}
@@ -31,7 +31,7 @@ use Rattle.lang_meaning.specs.Walk.{step_change, declared_by, closed, walk_expr,
 use Rattle.lang_meaning.specs.Walk.{declared_before}
 use Rattle.lang_meaning.specs.Walk.{walk_declarator, walk_declarators, walk_core, walk_sub, walk_items, declared_in, declared_core}
 use Rattle.lang_meaning.specs.Walk.{declared_sub, declared_items}
-use Rattle.lang_meaning.specs.Walk.{program_of}
+use Rattle.lang_meaning.specs.Walk.{program_of, counted_for, demanded}
 use Rattle.lang_meaning.proofs.forms.Ranges.{both_true, zeros_fit}
 use Rattle.lang_tree.specs.declared.limits.TheConstants.{MOST_VARIABLES}
 use Rattle.lang_meaning.specs.Walk.{walk}
@@ -42,7 +42,7 @@ use Rattle.lang_meaning.proofs.limits.Values.{compared_fits, combined_fits, pref
 use Rattle.lang_meaning.proofs.limits.Values.{side_fits, assigned_fits}
 use Rattle.lang_meaning.proofs.limits.ProgramPieces.{Below, known_below, Fits, Grows, Counted, Turns, counted_fits, follow_good}
 use Rattle.lang_meaning.proofs.limits.ProgramPieces.{follow_count, one_good, assignment_good, assignment_count, changed_good, changed_count}
-use Rattle.lang_meaning.proofs.limits.ProgramPieces.{change_nodes_good, change_nodes_count, label_fits}
+use Rattle.lang_meaning.proofs.limits.ProgramPieces.{change_nodes_good, change_nodes_count, label_fits, CountedFor, counted_for_fits}
 
 module _ (line : ℕ → ℕ) (N : ℕ) where
   -- what the walk of an expression gives, unless it is a fault, is a value over N variables with its numbers in their range
@@ -301,11 +301,25 @@ module _ (line : ℕ → ℕ) (N : ℕ) where
       (λ v h. on_bind (TestFits N) (Grows N inside st d) (tested a v) _ (tested_fits N a v h)
       (λ c i. on_bind (Counted st) (Grows N inside st d) (counted a st) _ (counted_fits a st f.few_names) (λ now k. g c now i k)))
 
-  case_assumed : (inside : Bool) (a b : ℕ) (e : Expr) (c d : ℕ) → Walked inside (walk_core line N inside (assumed a b e c d)) 0
-  case_assumed inside a b e c d st f = on_bind (Counted st) (Grows N inside st 0) (counted a st) _ (counted_fits a st f.few_names)
-      (λ now k. on_bind (ValueFits N) (Grows N inside st 0) (walk_expr line N now e) _ (expr_fits now e)
-      (λ v h. on_bind (TestFits N) (Grows N inside st 0) (tested a v) _ (tested_fits N a v h)
-      (λ x t. grows_node inside st now (tree.assume x (line a)) k refl (λ j. t))))
+  grows_demand : (inside : Bool) (st now : State) (k : Demand) (a : ℕ) (x : Condition) → CountedFor k st now → TestFits N x
+      → Grows N inside st 0 (now, demanded line k a x)
+  grows_demand inside st now assumes a x h t = grows_node inside st now (tree.assume x (line a)) h refl (λ j. t)
+  grows_demand inside st now asserts a x (f, n, c) t = record {
+    fits = f;
+    names = ap length n ∙ (omega arith);
+    nodes = omega (arith, c);
+    good =
+        λ h. both_true (is_tested N x) (are_statements N inside (one (tree.only_where x (line a)))) t
+        (one_good N inside (tree.only_where x (line a)) t);
+  }
+
+  case_demands : (inside : Bool) (k : Demand) (a b : ℕ) (e : Expr) (c d : ℕ)
+      → Walked inside (walk_core line N inside (demands k a b e c d)) 0
+  case_demands inside k a b e c d st f =
+      on_bind (CountedFor k st) (Grows N inside st 0) (counted_for k a st) _ (counted_for_fits k a st f.few_names)
+      (λ now h. on_bind (ValueFits N) (Grows N inside st 0) (walk_expr line N now e) _ (expr_fits now e)
+      (λ v i. on_bind (TestFits N) (Grows N inside st 0) (tested a v) _ (tested_fits N a v i)
+      (λ x t. grows_demand inside st now k a x h t)))
 
   case_jumps : (inside : Bool) (j : Jump) (a b : ℕ) → Walked inside (walk_core line N inside (jumps j a b)) 0
   case_jumps true j a b st f = on_bind (Counted st) (Grows N true st 0) (counted a st) _ (counted_fits a st f.few_names)
@@ -364,7 +378,7 @@ module _ (line : ℕ → ℕ) (N : ℕ) where
         (Grows N inside st (declared_before y + declared_sub s)) (walk_sub line N true s u.0) _ (sub_fits true s u.0 m.0)
         (λ q n. grows_for inside st now (length st.known) (declared_before y) (declared_sub s) x a r u q h i k m n)))))
     core_fits inside (jumps j a b) st f = case_jumps inside j a b st f
-    core_fits inside (assumed a b e c d) st f = case_assumed inside a b e c d st f
+    core_fits inside (demands k a b e c d) st f = case_demands inside k a b e c d st f
     core_fits inside (updates u c) st f =
         on_bind (Turns N st) (Grows N inside st 0) (walk_update line N u st) _ (update_fits u st f) (λ r h. grows_change inside st r h)
 

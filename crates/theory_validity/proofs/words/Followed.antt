@@ -2,7 +2,7 @@
 use Rattle.std.proofs.Common.{◌≡◌, ◌∙◌, ◌↔◌, ℕ, suc, List, [], ◌∷◌, ◌++◌, map, length, length-append, refl, sym, ap, subst, arith}
 use Rattle.std.specs.Prelude.{ℤ}
 use Rattle.flow_edges.specs.declared.edge.Action.{Action}
-use Rattle.flow_edges.specs.declared.edge.Action.TheVariants.{Guard, Assign, Havoc}
+use Rattle.flow_edges.specs.declared.edge.Action.TheVariants.{Guard, Assign, Havoc, Check}
 use Rattle.flow_systems.specs.States.{RationalState, dotℚ}
 use Rattle.flow_systems.specs.Equations.{Equations, Vector, Fits}
 use Rattle.flow_edges.specs.declared.edge.Edge.{Edge}
@@ -55,6 +55,7 @@ free_count-linear [] = refl
 free_count-linear (Guard form ∷ actions) = free_count-linear actions
 free_count-linear (Assign var form ∷ actions) = free_count-linear actions
 free_count-linear (Havoc var ∷ actions) = ap suc (free_count-linear actions)
+free_count-linear (Check about ∷ actions) = free_count-linear actions
 
 -- a direction falls exactly where the actions without constants can be followed
 pub falls_followed : (n : ℕ) (actions : List Action) (start free : Word) → length start ≡ n → length free ≡ free_count actions →

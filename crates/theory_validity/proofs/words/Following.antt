@@ -4,7 +4,7 @@ use Rattle.std.specs.Prelude.{slice_set}
 use Rattle.base_numbers.specs.Rational.{ℚ, zero_ℚ, ◌≤ℚ◌}
 use Rattle.lang_tree.specs.declared.form.Form.{Form}
 use Rattle.flow_edges.specs.declared.edge.Action.{Action}
-use Rattle.flow_edges.specs.declared.edge.Action.TheVariants.{Guard, Assign, Havoc}
+use Rattle.flow_edges.specs.declared.edge.Action.TheVariants.{Guard, Assign, Havoc, Check}
 use Rattle.flow_systems.specs.States.{RationalState, valueℚ}
 use Rattle.theory_validity.specs.Words.{Word, Affine, column, columns, values, composed, guards_from, ends_from, free_count, guard_forms}
 use Rattle.theory_validity.specs.Words.{end_of, AllAtMost, Passes}
@@ -61,6 +61,7 @@ follows_passes (Havoc var ∷ actions) fs base x (q ∷ free) y at h =
       subst (λ j. y ≡ values (ends_from j next actions) (base ++ q ∷ free)) e
           (subst (λ w. y ≡ values (ends_from (length (base ++ q ∷ [])) next actions) w) same r.2),
     )
+follows_passes (Check about ∷ actions) fs base x free y at h = follows_passes actions fs base x free y at h
 
 passes_follows : (actions : List Action) (fs : List Affine) (base : Word) (x : RationalState) (free : Word) (y : RationalState)
     → At fs base x → Passing actions (length base) fs base free y → Follows actions x free y
@@ -87,6 +88,7 @@ passes_follows (Havoc var ∷ actions) fs base x (q ∷ free) y at h =
       subst (λ w. y ≡ values (ends_from (length (base ++ q ∷ [])) next actions) w) same
           (subst (λ j. y ≡ values (ends_from j next actions) (base ++ q ∷ free)) e h.2),
     )
+passes_follows (Check about ∷ actions) fs base x free y at h = passes_follows actions fs base x free y at h
 
 -- a state with a value for each variable is followed with free values to an end exactly where there are as many as the actions take, the
 -- word passes, and the end is the word's

@@ -7,7 +7,7 @@ use Rattle.base_numbers.specs.Vector.{dot, add_vec, scale_vec}
 use Rattle.base_numbers.proofs.rational.Laws.{+ℚ_idr, *ℚ-zero, whole-zero}
 use Rattle.lang_tree.specs.declared.form.Form.{Form}
 use Rattle.flow_edges.specs.declared.edge.Action.{Action}
-use Rattle.flow_edges.specs.declared.edge.Action.TheVariants.{Guard, Assign, Havoc}
+use Rattle.flow_edges.specs.declared.edge.Action.TheVariants.{Guard, Assign, Havoc, Check}
 use Rattle.flow_systems.specs.States.{dotℚ}
 use Rattle.theory_validity.specs.Words.{Word, Affine, val, lin, shifted, column, columns, combined, composed, guards_from, ends_from}
 use Rattle.theory_validity.specs.Words.{guard_forms, end_form, end_of, AllAtMost, AllFall, Passes, Falls}
@@ -69,6 +69,7 @@ flat-guards k fs (Assign var form ∷ actions) =
 flat-guards k fs (Havoc var ∷ actions) =
     ap (λ gs. guards_from (suc k) gs (map linear_action actions)) (flat-set fs var (column k) (column k) (sym (flat-column k)))
     ∙ flat-guards (suc k) (slice_set fs var (column k)) actions
+flat-guards k fs (Check about ∷ actions) = flat-guards k fs actions
 
 flat-ends : (k : ℕ) (fs : List Affine) (actions : List Action) → ends_from k (map flat fs) (map linear_action actions)
     ≡ map flat (ends_from k fs actions)
@@ -81,6 +82,7 @@ flat-ends k fs (Assign var form ∷ actions) =
 flat-ends k fs (Havoc var ∷ actions) =
     ap (λ gs. ends_from (suc k) gs (map linear_action actions)) (flat-set fs var (column k) (column k) (sym (flat-column k)))
     ∙ flat-ends (suc k) (slice_set fs var (column k)) actions
+flat-ends k fs (Check about ∷ actions) = flat-ends k fs actions
 
 falls_to : (gs : List Affine) (d : Word) → AllFall gs d ↔ AllAtMost (map flat gs) d
 falls_to [] d = ((λ h. tt), (λ h. tt))

@@ -6,7 +6,7 @@ use Rattle.base_numbers.specs.Rational.{ℚ, zero_ℚ, one_ℚ, ◌+ℚ◌, ◌*
 use Rattle.base_numbers.specs.Vector.{dot}
 use Rattle.base_numbers.proofs.rational.Laws.{+ℚ_idl, +ℚ_idr, *ℚ_idl, zero-*ℚ}
 use Rattle.flow_edges.specs.declared.edge.Action.{Action}
-use Rattle.flow_edges.specs.declared.edge.Action.TheVariants.{Guard, Assign, Havoc}
+use Rattle.flow_edges.specs.declared.edge.Action.TheVariants.{Guard, Assign, Havoc, Check}
 use Rattle.flow_systems.specs.States.{RationalState, valueℚ, Traces}
 use Rattle.theory_validity.specs.Words.{Word, Affine, val, shifted, column, columns, values, composed, guards_from, ends_from, free_count}
 use Rattle.theory_validity.specs.Words.{guard_forms, start_of, end_of, AllAtMost, Passes}
@@ -77,6 +77,7 @@ trace_from (Havoc var ∷ actions) k fs w h = (
       (values-set fs var (column k) w)
       (trace_from actions (suc k) (slice_set fs var (column k)) w h),
 )
+trace_from (Check about ∷ actions) k fs w h = trace_from actions k fs w h
 
 -- a word that passes gives a trace from its start state to its end state
 pub trace_of_word : (n : ℕ) (actions : List Action) (w : Word) → Passes n actions w → Traces actions (start_of n w) (end_of n actions w)
@@ -121,6 +122,7 @@ frees_from (Havoc var ∷ actions) fs base x y at h =
       subst (λ j. y ≡ values (ends_from j next actions) (base ++ q ∷ r.0)) e
           (subst (λ w. y ≡ values (ends_from (length (base ++ q ∷ [])) next actions) w) same r.3),
     )
+frees_from (Check about ∷ actions) fs base x y at h = frees_from actions fs base x y at h
 
 -- a trace from a state with n variables is a word that passes, with the same start, end and number of free values
 pub word_of_trace : (n : ℕ) (actions : List Action) (x y : RationalState) → length x ≡ n → Traces actions x y →

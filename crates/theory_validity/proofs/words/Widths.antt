@@ -10,7 +10,7 @@ use Rattle.base_numbers.specs.Vector.{dot, add_vec, scale_vec, vec_mat}
 use Rattle.base_numbers.proofs.rational.Laws.{zero-*ℚ, +ℚ_idl}
 use Rattle.lang_tree.specs.declared.form.Form.{Form}
 use Rattle.flow_edges.specs.declared.edge.Action.{Action}
-use Rattle.flow_edges.specs.declared.edge.Action.TheVariants.{Guard, Assign, Havoc}
+use Rattle.flow_edges.specs.declared.edge.Action.TheVariants.{Guard, Assign, Havoc, Check}
 use Rattle.flow_edges.specs.declared.edge.Edge.{Edge}
 use Rattle.flow_systems.specs.Equations.{Equations}
 use Rattle.theory_validity.specs.Words.{Affine, shifted, column, columns, combined, composed, guards_from, ends_from, free_count, width}
@@ -81,6 +81,7 @@ narrow_guards k fs (Havoc var ∷ actions) h =
     subst (λ m. Narrow m (guards_from (suc k) (slice_set fs var (column k)) actions)) e
     (narrow_guards (suc k) (slice_set fs var (column k)) actions (narrow_set (suc k) fs var (column k) (narrow_column k)
     (widen k (suc k) fs (omega arith) h)))
+narrow_guards k fs (Check about ∷ actions) h = narrow_guards k fs actions h
 
 narrow_ends : (k : ℕ) (fs : List Affine) (actions : List Action) → Narrow k fs → Narrow (k + free_count actions) (ends_from k fs actions)
 unfolding ends_from free_count
@@ -93,6 +94,7 @@ narrow_ends k fs (Havoc var ∷ actions) h =
     subst (λ m. Narrow m (ends_from (suc k) (slice_set fs var (column k)) actions)) e
     (narrow_ends (suc k) (slice_set fs var (column k)) actions (narrow_set (suc k) fs var (column k) (narrow_column k)
     (widen k (suc k) fs (omega arith) h)))
+narrow_ends k fs (Check about ∷ actions) h = narrow_ends k fs actions h
 
 -- a row's form at the end has at most a word's columns
 pub end_form_width : (n : ℕ) (actions : List Action) (row : List ℤ) → length (end_form n actions row).coeffs ≤ width n actions

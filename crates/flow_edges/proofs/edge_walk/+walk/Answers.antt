@@ -43,8 +43,8 @@ walk-returns-in-Where t c =
     (walked_where _ _ c.args.trail (statements_of c.args.stmts.now) (statements_of c.in-Some.rest.now) (statement_of c.in-Some.stmt.now)
     c.args.first c.points_of.result
     (jumps_of c.args.jumps.now) (walked c.args.next.now)
-    (ap statements_of c.in-Some.ensures.cases.0) c.points_of.ensures (condition_of c.in-Where.cond) _ c.in_ok-cases-in-Where.cases
-    (ap statement_of c.in-Where.is) c.in_ok-cases-in-Where.ensures)
+    (ap statements_of c.in-Some.ensures.cases.0) c.points_of.ensures (condition_of c.in-Where.cond) _ c.in_ok-allowed-in-Where.allowed
+    (ap statement_of c.in-Where.is) c.in_ok-allowed-in-Where.ensures)
     c.walk_cases.ensures
 
 pub walk_cases-loop-case-preserved : goal.walk_cases-loop-case-preserved

@@ -1,0 +1,105 @@
+//! The checks of a program, and where they stand on its edges.
+
+ghost use Rattle.std.specs.Prelude.{◌≡◌, ◌↔◌, ◌++◌, IfOk, IfSome, IsTrue, None, OnOk, map};
+ghost use Rattle.base_facts.specs.Elements.{In};
+ghost use Rattle.lang_tree.specs.View.{statement_of, statements_of};
+ghost use Rattle.flow_edges.specs.Constants.{has_rooms, have_rooms};
+ghost use Rattle.flow_edges.specs.Checks.{ComesFirst, checks_in, checks_of, checks_of_program, with_cases};
+
+use crate::case::Cases;
+use crate::edge::Action;
+use crate::listing::list_cases;
+use base_list::Sequence;
+use lang_tree::{Check, Program, Stmt};
+use std::alloc::{AllocError, Global};
+
+/// A check of a program, and the cases in which its condition may be false where it stands: each has guards, and the condition
+/// may be false exactly where all guards of one of them are at most 0.
+#[derive(Drop)]
+pub struct CheckCases {
+    pub check: Check,
+    pub against: Cases,
+}
+
+/// Checks in order of the text.
+pub type Checks = Sequence<CheckCases>;
+
+/// The checks of the program in order of the text, each with the cases against it.
+///
+/// Where the program has a flow, each has at most 64 cases. `docs/MEANING.md` has the lists, under "Cases".
+pub fn checks(alloc: Global, program: &Program) -> Result<Checks, AllocError>
+    ensures { IfOk result (λ checks. checks ≡ checks_of_program program.now.body) }
+{
+    let mut list = Vec::new(alloc);
+    add_checks(alloc, &mut list, program.body.as_slice())?;
+    Ok(Checks::new(list))
+}
+
+/// Adds the checks of the statements and of those in them, in order.
+#[cycle(checks)]
+fn add_checks(alloc: Global, list: &mut Vec<CheckCases>, stmts: &[Stmt]) -> Result<(), AllocError>
+    requires { IsTrue (have_rooms (statements_of stmts.now)) }
+    ensures { OnOk result (list.new.items ≡ list.old.items ++ map with_cases (checks_in (statements_of stmts.now))) }
+{
+    let Some((stmt, rest)) = stmts.split_first() else {
+        return Ok(());
+    };
+    add_checks_of(alloc, list, stmt)?;
+    add_checks(alloc, list, rest)
+}
+
+/// Adds the checks of the statement and of those in it, in order.
+#[cycle(checks)]
+fn add_checks_of(alloc: Global, list: &mut Vec<CheckCases>, stmt: &Stmt) -> Result<(), AllocError>
+    requires { IsTrue (has_rooms (statement_of stmt.now)) }
+    ensures { OnOk result (list.new.items ≡ list.old.items ++ map with_cases (checks_of (statement_of stmt.now))) }
+{
+    match stmt {
+        Stmt::Set { .. }
+        | Stmt::Havoc { .. }
+        | Stmt::Assume { .. }
+        | Stmt::Where { .. }
+        | Stmt::Break { .. }
+        | Stmt::Continue { .. }
+        | Stmt::Label { .. } => Ok(()),
+        Stmt::Check { check, cond, .. } => {
+            let against = list_cases(alloc, cond, false)?;
+            list.push(CheckCases {
+                check: *check,
+                against,
+            })?;
+            Ok(())
+        }
+        Stmt::If { first, second, .. } => {
+            add_checks(alloc, list, first.as_slice())?;
+            add_checks(alloc, list, second.as_slice())
+        }
+        Stmt::While { body, .. } | Stmt::Do { body, .. } | Stmt::For { body, .. } => add_checks(
+            alloc,
+            list,
+            body.as_slice(),
+        ),
+    }
+}
+
+/// The number of actions that come before the first place of the check among these, or `None` where it isn't among them.
+pub fn prefix_of(actions: &[Action], check: Check) -> Option<usize>
+    ensures missing { result ≡ None → ¬ (In actions.now (Action.Check check)) }
+    ensures first { IfSome result (λ count. ComesFirst actions.now check count) }
+{
+    for (place, action) in actions.iter().enumerate() {
+        if is_check(action, check) {
+            return Some(place);
+        }
+    }
+    None
+}
+
+fn is_check(action: &Action, check: Check) -> bool
+    ensures { IsTrue result ↔ (action.now ≡ Action.Check check) }
+{
+    match action {
+        Action::Check(other) => *other == check,
+        _ => false,
+    }
+}
