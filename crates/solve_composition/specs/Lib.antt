@@ -5,4 +5,4 @@ pub mod Sums
 pub mod Walks
 pub mod ComposedLaws
 pub mod Value
-pub mod Placed
+pub mod Behind

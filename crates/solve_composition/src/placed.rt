@@ -7,7 +7,7 @@ ghost use Rattle.lang_tree.specs.Limits.{is_form};
 ghost use Rattle.theory_validity.specs.Words.{Affine as Formal, composed};
 ghost use Rattle.solve_composition.specs.Composed.{dense};
 ghost use Rattle.solve_composition.specs.Operations.{form_composition};
-ghost use Rattle.solve_composition.specs.Placed.{placed_forms, placed_composition};
+ghost use Rattle.solve_composition.specs.Behind.{placed_forms, placed_composition};
 ghost use Rattle.flow_systems.specs.Faults.{AnswersBy};
 ghost use Rattle.solve_composition.specs.Faults.{Composes};
 ghost use Rattle.solve_composition.specs.Walks.{IsState};
@@ -71,7 +71,8 @@ pub fn compose_placed(
     let frees = count_frees(before);
     let width = variables + frees as usize;
     let mut state = start_state(alloc, variables, width)?;
-    let mut list = walk(alloc, before, &mut state, width)?.into_list();
+    let walked = walk(alloc, before, &mut state, width)?;
+    let mut list = walked.into_list();
     add_guards(alloc, guards, &state, width, &mut list)?;
     Ok(PlacedForms {
         frees,

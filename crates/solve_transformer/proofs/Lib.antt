@@ -1,3 +1,2 @@
 pub mod splits
-pub mod stays
 pub mod values

@@ -29,7 +29,8 @@ use Rattle.solve_composition.specs.declared.value.Value.TheVariants.{Unreached, 
 use Rattle.solve_composition.specs.Composed.{dense}
 use Rattle.solve_composition.specs.ComposedLaws.{form_of}
 use Rattle.solve_composition.specs.Operations.{edge_composition}
-use Rattle.solve_composition.specs.Placed.{placed_actions, end_forms}
+use Rattle.solve_composition.specs.declared.placed.PlacedForms.{PlacedForms}
+use Rattle.solve_composition.specs.Behind.{placed_actions, placed_forms, end_forms}
 use Rattle.solve_composition.specs.Value.{word_of}
 use Rattle.solve_transformer.specs.declared.place.Placed.{Placed}
 use Rattle.solve_transformer.specs.Values.{IsValue, IsWideIn, problem_reading, whole_problem}
@@ -119,6 +120,12 @@ ends_reading ends (Unbounded trace direction) = []
 abbrev pub IsPartFault : Part → OperationFault → PartFault → Type 0
 IsPartFault part (WideFault wide) fault = fault ≡ Wide part wide
 IsPartFault part NoMemoryFault fault = fault ≡ NoMemory
+
+-- the forms are those of some actions and guards over n variables
+pub record IsPlaced (n : ℕ) (forms : PlacedForms) : Type 0 where
+  pub before : List Action
+  pub guards : List Form
+  pub is : forms ≡ placed_forms n before guards
 
 -- all that is said of the answer at a place
 pub record AnswersAt (system : Equations) (z : Vector) (edge : Edge) (result : Result Placed PartFault) : Type 0 where

@@ -103,7 +103,7 @@ pub fn edge_problem(
 ) -> Result<Problem<Frac>, AllocError>
     requires room { length template.now ≤ length source.now }
     requires few_rows { length template.now ≤ MOST_ROWS }
-    requires few_guards { length guards.now ≤ 256 }
+    requires few_guards { length guards.now ≤ 512 }
     requires few_columns { width ≤ MOST_VARIABLES + 256 }
     ensures { (system : Equations) (z : Vector) (edge : Edge) (row : List ℤ) → IsTrue (is_over system.variables system.template) →
         IsSource system z edge row width template.now source.now guards.now form.now →

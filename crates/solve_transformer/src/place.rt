@@ -17,11 +17,11 @@ ghost use Rattle.theory_validity.specs.Words.{val};
 ghost use Rattle.theory_transformers.specs.EdgeProblems.{lost};
 ghost use Rattle.solve_composition.specs.Composed.{dense};
 ghost use Rattle.solve_composition.specs.ComposedLaws.{form_of};
-ghost use Rattle.solve_composition.specs.Placed.{placed_actions, placed_forms};
+ghost use Rattle.solve_composition.specs.Behind.{placed_actions, placed_forms};
 ghost use Rattle.solve_transformer.specs.Meanings.{HasEvidence};
 ghost use Rattle.solve_transformer.specs.Splits.{bounds_at};
 ghost use Rattle.solve_transformer.specs.Places.{placed_edge, nothing, state_after, sides_of, ends_at, ends_reading, form_reading};
-ghost use Rattle.solve_transformer.specs.Places.{forms_reading, products_reading, AnswersAt, IsPartFault, IsPlaceFault, NoneWideAt};
+ghost use Rattle.solve_transformer.specs.Places.{forms_reading, products_reading, AnswersAt, IsPartFault, IsPlaced, IsPlaceFault, NoneWideAt};
 ghost use Rattle.solve_transformer.specs.Values.{IsValue};
 
 use crate::build::lowest_lost;
@@ -70,7 +70,8 @@ fn products_at(coeffs: &[Frac], word: &[Frac]) -> Result<Frac, Wide<Frac>>
 fn form_at(form: &Affine, word: &[Frac]) -> Result<Frac, Wide<Frac>>
     ensures { Answers (λ q. q) long_limit (val (form_of form.now) word.now) (form_reading word.now form.now) result }
 {
-    products_at(form.coeffs.as_slice(), word)?.plus(form.constant)
+    let sum = products_at(form.coeffs.as_slice(), word)?;
+    sum.plus(form.constant)
 }
 
 // The values of forms at the entries of a trace.
@@ -102,7 +103,9 @@ fn read_state(alloc: Global, value: &Value, ends: &[Affine]) -> Result<Option<Fr
             let word = entries(alloc, trace)?;
             Ok(Some(forms_at(alloc, ends, &word)?))
         }
-        _ => Ok(None),
+        Value::Unreached { .. } => Ok(None),
+        Value::Empty { .. } => Ok(None),
+        Value::Unbounded { .. } => Ok(None),
     }
 }
 
@@ -126,8 +129,7 @@ fn solve_composed(
     requires room { length system.now.template ≤ length source.now }
     requires few_frees { forms.now.frees ≤ 256 }
     requires few_guards { length forms.now.guards ≤ 512 }
-    requires forms { (before : List ActionValue) × ((guards : List FormValue) ×
-        (forms.now ≡ placed_forms (length system.now.flow.names) before guards)) }
+    requires forms { IsPlaced (length system.now.flow.names) forms.now }
     ensures { (z : Vector) (point : _) (before : List ActionValue) (guards : List FormValue) →
         forms.now ≡ placed_forms (length system.now.flow.names) before guards →
         bounds_at source.now ≡ z point → lost (z point) system.now.template ≡ false →

@@ -101,7 +101,7 @@ module _ (system : Equations) (z : Vector) (edge : Edge) (row : List ℤ) (w : �
         ∙ ap (λ n. n + n) (length-first_entries w (end_form system.variables edge.actions row).coeffs)
 
     -- and it is shaped
-    pub built_shaped : length template ≤ MOST_ROWS → length guards ≤ 256 → w ≤ MOST_VARIABLES + 256 → IsShaped p
+    pub built_shaped : length template ≤ MOST_ROWS → length guards ≤ 512 → w ≤ MOST_VARIABLES + 256 → IsShaped p
     built_shaped t b c =
         let count = ap (λ (xs : List Limit). length xs) h ∙ length-append
         (map (split_limit w) (source_limits (λ r u. u) system.variables (bounds_at source) template))

@@ -1,8 +1,8 @@
 use Rattle.std.proofs.Common.{◌≡◌, ◌∙◌, [], ap, arith}
 use Rattle.solve_composition.specs.Composed.{first_entries}
-use Rattle.solve_transformer.proofs.stay.Stays.{zeros_push, affine_same}
-use Rattle.solve_transformer.specs.Stays.{nothing}
-use Rattle.solve_transformer.proofs.stay.no_form.Goals as goal
+use Rattle.solve_transformer.proofs.place.Nothing.{zeros_push, affine_same}
+use Rattle.solve_transformer.specs.Places.{nothing}
+use Rattle.solve_transformer.proofs.place.no_form.Goals as goal
 
 pub columns-preserved : goal.columns-preserved
 columns-preserved c = zeros_push c.columns.counter c.columns.coeffs.items c.push.new.self.items c.zero.result c.columns.invariant
