@@ -1,5 +1,5 @@
 -- The texts of a program and of its rows have one ending by the program's checks, and one list of verdicts on them.
-use Rattle.std.proofs.Common.{◌≡◌, ◌∙◌, ℕ, List, length, sym, ap₂, subst}
+use Rattle.std.proofs.Common.{◌≡◌, ◌∙◌, ℕ, List, length, refl, sym, ap₂, subst}
 use Rattle.std.specs.Prelude.{ℤ, Ok}
 use Rattle.std.proofs.lemmas.Option.{slice_get_within}
 use Rattle.base_numbers.specs.Extended.{fin, ◌≤ᴱ◌}
@@ -13,6 +13,9 @@ use Rattle.flow_systems.specs.Solutions.{equations_of_program}
 use Rattle.flow_systems.specs.States.{RationalState, dotℚ}
 use Rattle.flow_systems.specs.declared.system.System.{System}
 use Rattle.flow_systems.proofs.equations.Leastness.{at_most_one}
+use Rattle.flow_systems.specs.View.{equations_of}
+use Rattle.solve_offers.proofs.at_bounds.Ranges.{points_in_range}
+use Rattle.theory_rounds.proofs.rounds.Retraced.{least_law}
 use Rattle.ask_checks.specs.Laws.{EdgesGoFromPoints, VerdictsAreOne}
 use Rattle.ask_checks.specs.Lines.{checks_text}
 use Rattle.ask_checks.specs.Places.{BreaksCheck}
@@ -22,11 +25,12 @@ use Rattle.ask_words.specs.declared.request.Domain.{Domain}
 use Rattle.ask_words.specs.declared.request.Policy.{Policy}
 use Rattle.top_texts.specs.CheckTexts.{AreCheckVerdictsOf, ChecksEnd, IsJudged, SomeOpen, all_proved, some_open}
 use Rattle.top_texts.specs.Exact.{exact}
-use Rattle.top_texts.specs.Rounds.{RunsOut}
-use Rattle.top_texts.specs.Texts.{HasTemplate, IsSolvedSystem}
+use Rattle.top_texts.specs.Rounds.{HasRounds, RunsOut, chosen_by}
+use Rattle.top_texts.specs.Texts.{HasTemplate, IsSolvable, IsSolvedSystem}
 use Rattle.top_status.specs.declared.status.Status.{Status}
+use Rattle.top_status.specs.declared.status.Status.TheVariants.{Done, Open}
 use Rattle.top_texts.proofs.rounds.OneChain.{ends_once, rounds_once}
-use Rattle.top_texts.proofs.texts.Once.{solved_once}
+use Rattle.top_texts.proofs.texts.Once.{equations_are, solved_once}
 use Rattle.top_texts.proofs.texts.Readings.{program_once, rows_once}
 
 -- ---- at vectors with the same bounds
@@ -135,3 +139,32 @@ module _ (text : List ℕ) (rows : Domain (List ℕ)) (policy : Policy) (limit :
       a.written
       ∙ ap₂ (λ (vs : List Verdict) n. checks_text text p.names (checks_of_program p.body) vs n) verdicts rounds
       ∙ sym written
+
+  -- where improvements end, it isn't so that the checks decide neither ending
+  pub one_judged : IsSolvable text rows policy limit → (IsJudged text rows policy limit Done → ⊥) → (IsJudged text rows policy limit Open → ⊥)
+      → ⊥
+  one_judged (system, is, (rounds, within, v, ends)) done open =
+      let equations = equations_of_program (length is.names) is.body is.template in
+      let vector = ends.vectors rounds in
+      let again : HasRounds system policy rounds vector = record {
+        vectors = ends.vectors;
+        picks = ends.picks;
+        chain = ends.chain;
+        ended = ends.ended;
+        same = λ p r l m. refl;
+      } in
+      let lowest : Least equations vector =
+      subst (λ (q : Equations). Least q vector) (equations_are is.names is.body is.template system is.system_for)
+      (least_law (chosen_by policy) (equations_of system) (points_in_range system) rounds v ends) in
+      let made : (s : Status) → ChecksEnd is.body equations vector s → IsJudged text rows policy limit s = λ s e. record {
+        system = system;
+        solved = is;
+        rounds = rounds;
+        within = within;
+        vector = vector;
+        has_rounds = again;
+        least = lowest;
+        ends = e;
+      } in
+      done (made Done (all_proved refl (λ check among state breaks.
+      open (made Open (some_open refl (record { check = check; among = among; state = state; breaks = breaks }))))))

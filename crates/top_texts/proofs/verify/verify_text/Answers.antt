@@ -1,10 +1,13 @@
-use Rattle.std.proofs.Common.{◌≡◌, List, ℕ, rules, subst}
+use Rattle.std.proofs.Common.{◌≡◌, List, ℕ, length, rules, subst, subst₂, sym}
 use Rattle.std.specs.Prelude.{◌↔◌, Contains, IsTrue}
+use Rattle.std.specs.List.{list_all}
+use Rattle.flow_edges.specs.Checks.{checks_of_program}
 use Rattle.flow_edges.specs.declared.checked.CheckCases.{CheckCases}
 use Rattle.flow_systems.specs.States.{RationalState}
 use Rattle.flow_systems.specs.View.{equations_of, vector_at}
 use Rattle.ask_checks.specs.Lines.{checks_text}
 use Rattle.ask_checks.specs.Verdicts.{AreCheckVerdicts}
+use Rattle.ask_verdicts.specs.Breaking.{is_case}
 use Rattle.ask_verdicts.specs.declared.outcome.Verdict.{Verdict}
 use Rattle.ask_verdicts.specs.declared.outcome.Verdict.TheVariants.{Open}
 use Rattle.ask_words.specs.Request.{domain_text}
@@ -12,6 +15,7 @@ use Rattle.ask_words.specs.declared.request.Purpose.TheVariants.{Report}
 use Rattle.top_texts.specs.Exact.{exact}
 use Rattle.top_texts.specs.Outcomes.{AreUnverified, IsUnanswered}
 use Rattle.top_texts.specs.Questions.{checks_question}
+use Rattle.top_texts.proofs.check_texts.Cased.{checks_cased}
 use Rattle.top_texts.proofs.check_texts.Judged.{judged, unsolved, unsystematic, unverified}
 use Rattle.top_texts.proofs.verify.verify_text.Goals as goal
 
@@ -40,6 +44,16 @@ returns-in_err-list-clause-err g c =
     (subst (λ (checks : List CheckCases). AreUnverified (equations_of s) (vector_at s c.in_ok-solved.solved.bounds) checks
     c.in_err-list.field-0.0) c.as_slice-checks.ensures c.in_err-list.ensures.err) in
     search (rules, h)
+
+pub verdicts_of-list-requires-clause-against : goal.verdicts_of-list-requires-clause-against
+verdicts_of-list-requires-clause-against g c =
+    let has = c.in_ok-checked.ensures.ok in
+    let all : IsTrue (list_all (λ (check : CheckCases). list_all (is_case (length has.solved.names)) check.against)
+    (checks_of_program has.solved.body)) = checks_cased (length has.solved.names) has.solved.body has.within in
+    subst (λ (cs : List CheckCases). IsTrue (list_all (λ (check : CheckCases).
+    list_all (is_case (length c.in_ok-checked.checked.system.flow.names)) check.against) cs)) (sym c.as_slice-checks.ensures)
+    (subst₂ (λ (names : List (List ℕ)) (cs : List CheckCases). IsTrue (list_all (λ (check : CheckCases).
+    list_all (is_case (length names)) check.against) cs)) (sym has.solved.system_for.names_are) (sym has.checks_are) all)
 
 pub returns-clause-ok : goal.returns-clause-ok
 returns-clause-ok g c =
