@@ -53,5 +53,5 @@ of_checks (Verify a) h = (a, refl, verified a h)
 -- where improvements end it has one of its two endings
 pub judged_or_not : (a : Analysis (List ℕ)) → IsSolvable a.program a.domain a.policy a.improvements
     → ((command_of exact (Verify a)).ends Done → ⊥) → ((command_of exact (Verify a)).ends Open → ⊥) → ⊥
-judged_or_not a solvable done open =
-    one_judged a.program a.domain a.policy a.improvements solvable (λ j. done (judged j)) (λ j. open (judged j))
+judged_or_not a solvable done other =
+    one_judged a.program a.domain a.policy a.improvements solvable (λ j. done (judged j)) (λ j. other (judged j))

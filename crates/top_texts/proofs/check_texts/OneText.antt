@@ -143,7 +143,7 @@ module _ (text : List ℕ) (rows : Domain (List ℕ)) (policy : Policy) (limit :
   -- where improvements end, it isn't so that the checks decide neither ending
   pub one_judged : IsSolvable text rows policy limit → (IsJudged text rows policy limit Done → ⊥) → (IsJudged text rows policy limit Open → ⊥)
       → ⊥
-  one_judged (system, is, (rounds, within, v, ends)) done open =
+  one_judged (system, is, (rounds, within, v, ends)) done other =
       let equations = equations_of_program (length is.names) is.body is.template in
       let vector = ends.vectors rounds in
       let again : HasRounds system policy rounds vector = record {
@@ -167,4 +167,4 @@ module _ (text : List ℕ) (rows : Domain (List ℕ)) (policy : Policy) (limit :
         ends = e;
       } in
       done (made Done (all_proved refl (λ check among state breaks.
-      open (made Open (some_open refl (record { check = check; among = among; state = state; breaks = breaks }))))))
+      other (made Open (some_open refl (record { check = check; among = among; state = state; breaks = breaks }))))))
