@@ -104,7 +104,7 @@ fn verdicts_of(
 }
 
 /// The verdicts of the least bounds of the program of `text`, over these rows, on the program's checks, with the number of
-/// improvements by the policy, of which there may be `limit` (docs/FORMATS.md, "Verdicts on checks"); and whether a check is open.
+/// improvements by the policy, of which there may be `limit` (docs/FORMATS.md, "Checks"); and whether a check is open.
 ///
 /// # Errors
 ///

@@ -7,7 +7,8 @@ use Rattle.ask_files.specs.Files.{Request, files_of, unread, with_texts}
 use Rattle.ask_words.specs.Request.{analyse_in, bench_in, check_in, command_in, equations_in, points_in, prove_in, transitions_in}
 use Rattle.ask_words.specs.Request.{upgrade_in, verify_in}
 use Rattle.ask_words.specs.declared.request.Purpose.TheVariants.{Report, Certificate}
-use Rattle.ask_words.specs.declared.request.Request.TheVariants.{Analyse, Check, Bench, Upgrade, Prove, Transitions, Equations, Points, Verify}
+use Rattle.ask_words.specs.declared.request.Request.TheVariants.{Analyse, Check, Bench, Upgrade, Prove, Transitions, Equations, Points}
+use Rattle.ask_words.specs.declared.request.Request.TheVariants.{Verify}
 use Rattle.top_answer.specs.Commands.{command_of}
 use Rattle.top_texts.specs.Exact.{exact}
 use Rattle.top_answer.proofs.commands.Analyses.{analyses, analysis_range}

@@ -2,7 +2,8 @@
 use Rattle.std.proofs.Common.{◌≡◌, ℕ, List, refl}
 use Rattle.ask_files.specs.Files.{Request}
 use Rattle.ask_words.specs.declared.request.Analysis.{Analysis}
-use Rattle.ask_words.specs.declared.request.Request.TheVariants.{Analyse, Check, Bench, Upgrade, Prove, Transitions, Equations, Points, Verify}
+use Rattle.ask_words.specs.declared.request.Request.TheVariants.{Analyse, Check, Bench, Upgrade, Prove, Transitions, Equations, Points}
+use Rattle.ask_words.specs.declared.request.Request.TheVariants.{Verify}
 use Rattle.top_answer.specs.Commands as commands
 use Rattle.top_answer.specs.Commands.{CheckEnds, PointsEnd, UpgradeEnds, VerifyEnds, command_of, form_refused, judged, listed, rewritten}
 use Rattle.top_answer.specs.Commands.{text_refused, unjudged}

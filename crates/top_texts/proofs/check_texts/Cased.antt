@@ -6,7 +6,8 @@ use Rattle.std.proofs.lemmas.Bool.{and_from, and_parts}
 use Rattle.base_facts.specs.Elements.{In}
 use Rattle.base_facts.proofs.elements.Membership.{of_append}
 use Rattle.lang_tree.specs.Limits.{are_statements, is_kind, is_program, is_statement, is_tested}
-use Rattle.lang_tree.specs.Tree.{Statement, Statements, set, havoc, assume, only_where, check, branch, loop, jump, label, nil, cons, nodes_in}
+use Rattle.lang_tree.specs.Tree.{Statement, Statements, set, havoc, assume, only_where, check, branch, loop, jump, label, nil, cons}
+use Rattle.lang_tree.specs.Tree.{nodes_in}
 use Rattle.lang_tree.specs.declared.limits.TheConstants.{MOST_VARIABLES}
 use Rattle.flow_edges.specs.Checks.{Checked, checks_in, checks_of, checks_of_program, with_cases}
 use Rattle.flow_edges.specs.declared.checked.CheckCases.{CheckCases}

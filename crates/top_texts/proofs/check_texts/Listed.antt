@@ -57,8 +57,8 @@ module _ (body : Statements) (system : Equations) (vector : Vector) (verdicts : 
   verdict_at : (k : ℕ) (check : Checked) (said : Verdict) → slice_get (checks_in body) k ≡ Some check → slice_get verdicts k ≡ Some said
       → IsCheckVerdict system vector (with_cases check) said
   verdict_at k check said e f =
-      zip_at (IsCheckVerdict system vector) (checks_of_program body) verdicts k (with_cases check) said are (cased (checks_in body) k check e)
-      f
+      zip_at (IsCheckVerdict system vector) (checks_of_program body) verdicts k (with_cases check) said are
+      (cased (checks_in body) k check e) f
 
   open_one : OpenStatesBreak → (state : RationalState) → Contains verdicts (Open state) → SomeOpen body system vector
   open_one law state c =

@@ -85,7 +85,8 @@ program_moves text rows s t q p P h =
     subst (λ ts. P p.names p.body ts) template (subst (λ (x : List (List ℕ) × Statements). P x.0 x.1 q.template) same h)
 
 -- the edges of a program go from its points
-program_edges : (variables : ℕ) (body : Statements) (template : List (List ℤ)) → EdgesGoFromPoints (equations_of_program variables body template)
+program_edges : (variables : ℕ) (body : Statements) (template : List (List ℤ))
+    → EdgesGoFromPoints (equations_of_program variables body template)
 program_edges variables body template edge c = (ranges_law body edge c).from
 
 module _ (text : List ℕ) (rows : Domain (List ℕ)) (policy : Policy) (limit : ℕ) where
@@ -141,8 +142,8 @@ module _ (text : List ℕ) (rows : Domain (List ℕ)) (policy : Policy) (limit :
       ∙ sym written
 
   -- where improvements end, it isn't so that the checks decide neither ending
-  pub one_judged : IsSolvable text rows policy limit → (IsJudged text rows policy limit Done → ⊥) → (IsJudged text rows policy limit Open → ⊥)
-      → ⊥
+  pub one_judged : IsSolvable text rows policy limit → (IsJudged text rows policy limit Done → ⊥)
+      → (IsJudged text rows policy limit Open → ⊥) → ⊥
   one_judged (system, is, (rounds, within, v, ends)) done other =
       let equations = equations_of_program (length is.names) is.body is.template in
       let vector = ends.vectors rounds in
