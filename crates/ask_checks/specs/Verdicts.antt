@@ -1,5 +1,5 @@
 -- Which verdict is given on a check, and which fault: by its places in order of the edges, and at each by the cases in order.
-use Rattle.std.specs.Prelude.{◌≡◌, ◌↔◌, ℕ, List, Some, length, slice_get, take}
+use Rattle.std.specs.Prelude.{◌≡◌, ◌↔◌, ℕ, List, length, take}
 use Rattle.std.specs.List.{All, AllZip}
 use Rattle.flow_edges.specs.declared.checked.CheckCases.{CheckCases}
 use Rattle.flow_edges.specs.declared.edge.Edge.{Edge}
@@ -7,6 +7,7 @@ use Rattle.flow_systems.specs.States.{RationalState}
 use Rattle.flow_systems.specs.Equations.{Equations, Vector}
 use Rattle.lp_simplex.specs.Operations.{capped}
 use Rattle.ask_verdicts.specs.Firsts.{NoneBelow, IsFirst, FitsUpTo, IsFirstRefused}
+use Rattle.ask_verdicts.specs.Lists.{IsFirstWide}
 use Rattle.ask_verdicts.specs.Breaking.{NoneOpen}
 use Rattle.ask_verdicts.specs.Verdicts.{IsOpen, AllFit, IsFirstFault}
 use Rattle.ask_verdicts.specs.declared.outcome.Verdict.{Verdict}
@@ -93,16 +94,8 @@ AreCheckVerdicts system z checks verdicts = AllZip (IsCheckVerdict system z) che
 abbrev pub ChecksFit : Equations → Vector → List CheckCases → Type 0
 ChecksFit system z checks = All (CheckFits system z) checks
 
--- no operation for a check before the one of this number is wide, and this is the first wide one for it
-pub record IsFirstWideCheck (system : Equations) (z : Vector) (checks : List CheckCases) (named : ℕ) (fault : CheckFault) : Type 0 where
-  pub number : ℕ
-  pub check : CheckCases
-  pub listed : slice_get checks number ≡ Some check
-  pub named_so : named ≡ capped number
-  pub before : ChecksFit system z (take number checks)
-  pub wide : IsCheckFault system z check fault
-
 -- a fault names the first wide operation with its check, its edge and its case; want of memory may come at any time
 abbrev pub IsChecksFault : Equations → Vector → List CheckCases → ChecksFault → Type 0
-IsChecksFault system z checks (Wide check edge case part wide) = IsFirstWideCheck system z checks check (WideCheck edge case part wide)
+IsChecksFault system z checks (Wide check edge case part wide) =
+    IsFirstWide (CheckFits system z) (IsCheckFault system z) checks check (WideCheck edge case part wide)
 IsChecksFault system z checks NoMemory = Unit {0}

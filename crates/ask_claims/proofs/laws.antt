@@ -1,5 +1,3 @@
-pub mod Sizes
 pub mod Claims
-pub mod SameBounds
 pub mod Lists
 pub mod Refusals

@@ -1,13 +1,12 @@
 -- Which verdicts are given on a list of claims at a vector, and which fault. The place of a claim is its point, with no actions before.
-use Rattle.std.specs.Prelude.{◌≡◌, ℕ, List, [], Some, length, take, slice_get}
+use Rattle.std.specs.Prelude.{List, [], length}
 use Rattle.std.specs.List.{All, AllZip}
 use Rattle.flow_systems.specs.States.{RationalState}
 use Rattle.flow_systems.specs.Equations.{Equations, Vector}
-use Rattle.lp_simplex.specs.Operations.{capped}
+use Rattle.ask_verdicts.specs.Lists.{IsFirstWide}
 use Rattle.ask_verdicts.specs.Breaking.{BreaksSome, NoneOpen}
 use Rattle.ask_verdicts.specs.Verdicts.{IsVerdict, AllFit, IsFirstFault}
 use Rattle.ask_verdicts.specs.declared.outcome.Verdict.{Verdict}
-use Rattle.ask_verdicts.specs.declared.outcome.VerdictFault.{VerdictFault}
 use Rattle.ask_verdicts.specs.declared.outcome.VerdictFault.TheVariants.{Wide as WideVerdict}
 use Rattle.ask_claims.specs.declared.claim.Claim.{Claim}
 use Rattle.ask_claims.specs.declared.outcome.ClaimsFault.{ClaimsFault}
@@ -37,16 +36,8 @@ ClaimFits system z claim = AllFit system z claim.point [] claim.against
 abbrev pub ClaimsFit : Equations → Vector → List Claim → Type 0
 ClaimsFit system z claims = All (ClaimFits system z) claims
 
--- no operation for a claim before the one of this number is wide, and this is the first wide one for it
-pub record IsFirstWideClaim (system : Equations) (z : Vector) (claims : List Claim) (named : ℕ) (fault : VerdictFault) : Type 0 where
-  pub number : ℕ
-  pub claim : Claim
-  pub listed : slice_get claims number ≡ Some claim
-  pub named_so : named ≡ capped number
-  pub before : ClaimsFit system z (take number claims)
-  pub wide : IsFirstFault system z claim.point [] claim.against fault
-
 -- a fault names the first wide operation with its claim and its case; want of memory may come at any time
 abbrev pub IsClaimsFault : Equations → Vector → List Claim → ClaimsFault → Type 0
-IsClaimsFault system z claims (Wide claim case part wide) = IsFirstWideClaim system z claims claim (WideVerdict case part wide)
+IsClaimsFault system z claims (Wide claim case part wide) =
+    IsFirstWide (ClaimFits system z) (λ c fault. IsFirstFault system z c.point [] c.against fault) claims claim (WideVerdict case part wide)
 IsClaimsFault system z claims NoMemory = Unit {0}

@@ -1,6 +1,5 @@
 -- The first of some numbers at which something is found, and the first fault up to it.
-use Rattle.std.specs.Prelude.{◌≡◌, ℕ, ◌<◌}
-use Rattle.lp_simplex.specs.Operations.{capped}
+use Rattle.std.specs.Prelude.{ℕ, ◌<◌}
 
 -- nothing is found at any number below n
 abbrev pub NoneBelow : (ℕ → Type 0) → ℕ → Type 0
@@ -17,11 +16,10 @@ pub record IsFirst {X : Type 0} (none : ℕ → Type 0) (found : ℕ → X → T
 abbrev pub FitsUpTo : (ℕ → Type 0) → (ℕ → Type 0) → ℕ → Type 0
 FitsUpTo none fits n = (k : ℕ) → k < n → NoneBelow none k → fits k
 
--- up to a number below n nothing is found and this is so, and there is a fault at it; the number is named by at most 4,294,967,295
-pub record IsFirstRefused {E : Type 0} (none fits : ℕ → Type 0) (faulty : ℕ → E → Type 0) (n named : ℕ) (fault : E) : Type 0 where
+-- up to a number below n nothing is found and this is so at each, and at it there is this fault
+pub record IsFirstRefused {E : Type 0} (none fits : ℕ → Type 0) (faulty : ℕ → E → Type 0) (n : ℕ) (fault : E) : Type 0 where
   pub number : ℕ
   pub within : number < n
-  pub named_so : named ≡ capped number
   pub before : NoneBelow none number
   pub fit : (k : ℕ) → k < number → fits k
   pub here : faulty number fault

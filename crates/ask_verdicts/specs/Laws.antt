@@ -5,8 +5,7 @@ use Rattle.lang_tree.specs.Tree.{Condition}
 use Rattle.lang_tree.specs.Cases.{cases_of}
 use Rattle.lang_tree.specs.Meaning.{State, MayBe}
 use Rattle.flow_edges.specs.declared.edge.Action.{Action}
-use Rattle.flow_edges.specs.Steps.{Acts}
-use Rattle.flow_systems.specs.States.{RationalState, rational}
+use Rattle.flow_systems.specs.States.{RationalState, rational, Traces}
 use Rattle.flow_systems.specs.Equations.{Equations, Vector, Fits}
 use Rattle.flow_systems.specs.SolutionLaws.{IsSame}
 use Rattle.ask_verdicts.specs.Breaking.{BreaksSome, NoneOpen}
@@ -16,11 +15,11 @@ use Rattle.ask_verdicts.specs.declared.outcome.Verdict.TheVariants.{Open}
 use Rattle.ask_verdicts.specs.declared.outcome.VerdictFault.{VerdictFault}
 use Rattle.ask_verdicts.specs.declared.outcome.VerdictFault.TheVariants.{NoMemory}
 
--- where no state breaks a case against a condition, the condition isn't false where the actions lead from an integer state that fits
+-- where no state breaks a case against a condition, it isn't false at an integer state to which the actions lead from one that fits
 abbrev pub ProvedPlacesHold : Type 0
 ProvedPlacesHold = (system : Equations) (z : Vector) (p : ℕ) (before : List Action) (c : Condition) →
     NoneOpen system z p before (cases_of false c) (length (cases_of false c)) →
-    (x y : State) → length x ≡ system.variables → Fits system z p (rational x) → Acts before x y → ¬ (MayBe false c y)
+    (x : RationalState) (y : State) → length x ≡ system.variables → Fits system z p x → Traces before x (rational y) → ¬ (MayBe false c y)
 
 -- the state of an open verdict breaks one of the cases
 abbrev pub OpenStatesBreak : Type 0

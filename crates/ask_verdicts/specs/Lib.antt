@@ -1,4 +1,5 @@
 pub mod Firsts
+pub mod Lists
 pub mod Breaking
 pub mod Verdicts
 pub mod Lines

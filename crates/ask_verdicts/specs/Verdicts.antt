@@ -11,6 +11,7 @@ use Rattle.theory_validity.specs.Words.{width, end_of}
 use Rattle.lp_theory.specs.Problem.{Problem, Outcome, best, unbounded, empty}
 use Rattle.lp_theory.specs.Simplex.{lp}
 use Rattle.lp_theory.specs.Free.{unsplit}
+use Rattle.lp_simplex.specs.Operations.{capped}
 use Rattle.theory_transformers.specs.Limits.{tabulate}
 use Rattle.solve_transformer.specs.Places.{placed_edge, NoneWideAt, IsPlaceFault}
 use Rattle.solve_transformer.specs.Values.{whole_problem}
@@ -76,5 +77,5 @@ AllFit system z p before cases =
 abbrev pub IsFirstFault : Equations → Vector → ℕ → List Action → List (List Form) → VerdictFault → Type 0
 IsFirstFault system z p before cases (Wide case part wide) =
     IsFirstRefused (λ k. NoneBreaks system z p before (get_or cases k [])) (λ k. FitsFor system z p before (get_or cases k []))
-    (λ k. IsFaultFor system z p before (get_or cases k [])) (length cases) case (WidePart part wide)
+    (λ k fault. (case ≡ capped k) × IsFaultFor system z p before (get_or cases k []) fault) (length cases) (WidePart part wide)
 IsFirstFault system z p before cases NoMemory = Unit {0}

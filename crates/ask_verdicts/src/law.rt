@@ -3,7 +3,7 @@
 ghost use Rattle.ask_verdicts.specs.Laws.{OpenStatesBreak, ProvedPlacesHold, RefusalsAreOne, VerdictsAreOne, WideVerdictsDontFit};
 
 /// Where no rational state breaks a case against a condition at a place, the condition isn't false at any integer state to which the
-/// actions lead from one that fits the vector at the point.
+/// actions lead from a state that fits the vector at the point.
 pub fn proved_places_hold()
     ensures { ProvedPlacesHold }
 {}

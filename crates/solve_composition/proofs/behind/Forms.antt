@@ -15,7 +15,7 @@ use Rattle.theory_validity.specs.Words.{Affine as Formal, column, columns, compo
 use Rattle.solve_composition.specs.declared.affine.Affine.{Affine}
 use Rattle.solve_composition.specs.declared.placed.PlacedForms.{PlacedForms}
 use Rattle.solve_composition.specs.Composed.{dense}
-use Rattle.solve_composition.specs.Operations.{form_composition, action_composition, actions_composition, edge_composition}
+use Rattle.solve_composition.specs.Operations.{form_composition, actions_composition}
 use Rattle.solve_composition.specs.Behind.{placed_actions, placed_forms, placed_composition, end_forms}
 
 guards_free : (gs : List Form) → free_count (guards gs) ≡ 0
