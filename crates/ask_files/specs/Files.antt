@@ -6,7 +6,8 @@ use Rattle.ask_words.specs.declared.request.Analysis.{Analysis}
 use Rattle.ask_words.specs.declared.request.Domain.{Domain}
 use Rattle.ask_words.specs.declared.request.Domain.TheVariants.{Intervals, Zones, Octagons, Rows}
 use Rattle.ask_words.specs.declared.request.Request.{Request as RequestOf}
-use Rattle.ask_words.specs.declared.request.Request.TheVariants.{Analyse, Check, Bench, Upgrade, Prove, Transitions, Equations, Points, Verify}
+use Rattle.ask_words.specs.declared.request.Request.TheVariants.{Analyse, Check, Bench, Upgrade, Prove, Transitions, Equations, Points}
+use Rattle.ask_words.specs.declared.request.Request.TheVariants.{Verify}
 use Rattle.ask_files.specs.declared.which.ReadCause.{ReadCause}
 use Rattle.ask_files.specs.declared.which.ReadCause.TheVariants.{Failed, TooLong}
 use Rattle.ask_files.specs.declared.which.Which.{Which}

@@ -13,7 +13,8 @@ use Rattle.ask_words.specs.declared.request.Domain.TheVariants.{Intervals, Zones
 use Rattle.ask_words.specs.declared.request.Request.{Request}
 use Rattle.ask_words.specs.declared.request.Policy.{Policy}
 use Rattle.ask_words.specs.declared.request.Policy.TheVariants.{Best, First}
-use Rattle.ask_words.specs.declared.request.Request.TheVariants.{Analyse, Check, Bench, Upgrade, Prove, Transitions, Equations, Points, Verify}
+use Rattle.ask_words.specs.declared.request.Request.TheVariants.{Analyse, Check, Bench, Upgrade, Prove, Transitions, Equations, Points}
+use Rattle.ask_words.specs.declared.request.Request.TheVariants.{Verify}
 use Rattle.ask_words.specs.declared.request.Purpose.{Purpose}
 use Rattle.ask_words.specs.declared.request.Purpose.TheVariants.{Report, Certificate}
 

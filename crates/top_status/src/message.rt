@@ -238,10 +238,8 @@ fn make_parts(line: u32, status: &Status) -> Parts
     ensures { told result ≡ words_of line status.now }
 {
     match status {
-        Status::Done
-        | Status::Open
-        | Status::Certificate(_)
-        | Status::Exceeded(Excess::Wide(_)) => plain(b""),
+        Status::Done | Status::Open | Status::Certificate(_) | Status::Exceeded(Excess::Wide(_)) =>
+            plain(b""),
         Status::Exceeded(Excess::Large(cells)) => counted_in(PROGRAM, b"", *cells, b" cells\n"),
         Status::Usage => Parts {
             subject: b"",

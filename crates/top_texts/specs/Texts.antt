@@ -63,9 +63,9 @@ pub record IsSolvedSystem (text : List ℕ) (rows : Domain (List ℕ)) (system :
 
 -- it is that of this program
 pub record IsSystemOn (text : List ℕ) (rows : Domain (List ℕ)) (names : List (List ℕ)) (body : Statements) (system : System) : Type 0 where
-  pub solved : IsSolvedSystem text rows system
-  pub names_are : solved.names ≡ names
-  pub body_is : solved.body ≡ body
+  pub template : List (List ℤ)
+  pub ready : IsReady text rows names body template
+  pub system_for : IsSystemFor names body template system
 
 -- the text of the program is refused by this cause, whatever template it is for
 abbrev pub IsRefusedProgram : List ℕ → TextCause → Type 0

@@ -104,7 +104,7 @@ fn verdicts_of(
 }
 
 /// The verdicts of the least bounds of the program of `text`, over these rows, on the program's checks, with the number of
-/// improvements by the policy, of which there may be `limit` (docs/FORMATS.md, "Verdicts on checks"); and whether a check is open.
+/// improvements by the policy, of which there may be `limit` (docs/FORMATS.md, "Checks"); and whether a check is open.
 ///
 /// # Errors
 ///
@@ -127,17 +127,13 @@ pub fn verify_text<W: Watch>(
 {
     proved_verdicts_hold();
     open_states_break();
-    let Checked { system, checks } = checked_on(alloc, text, rows)?;
-    let solved = solve(alloc, &system, policy, limit, watch)?;
-    let list = verdicts_of(alloc, &system, &solved.bounds, checks.as_slice())?;
-    let bytes = checks_text(
-        alloc,
-        text,
-        system.flow.names.as_slice(),
-        checks.as_slice(),
-        &list,
-        solved.improvements,
-    )?;
+    let checked = checked_on(alloc, text, rows)?;
+    let system = &checked.system;
+    let checks = checked.checks.as_slice();
+    let solved = solve(alloc, system, policy, limit, watch)?;
+    let list = verdicts_of(alloc, system, &solved.bounds, checks)?;
     let is_open = has_open(&list);
+    let names = system.flow.names.as_slice();
+    let bytes = checks_text(alloc, text, names, checks, &list, solved.improvements)?;
     Ok(Judged { bytes, is_open })
 }

@@ -115,9 +115,7 @@ const JUDGED: &[(&str, &[u8], &[u8], Ending)] = &[
         "verify p",
         FIRST,
         b"",
-        Ending::Open(
-            b"check 0 at 2:17: assert: open at x = 0\nproved 0 of 1\nimprovements: 3\n",
-        ),
+        Ending::Open(b"check 0 at 2:17: assert: open at x = 0\nproved 0 of 1\nimprovements: 3\n"),
     ),
 ];
 
@@ -137,9 +135,7 @@ const PLACED: &[(&str, &[u8], Ending)] = &[
     (
         "verify p",
         CHOICE,
-        Ending::Open(
-            b"check 0 at 1:25: assert: open at x = 7\nproved 0 of 1\nimprovements: 1\n",
-        ),
+        Ending::Open(b"check 0 at 1:25: assert: open at x = 7\nproved 0 of 1\nimprovements: 1\n"),
     ),
     (
         "verify p",

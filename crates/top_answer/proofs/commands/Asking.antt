@@ -10,19 +10,21 @@ use Rattle.top_texts.specs.Questions.{IsExcessIn, Question, QuestionEnds, is_ref
 use Rattle.top_texts.proofs.questions.OneEnd.{HasOneMeaning, question_ends_once}
 use Rattle.top_answer.proofs.commands.Lawful.{IsLawfulCommand, done_ends}
 
-never_unwritten : (q : Question) → QuestionEnds q Write → ⊥
+-- a question doesn't end in a failed put
+pub never_unwritten : (q : Question) → QuestionEnds q Write → ⊥
 never_unwritten q (is_refused cause e h) = cc
 never_unwritten q (rounds_end system e is h) = cc
 never_unwritten q (rounds_spent system e is h) = cc
 
-never_unread : (q : Question) (cause : ReadCause) → QuestionEnds q (Read cause) → ⊥
+-- nor in a failed read
+pub never_unread : (q : Question) (cause : ReadCause) → QuestionEnds q (Read cause) → ⊥
 never_unread q read (is_refused cause e h) = cc
 never_unread q read (rounds_end system e is h) = cc
 never_unread q read (rounds_spent system e is h) = cc
 
 module _ (q : Question) (one : HasOneMeaning q) where
   -- where something exceeds exact work on the way, improvements decide the ending
-  exceeded_of_rounds : (excess : Excess) (s : Status) → IsExcessIn q excess → QuestionEnds q s → IsOfRounds s
+  pub exceeded_of_rounds : (excess : Excess) (s : Status) → IsExcessIn q excess → QuestionEnds q s → IsOfRounds s
   exceeded_of_rounds excess s w (is_refused c e h) = absurd (one.apart c w.system h w.meant)
   exceeded_of_rounds excess s w (rounds_end x e is ends) = of_ended e
   exceeded_of_rounds excess s w (rounds_spent x e is out) = of_spent q.limit e

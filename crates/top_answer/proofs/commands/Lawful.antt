@@ -10,7 +10,8 @@ use Rattle.top_answer.specs.Answers.{IsOfRounds}
 use Rattle.top_answer.specs.Commands.{Commands, command_of, done_writes}
 use Rattle.top_status.specs.declared.status.Excess.{Excess}
 use Rattle.top_status.specs.declared.status.Status.{Status}
-use Rattle.top_status.specs.declared.status.Status.TheVariants.{Done, Open, Certificate as Refused, Usage, Read, Text, Exceeded, Spent, Memory, Write}
+use Rattle.top_status.specs.declared.status.Status.TheVariants.{Done, Open, Certificate as Refused, Usage, Read, Text, Exceeded, Spent}
+use Rattle.top_status.specs.declared.status.Status.TheVariants.{Memory, Write}
 use Rattle.top_texts.specs.Exact.{exact}
 
 -- a command whose answers are determined by what stands, by its endings, what may exceed exact work, and what it writes

@@ -21,7 +21,8 @@ one_output words contents ending another one other none a b =
     (table a.asks.request).writes_once
     (λ analysis e. none analysis (a.asks.request_is ∙ ap (λ (r : Request). Some r) e)) contents ending another one other
     (subst (λ r. (command_of exact r).writes ending one) a.asks.asked_is a.written)
-    (subst (λ r. (command_of exact r).writes another other) (one_asked words contents b.asked a.asked b.asks a.asks ∙ a.asks.asked_is) b.written)
+    (subst (λ r. (command_of exact r).writes another other) (one_asked words contents b.asked a.asked b.asks a.asks ∙ a.asks.asked_is)
+    b.written)
 
 -- it is written at an ending that they have
 pub written_ending : (words contents : List (List ℕ)) (ending : Status) (bytes : List ℕ)

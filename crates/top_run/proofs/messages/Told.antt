@@ -15,7 +15,8 @@ untold status b is fails h =
     let f : ⊥ = cc in
     f
 
-gets : (status : Status) (message : List ℕ) (held now : Option (List ℕ)) (f f' s : ℕ) (r : Put) → (IsTrue (has_output status) → ⊥) → length message ≤ 512
+gets : (status : Status) (message : List ℕ) (held now : Option (List ℕ)) (f f' s : ℕ) (r : Put) → (IsTrue (has_output status) → ⊥)
+    → length message ≤ 512
     → Puts held now message r → HasPutCause f f' s message r → GetsMessage status message held now f f' s
 gets status message held now f f' s (Ok x) other short puts cause =
     record {

@@ -90,8 +90,8 @@ module _ (commands : Commands) (lawful : EndsInside commands) (m : Meanings) (pl
   out_is ending status d (answers.no_memory e) = absurd (memory_without status e d)
   out_is ending status d (answers.exceeded excess e w r) = absurd (exceeded_out status excess e d)
 
-  out_has : (status : Status) (bytes : List ℕ) → IsTrue (has_output status) → Holds (IsOutput commands words (contents_of made)) status bytes
-      → IsOutput commands words (contents_of made) status bytes
+  out_has : (status : Status) (bytes : List ℕ) → IsTrue (has_output status)
+      → Holds (IsOutput commands words (contents_of made)) status bytes → IsOutput commands words (contents_of made) status bytes
   out_has status bytes d (answers.whole e is) = is
   out_has status bytes d (answers.nothing other e) = absurd (other d)
 

@@ -94,5 +94,6 @@ pub fn system_on(alloc: Global, text: &[u8], rows: Domain<&[u8]>) -> Result<Syst
     ensures err { IfErr result (λ refusal. IsRefusedBy text.now (domain_text rows.entry) refusal) }
 {
     let program = program_of(alloc, text)?;
-    Ok(program_system(alloc, rows, &program)?)
+    let system = program_system(alloc, rows, &program)?;
+    Ok(system)
 }
