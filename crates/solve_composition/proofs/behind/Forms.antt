@@ -67,7 +67,7 @@ guards_behind k fs (Assign var form ∷ before) gs = guards_behind k (slice_set 
 guards_behind k fs (Havoc var ∷ before) gs = guards_behind (suc k) (slice_set fs var (column k)) before gs
 guards_behind k fs (Check about ∷ before) gs = guards_behind k fs before gs
 
-composition_only : (w k : ℕ) (fs : List Formal) (gs : List Form)
+pub composition_only : (w k : ℕ) (fs : List Formal) (gs : List Form)
     → actions_composition w [] k fs (guards gs) ≡ flat_map (form_composition w fs) gs
 composition_only w k fs [] = refl
 composition_only w k fs (g ∷ gs) = ap (λ os. form_composition w fs g ++ os) (composition_only w k fs gs)
