@@ -1,7 +1,7 @@
 -- The loops, the labels and the end of a program in the order of its text, and the variables that are known there.
 use Rattle.std.specs.Prelude.{◌+◌, ◌++◌, ℕ, List, [], ◌∷◌}
 use Rattle.lang_grammar.specs.Grammar.{Declarators, declares, declares_more, ForFirst, no_first, declared_first, updated_first}
-use Rattle.lang_grammar.specs.Grammar.{Core, empty, block, if_alone, if_else, repeat, repeat_after, repeat_for, jumps, assumed, updates}
+use Rattle.lang_grammar.specs.Grammar.{Core, empty, block, if_alone, if_else, repeat, repeat_after, repeat_for, jumps, demands, updates}
 use Rattle.lang_grammar.specs.Grammar.{Sub, labelled, plain, Items, no_items, label, declaration, item}
 use Rattle.lang_grammar.specs.Grammar.{Return, no_return, returns, returns_minus, Program, program}
 
@@ -54,7 +54,7 @@ abbrev mutual
   scope_core (repeat_after a body b c e d i) s = scope_sub body s
   scope_core (repeat_for a b f t l body) s = closing s (scope_sub body (scope_first f s))
   scope_core (jumps j a b) s = s
-  scope_core (assumed a b e c d) s = s
+  scope_core (demands k a b e c d) s = s
   scope_core (updates u c) s = s
 
   -- the scope after a statement with its labels
@@ -88,7 +88,7 @@ abbrev mutual
   anchors_core (repeat_after a body b c e d i) s = loop_at a s ∷ anchors_sub body s
   anchors_core (repeat_for a b f t l body) s = loop_at a (scope_first f s) ∷ anchors_sub body (scope_first f s)
   anchors_core (jumps j a b) s = []
-  anchors_core (assumed a b e c d) s = []
+  anchors_core (demands k a b e c d) s = []
   anchors_core (updates u c) s = []
 
   -- the anchors in a statement with its labels

@@ -30,7 +30,7 @@ abbrev pub TokensStay : Type 0
 TokensStay = (text : List ℕ) (tokens : List Token) (comments : List Comment) → Reads text tokens → MayStand text tokens comments
     → ReadsWith text tokens comments
 
--- a text means the same program as before but for its lines
+-- a text means the same program as before but for its lines and the places of its checks
 pub record MeansWith (text : List ℕ) (comments : List Comment) (names : List (List ℕ)) (body : Statements) : Type 0 where
   pub tokens : List Token
   pub now : Statements
@@ -38,7 +38,7 @@ pub record MeansWith (text : List ℕ) (comments : List Comment) (names : List (
   pub means : Means (with_comments 0 text comments) (tokens_of (with_comments 0 text comments) tokens) (Ok (names, now))
   pub same : without_lines now ≡ without_lines body
 
--- A text with comments means the same program but for its lines, where comments may stand.
+-- A text with comments means the same program but for its lines and the places of its checks, where comments may stand.
 abbrev pub ProgramsStay : Type 0
 ProgramsStay = (text : List ℕ) (tokens : List Token) (comments : List Comment) (names : List (List ℕ)) (body : Statements)
     → Reads text tokens → Means text (tokens_of text tokens) (Ok (names, body)) → MayStand text tokens comments

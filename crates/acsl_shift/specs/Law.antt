@@ -6,7 +6,7 @@ use Rattle.lang_tree.specs.Tree.{Statements}
 use Rattle.acsl_shift.specs.Moves.{moved, without_lines}
 
 -- Tokens that mean a program mean it also where each stands at another place, whichever text gives the lines: the same variables, and the
--- same statements but for their lines.
+-- same statements but for their lines and the places of their checks.
 abbrev pub TokensMayMove : Type 0
 TokensMayMove = (text other : List ℕ) (to : ℕ → ℕ) (tokens : List Token) (names : List (List ℕ)) (body : Statements)
     → Means text tokens (Ok (names, body))

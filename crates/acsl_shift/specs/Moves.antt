@@ -1,10 +1,11 @@
--- Tokens at other places, and statements without their lines.
+-- Tokens at other places, and statements without their lines and without the places of their checks.
 use Rattle.std.specs.Prelude.{ℕ, List, map}
 use Rattle.lang_grammar.specs.Grammar.{Token, token}
 use Rattle.lang_tree.specs.declared.change.Change.{Change}
 use Rattle.lang_tree.specs.declared.change.Change.TheVariants as change
+use Rattle.lang_tree.specs.declared.check.Check.{Check}
 use Rattle.lang_tree.specs.Tree.{LoopKind, while_loop, for_loop, do_loop}
-use Rattle.lang_tree.specs.Tree.{Statement, Statements, set, havoc, assume, branch, loop, jump, label, nil, cons}
+use Rattle.lang_tree.specs.Tree.{Statement, Statements, set, havoc, assume, only_where, check, branch, loop, jump, label, nil, cons}
 
 -- a token at another place
 abbrev pub move : (ℕ → ℕ) → Token → Token
@@ -26,18 +27,24 @@ kind_without_line while_loop = while_loop
 kind_without_line (for_loop c) = for_loop (change_without_line c)
 kind_without_line do_loop = do_loop
 
+-- what a check is for, without its place
+abbrev pub check_without_place : Check → Check
+check_without_place about = record about { at = 0 }
+
 abbrev mutual
-  -- a statement whose lines are all 0
+  -- a statement whose lines are all 0, and the places of whose checks are
   pub without_line : Statement → Statement
   without_line (set var form line) = set var form 0
   without_line (havoc var line) = havoc var 0
   without_line (assume cond line) = assume cond 0
+  without_line (only_where cond line) = only_where cond 0
+  without_line (check about cond line) = check (check_without_place about) cond 0
   without_line (branch cond first second line) = branch cond (without_lines first) (without_lines second) 0
   without_line (loop kind cond body line) = loop (kind_without_line kind) cond (without_lines body) 0
   without_line (jump kind line) = jump kind 0
   without_line (label name line) = label name 0
 
-  -- statements whose lines are all 0: a program but for its lines
+  -- such statements: a program but for its lines and the places of its checks
   pub without_lines : Statements → Statements
   without_lines nil = nil
   without_lines (cons s rest) = cons (without_line s) (without_lines rest)

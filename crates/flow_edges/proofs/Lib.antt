@@ -5,4 +5,4 @@ pub mod paths
 pub mod Each
 pub mod constants
 pub mod faults
-pub mod checks
+pub mod at_checks

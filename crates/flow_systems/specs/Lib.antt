@@ -14,3 +14,4 @@ pub mod FitTests
 pub mod TraceTests
 pub mod SolutionLaws
 pub mod Report
+pub mod CheckedStates

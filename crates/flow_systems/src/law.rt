@@ -1,5 +1,6 @@
 //! Laws of the definitions, each the contract of a function that does nothing.
 
+ghost use Rattle.flow_systems.specs.CheckedStates.{ChecksFitBounds};
 ghost use Rattle.flow_systems.specs.FreeValues.{TracesAreFollowed};
 ghost use Rattle.flow_systems.specs.SolutionLaws.{
   AtMostOneLeast,
@@ -16,6 +17,12 @@ ghost use Rattle.flow_systems.specs.View.{VectorsAreLists};
 pub fn post_solutions_hold()
     ensures paths { PostSolutionsHold }
     ensures program { ProgramPostSolutionsHold }
+{}
+
+/// Every post-solution of a program's system lets a run be where it is at a check: on an edge that has the check, a trace
+/// along the actions before it leads there from an integer state that fits at the edge's source.
+pub fn checks_fit_bounds()
+    ensures { ChecksFitBounds }
 {}
 
 /// An integer state is a rational state, and each form has the same value there.

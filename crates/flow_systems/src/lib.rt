@@ -23,8 +23,9 @@ pub use fit::fits;
 pub use follow::{direction_value, trace_value};
 pub use footer::Footer;
 pub use law::{
-    at_most_one_least, integer_states_are_rational, least_solutions_are_supported,
-    post_solutions_hold, traces_are_followed, unreached_at_all_rows, vectors_are_lists,
+    at_most_one_least, checks_fit_bounds, integer_states_are_rational,
+    least_solutions_are_supported, post_solutions_hold, traces_are_followed, unreached_at_all_rows,
+    vectors_are_lists,
 };
 pub use limits::MOST_UNKNOWNS;
 pub use pick::Pick;

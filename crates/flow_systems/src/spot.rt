@@ -15,7 +15,7 @@ pub enum Part {
     Reading,
 }
 
-/// What was computed. Edges, rows, unknowns, turns, raises, steps, items, claims and cases are numbered from 0.
+/// What was computed. Edges, rows, unknowns, turns, raises, steps, items, claims, checks and cases are numbered from 0.
 #[derive(Clone, Copy, Debug, PartialEq, Eq, Drop)]
 pub enum Site {
     /// The composed forms of an edge.
@@ -34,6 +34,8 @@ pub enum Site {
     Upper { unknown: u32, edge: u32 },
     /// The problem of a case of a claim's negation.
     Claim { claim: u32, case: u32, part: Part },
+    /// The problem of a case in which the condition of a check may be false, where the check stands on an edge.
+    Check { check: u32, edge: u32, case: u32, part: Part },
 }
 
 /// An operation that was too wide, in which round, 0 outside rounds, and at which site.

@@ -5,14 +5,21 @@ use Rattle.lang_tokens.specs.declared.token.Kind as lex_kind
 use Rattle.lang_tokens.specs.declared.token.Token as lex_token
 use Rattle.lang_grammar.specs.Grammar.{Kind, a_name, comma, semicolon, left_brace, right_brace, left_paren, right_paren, change_sign}
 use Rattle.lang_grammar.specs.Grammar.{replaces}
-use Rattle.lang_grammar.specs.Grammar.{assume_word, other_word, the_end, Token, token, Expr, spell_expr, Groups}
+use Rattle.lang_grammar.specs.Grammar.{demand_word, other_word, the_end, Token, token, Expr, spell_expr, Groups}
+use Rattle.lang_grammar.specs.Grammar as grammar
 use Rattle.lang_grammar.specs.View.{kind_of}
 
 -- ---- tokens
--- what a token is here: `__VERIFIER_assume` stands nowhere, and each other one is what it is in a program
+-- what a token is here: `__VERIFIER_assume`, `assert` and `__VERIFIER_assert` stand nowhere, and each other one is what it is in a program
 abbrev pub kind_here : List ℕ → lex_kind.Kind → Kind
 kind_here bytes (lex_kind.TheVariants.Word word.VerifierAssume) = other_word
+kind_here bytes (lex_kind.TheVariants.Word word.Assert) = other_word
+kind_here bytes (lex_kind.TheVariants.Word word.VerifierAssert) = other_word
 kind_here bytes k = kind_of bytes k
+
+-- the word `assume`
+abbrev pub assume_word : Kind
+assume_word = demand_word grammar.assumes
 
 abbrev pub token_here : List ℕ → lex_token.Token → Token
 token_here text t = token (kind_here (slice_range text t.at (t.at + t.len)) t.kind) t.at

@@ -2,11 +2,12 @@
 
 ghost use Rattle.std.specs.Prelude.{◌≡◌, ◌≤◌, length, IfOk};
 ghost use Rattle.base_limits.specs.declared.limits.TheConstants.{MOST_TEXT_BYTES};
+ghost use Rattle.lang_grammar.specs.Symbols.{demand_of};
 ghost use Rattle.lang_tokens.specs.Lines.{line_at};
 ghost use Rattle.lang_tree.specs.View.{statement_of};
 ghost use Rattle.lang_meaning.specs.Expressions.{knowing};
-ghost use Rattle.lang_grammar.specs.Symbols.{demand_of};
-ghost use Rattle.lang_meaning.specs.Walk.{start_state, counted, counted_for, jumped, labelled_by, known_number, assignment, declared_by, closed};
+ghost use Rattle.lang_meaning.specs.Walk.{start_state, counted, counted_for, jumped, labelled_by, known_number, assignment, declared_by};
+ghost use Rattle.lang_meaning.specs.Walk.{closed};
 ghost use Rattle.lang_meaning.specs.Gives.{Gives};
 ghost use Rattle.lang_reader.specs.Views.{state_of};
 

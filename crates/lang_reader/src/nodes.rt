@@ -28,6 +28,17 @@ pub fn one(alloc: Global, stmt: Stmt) -> Result<Vec<Stmt>, AllocError>
     Ok(nodes)
 }
 
+// The change that this node is.
+fn change_of(node: Stmt) -> Change
+    ensures { result ≡ change_in (one (statement_of node)) }
+{
+    match node {
+        Stmt::Set { var, form, line } => Change::Set { var, form, line },
+        Stmt::Havoc { var, line } => Change::Havoc { var, line },
+        _ => Change::Unchanged,
+    }
+}
+
 // The change that these nodes are.
 pub(crate) fn change_in(nodes: Vec<Stmt>) -> Change
     ensures { result ≡ change_in (statements_of nodes.items) }
@@ -35,8 +46,7 @@ pub(crate) fn change_in(nodes: Vec<Stmt>) -> Change
     let mut nodes = nodes;
     nodes.truncate(1);
     match nodes.pop() {
-        Some(Stmt::Set { var, form, line }) => Change::Set { var, form, line },
-        Some(Stmt::Havoc { var, line }) => Change::Havoc { var, line },
-        _ => Change::Unchanged,
+        Some(first) => change_of(first),
+        None => Change::Unchanged,
     }
 }

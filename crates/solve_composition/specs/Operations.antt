@@ -5,7 +5,7 @@ use Rattle.std.specs.List.{range_with_len}
 use Rattle.base_numbers.specs.Rational.{ℚ, zero_ℚ}
 use Rattle.lang_tree.specs.declared.form.Form.{Form as ProgramForm}
 use Rattle.flow_edges.specs.declared.edge.Action.{Action}
-use Rattle.flow_edges.specs.declared.edge.Action.TheVariants.{Guard, Assign, Havoc}
+use Rattle.flow_edges.specs.declared.edge.Action.TheVariants.{Guard, Assign, Havoc, Check}
 use Rattle.flow_edges.specs.declared.edge.Edge.{Edge}
 use Rattle.base_fractions.specs.Fits.{long_limit}
 use Rattle.base_fractions.specs.Operation.{Operation, first_wide}
@@ -38,18 +38,21 @@ abbrev pub action_composition : ℕ → List Form → Action → List Operation
 action_composition w state (Guard form) = form_composition w state form
 action_composition w state (Assign var form) = form_composition w state form
 action_composition w state (Havoc var) = []
+action_composition w state (Check about) = []
 
 -- the state of forms after an action, where column k is the next free one
 abbrev pub next_state : ℕ → List Form → Action → List Form
 next_state k state (Guard form) = state
 next_state k state (Assign var form) = slice_set state var (composed form state)
 next_state k state (Havoc var) = slice_set state var (column k)
+next_state k state (Check about) = state
 
 -- the next free column after an action
 abbrev pub next_column : ℕ → Action → ℕ
 next_column k (Guard form) = k
 next_column k (Assign var form) = k
 next_column k (Havoc var) = suc k
+next_column k (Check about) = k
 
 -- actions from a state of forms on, and then the rows of the template
 abbrev pub actions_composition : ℕ → List (List ℤ) → ℕ → List Form → List Action → List Operation

@@ -2,7 +2,7 @@
 use Rattle.std.specs.Prelude.{◌≡◌, ◌==◌, ◌++◌, ℕ, ℤ, Bool, List, [], ◌∷◌, map, flat_map, length, None, Result, MatchResult, IsTrue}
 use Rattle.std.specs.List.{list_all}
 use Rattle.flow_edges.specs.declared.edge.Action.{Action}
-use Rattle.flow_edges.specs.declared.edge.Action.TheVariants.{Guard, Assign, Havoc}
+use Rattle.flow_edges.specs.declared.edge.Action.TheVariants.{Guard, Assign, Havoc, Check}
 use Rattle.base_fractions.specs.Fits.{long_limit}
 use Rattle.base_fractions.specs.Operation.{first_wide}
 use Rattle.flow_systems.specs.declared.spot.Site.TheVariants.{Compose}
@@ -27,6 +27,7 @@ abbrev pub action_guards : List Form → Action → List Form
 action_guards state (Guard form) = composed form state ∷ []
 action_guards state (Assign var form) = []
 action_guards state (Havoc var) = []
+action_guards state (Check about) = []
 
 -- after an action: its guard behind the guards before, the next state of forms, and the next free column
 abbrev pub StepComposes : ℕ → ℕ → List Form → Action → List Affine → List Affine → List Affine → Result ℕ OperationFault → Type 0

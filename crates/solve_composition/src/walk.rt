@@ -68,6 +68,7 @@ fn step(
             state[*var as usize] = compose_column(alloc, next, width)?;
             Ok(next + 1)
         }
+        Action::Check(_) => Ok(next),
     }
 }
 

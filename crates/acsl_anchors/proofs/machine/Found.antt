@@ -4,7 +4,7 @@ use Rattle.std.proofs.lemmas.List.{append-nil, map-append}
 use Rattle.lang_grammar.specs.Grammar.{Kind, Expr, else_word, while_word, left_paren, right_paren, right_brace, semicolon, Token, token}
 use Rattle.lang_grammar.specs.Grammar.{spell_expr, spell_declarators}
 use Rattle.lang_grammar.specs.Grammar.{spell_first, spell_test, spell_last, set, step_after, step_before}
-use Rattle.lang_grammar.specs.Grammar.{Core, empty, block, if_alone, if_else, repeat, repeat_after, repeat_for, jumps, assumed, updates}
+use Rattle.lang_grammar.specs.Grammar.{Core, empty, block, if_alone, if_else, repeat, repeat_after, repeat_for, jumps, demands, updates}
 use Rattle.lang_grammar.specs.Grammar.{spell_core}
 use Rattle.lang_grammar.specs.Grammar.{Sub, labelled, plain, Items, no_items, label, declaration, item, spell_sub, spell_items}
 use Rattle.lang_grammar.specs.Grammar.{Ending, shut, waiting, ending_core, ending_sub, GoodCore, GoodSub, GoodItems}
@@ -155,7 +155,7 @@ mutual
       ∙ known_run (length s.known) (after p gs) (scope_sub body (scope_first f s)) _ _ w (some_token _ w h) (for_closed f body s)
       ∙ found_one (after p gs) _ found (spec.loop_at a (scope_first f s)) (anchors_sub body (scope_first f s)) w)
   core_run (jumps j a b) p gs s found w g h = found_none (after p gs) s found w
-  core_run (assumed a b e c d) p gs s found w g h = rw (append_assoc (spell_expr e) (token right_paren c ∷ token semicolon d ∷ []) w)
+  core_run (demands k a b e c d) p gs s found w g h = rw (append_assoc (spell_expr e) (token right_paren c ∷ token semicolon d ∷ []) w)
       (rest_run e c d (after p gs) s found w ∙ found_none (after p gs) s found w)
   core_run (updates (set x a g b e) c) p gs s found w i h = rw (append_assoc (spell_expr e) (token semicolon c ∷ []) w)
       (passes goal.Rest rest_stays (spell_expr e) (inner_expr e) (after p gs) s found (token semicolon c ∷ w)

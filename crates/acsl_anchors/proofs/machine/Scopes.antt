@@ -3,7 +3,7 @@ use Rattle.std.proofs.Common.{◌≡◌, ◌∙◌, ◌++◌, ◌∷◌, ℕ, Li
 use Rattle.std.proofs.lemmas.List.{append-nil}
 use Rattle.std.proofs.Math.Seq.{take-append_seam}
 use Rattle.lang_grammar.specs.Grammar.{Declarators, declares, declares_more, ForFirst, no_first, declared_first, updated_first}
-use Rattle.lang_grammar.specs.Grammar.{Core, empty, block, if_alone, if_else, repeat, repeat_after, repeat_for, jumps, assumed, updates}
+use Rattle.lang_grammar.specs.Grammar.{Core, empty, block, if_alone, if_else, repeat, repeat_after, repeat_for, jumps, demands, updates}
 use Rattle.lang_grammar.specs.Grammar.{Sub, labelled, plain, Items, no_items, label, declaration, item}
 use Rattle.acsl_anchors.specs.Anchors.{Scope, declared_one, closing, scope_declarators, scope_first, scope_core, scope_sub, scope_items}
 use Rattle.acsl_anchors.specs.Machine.{kept}
@@ -43,7 +43,7 @@ mutual
   core_known (repeat_after a body b c e d i) s = sub_known body s
   core_known (repeat_for a b f t l body) s = refl
   core_known (jumps j a b) s = refl
-  core_known (assumed a b e c d) s = refl
+  core_known (demands k a b e c d) s = refl
   core_known (updates u c) s = refl
 
   -- the same under a loop, an `if` or a label

@@ -4,7 +4,7 @@ use Rattle.lang_grammar.specs.Grammar.{else_word, if_word, while_word, left_pare
 use Rattle.lang_grammar.specs.Grammar.{token, spell_expr, spell_declarators}
 use Rattle.lang_grammar.specs.Grammar.{spell_first, spell_test, spell_last, spell_parameters, spell_return, Return, no_return, returns}
 use Rattle.lang_grammar.specs.Grammar.{returns_minus, Program, program, spell}
-use Rattle.lang_grammar.specs.Grammar.{Core, empty, block, if_alone, if_else, repeat, repeat_after, repeat_for, jumps, assumed, updates}
+use Rattle.lang_grammar.specs.Grammar.{Core, empty, block, if_alone, if_else, repeat, repeat_after, repeat_for, jumps, demands, updates}
 use Rattle.lang_grammar.specs.Grammar.{spell_core}
 use Rattle.lang_grammar.specs.Grammar.{Sub, labelled, plain, Items, no_items, label, declaration, item, spell_sub, spell_items}
 use Rattle.acsl_anchors.specs.Anchors.{Scope, no_scope, end_place, end_at, scope_declarators, scope_first, scope_core, scope_sub}
@@ -66,7 +66,7 @@ module _ (P : ℕ → Type 0) where
               (sub_placed body (scope_first f s) r.between to r.right),
         )
     core_placed (jumps j a b) s from to h = in_order P (spell_core (jumps j a b)) from to h
-    core_placed (assumed a b e c d) s from to h = in_order P (spell_core (assumed a b e c d)) from to h
+    core_placed (demands k a b e c d) s from to h = in_order P (spell_core (demands k a b e c d)) from to h
     core_placed (updates u c) s from to h = in_order P (spell_core (updates u c)) from to h
 
     -- under a loop, an `if` or a label

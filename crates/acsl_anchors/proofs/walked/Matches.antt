@@ -2,7 +2,7 @@
 use Rattle.std.proofs.Common.{◌≡◌, ◌∙◌, ◌+◌, ◌++◌, ◌∷◌, ℕ, Bool, true, List, [], length, map, Ok, refl, sym, ap, ap₂, subst}
 use Rattle.std.proofs.lemmas.List.{append-nil, map-append}
 use Rattle.lang_grammar.specs.Grammar.{ForFirst, ForTest, ForLast, Core, empty, block, if_alone, if_else, repeat, repeat_after, repeat_for}
-use Rattle.lang_grammar.specs.Grammar.{jumps, assumed, updates}
+use Rattle.lang_grammar.specs.Grammar.{jumps, demands, updates}
 use Rattle.lang_grammar.specs.Grammar.{Sub, labelled, plain, Items, no_items, label, declaration, item}
 use Rattle.lang_tree.specs.Tree as tree
 use Rattle.lang_tree.specs.declared.change.Change.{Change}
@@ -10,8 +10,8 @@ use Rattle.lang_tree.specs.Tree.{Condition, LoopKind, Statements, nil, cons}
 use Rattle.lang_tree.specs.PointNumbers.{points_in}
 use Rattle.flow_edges.specs.declared.point.Point.{Point}
 use Rattle.flow_edges.specs.Points.{made_in}
-use Rattle.lang_meaning.specs.Walk.{State, closed, followed_by, counted, labelled_by, jumped, tested, one, walk_expr, walk_declarators}
-use Rattle.lang_meaning.specs.Walk.{walk_first}
+use Rattle.lang_meaning.specs.Walk.{State, closed, followed_by, counted, counted_for, labelled_by, jumped, tested, one, walk_expr}
+use Rattle.lang_meaning.specs.Walk.{walk_declarators, walk_first}
 use Rattle.lang_meaning.specs.Walk.{walk_test, walk_last, walk_core, walk_sub, walk_items}
 use Rattle.acsl_anchors.specs.Anchors.{Anchor, Scope, loop_at, label_at, scope_declarators, scope_first, scope_core, scope_sub, scope_items}
 use Rattle.acsl_anchors.specs.Anchors.{anchors_core, anchors_sub, anchors_items}
@@ -19,9 +19,9 @@ use Rattle.acsl_anchors.specs.Laws.{point_of, scope_of}
 use Rattle.acsl_anchors.specs.Machine.{kept}
 use Rattle.acsl_anchors.proofs.machine.Scopes.{block_closed, for_closed}
 use Rattle.acsl_anchors.proofs.walked.Binds.{met, IsOk, ok_is}
-use Rattle.acsl_anchors.proofs.walked.Parts.{Passes, counted_scope, labelled_scope, jumped_scope, declarators_pass, update_passes}
-use Rattle.acsl_anchors.proofs.walked.Parts.{first_passes, last_scope}
-use Rattle.acsl_anchors.proofs.walked.Points.{anchored_in, anchored_made, followed, branch_anchored, loop_anchored, assume_anchored}
+use Rattle.acsl_anchors.proofs.walked.Parts.{Passes, counted_scope, counted_for_scope, labelled_scope, jumped_scope, declarators_pass}
+use Rattle.acsl_anchors.proofs.walked.Parts.{update_passes, first_passes, last_scope}
+use Rattle.acsl_anchors.proofs.walked.Points.{anchored_in, anchored_made, followed, branch_anchored, loop_anchored, demand_anchored}
 
 -- a way from scope to scope, and anchors by the scope before them, where the walk goes from one state to another and gives nodes
 pub record Matches (line : ℕ → ℕ) (scope : Scope → Scope) (anchors : Scope → List Anchor) (st now : State) (nodes : Statements) :
@@ -151,12 +151,12 @@ module _ (line : ℕ → ℕ) (width : ℕ) where
         let now = met (jumped inside a st) _ r h in
         matched (scope_core (jumps j a b)) (anchors_core (jumps j a b)) st _ r now.gave
         (record { behind = jumped_scope inside a st now.value now.was; points = λ s n. refl })
-    core_matches inside (assumed a b e c d) st r h =
-        let now = met (counted a st) _ r h in
+    core_matches inside (demands k a b e c d) st r h =
+        let now = met (counted_for k a st) _ r h in
         let v = met (walk_expr line width now.value e) _ r now.gave in
         let x = met (tested a v.value) _ r v.gave in
-        matched (scope_core (assumed a b e c d)) (anchors_core (assumed a b e c d)) st _ r x.gave
-        (record { behind = counted_scope a st now.value now.was; points = λ s n. sym (assume_anchored x.value (line a) n) })
+        matched (scope_core (demands k a b e c d)) (anchors_core (demands k a b e c d)) st _ r x.gave
+        (record { behind = counted_for_scope k a st now.value now.was; points = λ s n. sym (demand_anchored k line a x.value n) })
     core_matches inside (updates u c) st r h =
         let p = update_passes line width u st r h in
         record { behind = p.behind; points = λ s n. none_anchored r.1 p.none n }

@@ -4,7 +4,7 @@ use Rattle.std.proofs.Common.{Ok, Err, nat_lt, refl, sym, ap, subst}
 use Rattle.std.proofs.lemmas.List.{length-append}
 use Rattle.lang_grammar.specs.Grammar.{Declarator, bare, given, Declarators, declares, declares_more, Update, set, step_after, step_before}
 use Rattle.lang_grammar.specs.Grammar.{ForFirst, no_first, declared_first, updated_first}
-use Rattle.lang_grammar.specs.Grammar.{ForLast, no_last, updated_last}
+use Rattle.lang_grammar.specs.Grammar.{ForLast, no_last, updated_last, Demand, assumes, asserts}
 use Rattle.lang_tree.specs.declared.form.Form.{Form}
 use Rattle.lang_tree.specs.declared.change.Change as tree_change
 use Rattle.lang_tree.specs.declared.change.Change.TheVariants as change
@@ -18,7 +18,7 @@ use Rattle.lang_tree.specs.declared.limits.TheConstants.{MOST_VARIABLES}
 use Rattle.lang_meaning.specs.Results.{◌>>=◌}
 use Rattle.lang_meaning.specs.Names.{place_of}
 use Rattle.lang_meaning.specs.Walk.{State, known_number, counted, labelled_by, jumped, assignment, assigned, change_nodes, declared_by}
-use Rattle.lang_meaning.specs.Walk.{right_side}
+use Rattle.lang_meaning.specs.Walk.{right_side, counted_for}
 use Rattle.lang_meaning.specs.Walk.{walk_expr, walk_declarator, walk_declarators, walk_update, walk_first, walk_last}
 use Rattle.acsl_anchors.specs.Anchors.{Scope, declared_one, scope_declarators, scope_first}
 use Rattle.acsl_anchors.specs.Laws.{scope_of}
@@ -32,6 +32,13 @@ if_ok false x y e h = cc
 -- A node more, a label or a jump declares nothing.
 pub counted_scope : (a : ℕ) (st now : State) → IsOk (counted a st) now → scope_of st ≡ scope_of now
 counted_scope a st now h = ap scope_of (if_ok (nat_lt st.count 512) _ now _ h)
+
+-- the same for an `assume` or `assert`
+pub counted_for_scope : (k : Demand) (a : ℕ) (st now : State) → IsOk (counted_for k a st) now → scope_of st ≡ scope_of now
+counted_for_scope assumes a st now h = counted_scope a st now h
+counted_for_scope asserts a st now h =
+    let first = met (counted a st) _ now h in
+    counted_scope a st first.value first.was ∙ counted_scope a first.value now first.gave
 
 -- the same for a label
 pub labelled_scope : (x : List ℕ) (a : ℕ) (st now : State) → IsOk (labelled_by x a st) now → scope_of st ≡ scope_of now

@@ -1,12 +1,13 @@
 -- Which of the points that nodes make have anchors.
 use Rattle.std.proofs.Common.{◌≡◌, ◌∙◌, ◌+◌, ◌++◌, ◌∷◌, ℕ, Bool, true, false, List, [], map, if◌then◌else◌, refl, sym, ap, append_assoc}
 use Rattle.std.proofs.lemmas.List.{append-nil, map-append}
+use Rattle.lang_grammar.specs.Grammar.{Demand, assumes, asserts}
 use Rattle.lang_tree.specs.Tree.{Condition, LoopKind, Statements, assume, branch, loop, nil, cons}
 use Rattle.lang_tree.specs.PointNumbers.{splits, points_of, points_in, join_of}
 use Rattle.flow_edges.specs.declared.point.Place.TheVariants.{Loop, Join, Assume}
 use Rattle.flow_edges.specs.declared.point.Point.{Point}
 use Rattle.flow_edges.specs.Points.{Made, made, made_by, made_in}
-use Rattle.lang_meaning.specs.Walk.{followed_by, one}
+use Rattle.lang_meaning.specs.Walk.{followed_by, one, demanded}
 use Rattle.acsl_anchors.specs.Laws.{is_anchored, anchored}
 
 -- of the points that were made, those that have anchors
@@ -58,9 +59,14 @@ pub loop_anchored : (kind : LoopKind) (c : Condition) (body : Statements) (line 
     → anchored_in (one (loop kind c body line)) n ≡ record { place = Loop; line = line } ∷ anchored_in body (n + 1)
 loop_anchored kind c body line n = ap anchored_made (append-nil (made_by (loop kind c body line) n))
 
--- A point behind an assumption has none.
-pub assume_anchored : (c : Condition) (line n : ℕ) → anchored_in (one (assume c line)) n ≡ []
+-- A point behind an assumption has none,
+assume_anchored : (c : Condition) (line n : ℕ) → anchored_in (one (assume c line)) n ≡ []
 assume_anchored c line n = by_test (splits c) where
   by_test : (b : Bool) → anchored_made ((if b then made n Assume line ∷ [] else []) ++ []) ≡ []
   by_test true = refl
   by_test false = refl
+
+-- and an `assert` makes no point.
+pub demand_anchored : (k : Demand) (line : ℕ → ℕ) (a : ℕ) (x : Condition) (n : ℕ) → anchored_in (demanded line k a x) n ≡ []
+demand_anchored assumes line a x n = assume_anchored x (line a) n
+demand_anchored asserts line a x n = refl

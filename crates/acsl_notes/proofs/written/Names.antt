@@ -26,8 +26,8 @@ use Rattle.lang_grammar.specs.Grammar.{Kind, a_name, comma, right_paren, right_b
 use Rattle.lang_grammar.specs.Grammar.{spell_expr, Declarator, bare, given, Declarators, declares, declares_more, spell_declarator}
 use Rattle.lang_grammar.specs.Grammar.{spell_declarators, Update, set, step_after, step_before, ForFirst, no_first, declared_first}
 use Rattle.lang_grammar.specs.Grammar.{updated_first, spell_first, spell_test, ForLast, no_last, updated_last, spell_last, Core, empty}
-use Rattle.lang_grammar.specs.Grammar.{block}
-use Rattle.lang_grammar.specs.Grammar.{if_alone, if_else, repeat, repeat_after, repeat_for, jumps, assumed, updates, Sub, labelled, plain}
+use Rattle.lang_grammar.specs.Grammar.{block, Demand, assumes, asserts}
+use Rattle.lang_grammar.specs.Grammar.{if_alone, if_else, repeat, repeat_after, repeat_for, jumps, demands, updates, Sub, labelled, plain}
 use Rattle.lang_grammar.specs.Grammar.{Items, no_items, label, declaration, item, spell_core, spell_sub, spell_items, spell_parameters}
 use Rattle.lang_grammar.specs.Grammar.{spell_return, Program, program, spell}
 use Rattle.lang_grammar.specs.View.{kind_of, tokens_of, word_kind, sign_kind}
@@ -41,7 +41,8 @@ use Rattle.lang_meaning.specs.declared.fault.Limit.TheVariants as limit
 use Rattle.lang_meaning.specs.Names.{place_of}
 use Rattle.lang_meaning.specs.Results.{◌>>=◌}
 use Rattle.lang_meaning.specs.Meaning.{Answer}
-use Rattle.lang_meaning.specs.Walk.{State, start_state, counted, labelled_by, known_number, jumped, tested, right_side, assigned}
+use Rattle.lang_meaning.specs.Walk.{State, start_state, counted, counted_for, labelled_by, known_number, jumped, tested, right_side}
+use Rattle.lang_meaning.specs.Walk.{assigned}
 use Rattle.lang_meaning.specs.Walk.{assignment, declared_by, walk_expr, walk_declarator, walk_declarators, walk_update, walk_first}
 use Rattle.lang_meaning.specs.Walk.{walk_test, walk_last}
 use Rattle.lang_meaning.specs.Walk.{walk_core, walk_sub, walk_items, walk, program_of, declared_items}
@@ -155,6 +156,10 @@ anything (Err e) = tt
 
 count_kept : (a : ℕ) (st : State) → Kept st → OnValue Kept (counted a st)
 count_kept a st h = on_cond Kept (nat_lt st.count 512) _ _ (λ t. h) tt
+
+counts_kept : (k : Demand) (a : ℕ) (st : State) → Kept st → OnValue Kept (counted_for k a st)
+counts_kept assumes a st h = count_kept a st h
+counts_kept asserts a st h = on_bind Kept Kept (counted a st) (λ now. counted a now) (count_kept a st h) (λ now k. count_kept a now k)
 
 label_kept : (x : List ℕ) (a : ℕ) (st : State) → Kept st → OnValue Kept (labelled_by x a st)
 label_kept x a st h = by (place_of x st.labels)
@@ -276,9 +281,10 @@ module _ (line : ℕ → ℕ) (N : ℕ) where
         (λ u p. then_kept (walk_sub line N true s u.0) _ (sub_kept true s u.0 three.1 p) (λ q w. w)))))
     core_kept inside (jumps j a b) st n h = on_bind Kept (KeptWith {A = Statements}) (jumped inside a st) _ (jump_kept inside a st h)
         (λ now k. k)
-    core_kept inside (assumed a b e c d) st n h = on_bind Kept (KeptWith {A = Statements}) (counted a st) _ (count_kept a st h)
-        (λ now k. on_bind Anything (KeptWith {A = Statements}) (walk_expr line N now e) _ (anything _)
-        (λ v m. on_bind Anything (KeptWith {A = Statements}) (tested a v) _ (anything _) (λ x o. k)))
+    core_kept inside (demands k a b e c d) st n h =
+        on_bind Kept (KeptWith {A = Statements}) (counted_for k a st) _ (counts_kept k a st h)
+        (λ now i. on_bind Anything (KeptWith {A = Statements}) (walk_expr line N now e) _ (anything _)
+        (λ v m. on_bind Anything (KeptWith {A = Statements}) (tested a v) _ (anything _) (λ x o. i)))
     core_kept inside (updates u c) st n h = on_bind (KeptWith {A = Change}) (KeptWith {A = Statements}) (walk_update line N u st) _
         (update_kept u st h) (λ r k. k)
 

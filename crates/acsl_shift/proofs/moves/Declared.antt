@@ -2,7 +2,7 @@
 use Rattle.std.proofs.Common.{◌≡◌, ℕ, suc, refl, ap, arith}
 use Rattle.lang_grammar.specs.Grammar.{Declarators, declares, declares_more, ForFirst, no_first, declared_first, updated_first, Core, empty}
 use Rattle.lang_grammar.specs.Grammar.{block, if_alone}
-use Rattle.lang_grammar.specs.Grammar.{if_else, repeat, repeat_after, repeat_for, jumps, assumed, updates, Sub, labelled, plain, Items}
+use Rattle.lang_grammar.specs.Grammar.{if_else, repeat, repeat_after, repeat_for, jumps, demands, updates, Sub, labelled, plain, Items}
 use Rattle.lang_grammar.specs.Grammar.{no_items, label}
 use Rattle.lang_grammar.specs.Grammar.{declaration, item}
 use Rattle.lang_meaning.specs.Walk.{declared_in, declared_before, declared_core, declared_sub, declared_items}
@@ -31,7 +31,7 @@ module _ (to : ℕ → ℕ) where
     same_core (repeat_after a s b c e d i) = same_sub s
     same_core (repeat_for a b f t l s) = omega (arith, same_before f, same_sub s)
     same_core (jumps j a b) = refl
-    same_core (assumed a b e c d) = refl
+    same_core (demands k a b e c d) = refl
     same_core (updates u c) = refl
 
     -- a statement with its labels

@@ -3,7 +3,7 @@ use Rattle.std.proofs.Common.{◌≡◌, ◌∙◌, ◌++◌, ℕ, suc, List, []
 use Rattle.std.proofs.lemmas.List.{map-append}
 use Rattle.lang_grammar.specs.Grammar.{level, a_name, a_number, infix_sign, change_sign, replaces, left_paren, right_paren, left_brace}
 use Rattle.lang_grammar.specs.Grammar.{right_brace, comma, semicolon, colon}
-use Rattle.lang_grammar.specs.Grammar.{int_word, main_word, if_word, else_word, while_word, do_word, for_word, assume_word, the_end, Token}
+use Rattle.lang_grammar.specs.Grammar.{int_word, main_word, if_word, else_word, while_word, do_word, for_word, demand_word, the_end, Token}
 use Rattle.lang_grammar.specs.Grammar.{token}
 use Rattle.lang_grammar.specs.Grammar.{Expr, number, variable, free, grouped, prefixed, joined, spell_expr, Groups, sign_of}
 use Rattle.lang_grammar.specs.Grammar.{Declarator, bare, given, Declarators, declares, declares_more, spell_declarator, spell_declarators}
@@ -14,7 +14,7 @@ use Rattle.lang_grammar.specs.Grammar.{no_test, given_test, ForLast, no_last, up
 use Rattle.lang_grammar.specs.Grammar.{spell_last, GoodUpdate}
 use Rattle.lang_grammar.specs.Grammar.{GoodFirst, GoodTest, GoodLast, Core, empty, block, if_alone, if_else, repeat, repeat_after}
 use Rattle.lang_grammar.specs.Grammar.{repeat_for, jumps}
-use Rattle.lang_grammar.specs.Grammar.{assumed, updates, Sub, labelled, plain, Items, no_items, label, declaration, item, spell_core}
+use Rattle.lang_grammar.specs.Grammar.{demands, updates, Sub, labelled, plain, Items, no_items, label, declaration, item, spell_core}
 use Rattle.lang_grammar.specs.Grammar.{spell_sub, spell_items}
 use Rattle.lang_grammar.specs.Grammar.{ending_core, ending_sub, GoodCore, GoodSub, GoodItems, Parameters, nothing, void_at, Return}
 use Rattle.lang_grammar.specs.Grammar.{no_return, returns}
@@ -102,8 +102,8 @@ module _ (to : ℕ → ℕ) where
         behind (token for_word a) (behind (token left_paren b)
         (after (spelled_first f) (after (spelled_test t) (after (spelled_last l) (spelled_sub s)))))
     spelled_core (jumps j a b) = record { same = refl }
-    spelled_core (assumed a b e c d) =
-        behind (token assume_word a) (behind (token left_paren b) (after (spelled_expr e)
+    spelled_core (demands k a b e c d) =
+        behind (token (demand_word k) a) (behind (token left_paren b) (after (spelled_expr e)
         (behind (token right_paren c) (behind (token semicolon d) none))))
     spelled_core (updates u c) = after (spelled_update u) (behind (token semicolon c) none)
 
@@ -203,7 +203,7 @@ module _ (to : ℕ → ℕ) where
     good_core (repeat_after a s b c e d i) g = (good_sub s g.0, moved_groups 0 e g.1)
     good_core (repeat_for a b f t l s) g = (good_first f g.0, good_test t g.1, good_last l g.2, good_sub s g.3)
     good_core (jumps j a b) g = tt
-    good_core (assumed a b e c d) g = moved_groups 0 e g
+    good_core (demands k a b e c d) g = moved_groups 0 e g
     good_core (updates u c) g = good_update u g
 
     -- a statement with its labels

@@ -1,4 +1,4 @@
--- Tokens at other places mean the same program, but for its lines.
+-- Tokens at other places mean the same program, but for its lines and the places of its checks.
 use Rattle.std.proofs.Common.{◌≡◌, ◌∙◌, ◌∷◌, inl, inr, ℕ, false, List, [], min, Result, Ok, Err, refl, sym, ap}
 use Rattle.lang_tokens.specs.Lines.{line_at}
 use Rattle.lang_grammar.specs.Grammar.{Program, program}
@@ -17,7 +17,7 @@ use Rattle.acsl_shift.proofs.moves.Kept.{Kept, kept_ok, kept_err, alike_then, ke
 use Rattle.acsl_shift.proofs.moves.Declared.{same_items}
 use Rattle.acsl_shift.proofs.moves.Walked.{kept_items}
 
--- the same variables, and statements that are the same but for their lines
+-- the same variables, and statements that are the same but for their lines and the places of their checks
 abbrev AlikeNamed : List (List ℕ) × Statements → List (List ℕ) × Statements → Type 0
 AlikeNamed x y = (y.0 ≡ x.0) × (without_lines y.1 ≡ without_lines x.1)
 
@@ -31,7 +31,7 @@ kept_program st ns ms h = by_names st.names where
   by_names [] = kept_err AlikeNamed fault.NoVariables (Err fault.NoVariables)
   by_names (x ∷ xs) = kept_ok AlikeNamed (x ∷ xs, ns) (x ∷ xs, ms) (refl, h)
 
--- The walk by other lines of a program at other places answers the same, but for the lines.
+-- The walk by other lines of a program at other places answers the same, but for the lines and the places of checks.
 walk_moved : (line other to : ℕ → ℕ) (p : Program) (x : List (List ℕ) × Statements) → walk line p ≡ Ok x
     → (y : List (List ℕ) × Statements) × (walk other (move_program to p) ≡ Ok y) × AlikeNamed x y
 walk_moved line other to (program a b c ps d e is r f g) x h =

@@ -6,7 +6,7 @@ use Rattle.lang_grammar.specs.Grammar.{declares_more, Update, set, step_after, s
 use Rattle.lang_grammar.specs.Grammar.{updated_first, ForTest}
 use Rattle.lang_grammar.specs.Grammar.{no_test, given_test, ForLast, no_last, updated_last, Core, empty, block, if_alone, if_else, repeat}
 use Rattle.lang_grammar.specs.Grammar.{repeat_after}
-use Rattle.lang_grammar.specs.Grammar.{repeat_for, jumps, assumed, updates, Sub, labelled, plain, Items, no_items, label, declaration, item}
+use Rattle.lang_grammar.specs.Grammar.{repeat_for, jumps, demands, updates, Sub, labelled, plain, Items, no_items, label, declaration, item}
 use Rattle.lang_grammar.specs.Grammar.{Parameters}
 use Rattle.lang_grammar.specs.Grammar.{nothing, void_at, Return, no_return, returns, returns_minus, Program, program}
 use Rattle.lang_meaning.specs.Walk.{Value, a_form, a_truth, a_nondet}
@@ -64,7 +64,7 @@ module _ (to : ℕ → ℕ) where
     move_core (repeat_after a s b c e d i) = repeat_after (to a) (move_sub s) (to b) (to c) (move_expr e) (to d) (to i)
     move_core (repeat_for a b f t l s) = repeat_for (to a) (to b) (move_first f) (move_test t) (move_last l) (move_sub s)
     move_core (jumps j a b) = jumps j (to a) (to b)
-    move_core (assumed a b e c d) = assumed (to a) (to b) (move_expr e) (to c) (to d)
+    move_core (demands k a b e c d) = demands k (to a) (to b) (move_expr e) (to c) (to d)
     move_core (updates u c) = updates (move_update u) (to c)
 
     -- a statement with its labels at other places

@@ -1,12 +1,12 @@
--- The walk of a tree at other places answers the same statements, but for their lines.
+-- The walk of a tree at other places answers the same statements, but for their lines and the places of their checks.
 use Rattle.std.proofs.Common.{◌≡◌, ◌∙◌, ◌++◌, ◌∷◌, Bool, true, false, cond, ℕ, List, [], length, Option, Some, None, Result, Ok, Err}
 use Rattle.std.proofs.Common.{nat_lt, refl, sym, ap, ap₂}
 use Rattle.lang_grammar.specs.Grammar.{Expr, Declarator, bare, given, Declarators, declares, declares_more, Update, set, step_after}
 use Rattle.lang_grammar.specs.Grammar.{step_before, ForFirst}
 use Rattle.lang_grammar.specs.Grammar.{no_first, declared_first, updated_first, ForTest, no_test, given_test, ForLast, no_last}
 use Rattle.lang_grammar.specs.Grammar.{updated_last, Core, empty}
-use Rattle.lang_grammar.specs.Grammar.{block, if_alone, if_else, repeat, repeat_after, repeat_for, jumps, assumed, updates, Sub, labelled}
-use Rattle.lang_grammar.specs.Grammar.{plain, Items}
+use Rattle.lang_grammar.specs.Grammar.{block, if_alone, if_else, repeat, repeat_after, repeat_for, jumps, demands, updates, Sub, labelled}
+use Rattle.lang_grammar.specs.Grammar.{plain, Items, Demand, assumes, asserts}
 use Rattle.lang_grammar.specs.Grammar.{no_items, label, declaration, item}
 use Rattle.lang_tree.specs.declared.change.Change as tree_change
 use Rattle.lang_tree.specs.declared.change.Change.TheVariants as change
@@ -21,7 +21,7 @@ use Rattle.lang_meaning.specs.declared.fault.Limit.TheVariants as limit
 use Rattle.lang_meaning.specs.Results.{◌>>=◌}
 use Rattle.lang_meaning.specs.Names.{place_of}
 use Rattle.lang_meaning.specs.Walk.{State, followed_by, one, counted, labelled_by, known_number, tested, right_side, assignment, assigned}
-use Rattle.lang_meaning.specs.Walk.{changed}
+use Rattle.lang_meaning.specs.Walk.{changed, counted_for, demanded}
 use Rattle.lang_meaning.specs.Walk.{change_nodes, always, jumped, declared_by, closed, walk_expr, walk_declarator, walk_declarators}
 use Rattle.lang_meaning.specs.Walk.{walk_update, walk_first}
 use Rattle.lang_meaning.specs.Walk.{walk_test, walk_last, walk_core, walk_sub, walk_items}
@@ -84,6 +84,17 @@ kept_label x a b st = by_place (place_of x st.labels) where
 kept_jumped : (inside : Bool) (a b : ℕ) (st : State) → Kept Same (jumped inside a st) (jumped inside b st)
 kept_jumped true a b st = kept_counted a b st
 kept_jumped false a b st = kept_err Same (OutsideLoop a) (Err (OutsideLoop b))
+
+-- the nodes of an `assume` or `assert` are counted
+kept_counted_for : (k : Demand) (a b : ℕ) (st : State) → Kept Same (counted_for k a st) (counted_for k b st)
+kept_counted_for assumes a b st = kept_counted a b st
+kept_counted_for asserts a b st = same_then Same (counted a st) (counted b st) _ _ (kept_counted a b st) (λ now. kept_counted a b now)
+
+-- an `assume` or `assert` at another place
+demanded_alike : (k : Demand) (line other : ℕ → ℕ) (a b : ℕ) (x : Condition)
+    → without_lines (demanded other k b x) ≡ without_lines (demanded line k a x)
+demanded_alike assumes line other a b x = refl
+demanded_alike asserts line other a b x = refl
 
 module _ (to line other : ℕ → ℕ) (width : ℕ) where
   -- ---- declarations
@@ -261,9 +272,10 @@ module _ (to line other : ℕ → ℕ) (width : ℕ) where
     kept_core inside (jumps j a b) st =
         same_then (Alike without_lines) (jumped inside a st) (jumped inside (to a) st) _ _ (kept_jumped inside a (to a) st)
         (λ now. alike_ok without_lines now _ _ refl)
-    kept_core inside (assumed a b e c d) st =
-        same_then (Alike without_lines) (counted a st) (counted (to a) st) _ _ (kept_counted a (to a) st)
-        (λ now. tested_then (Alike without_lines) a e now _ _ (λ x. alike_ok without_lines now _ _ refl))
+    kept_core inside (demands k a b e c d) st =
+        same_then (Alike without_lines) (counted_for k a st) (counted_for k (to a) st) _ _ (kept_counted_for k a (to a) st)
+        (λ now. tested_then (Alike without_lines) a e now _ _
+        (λ x. alike_ok without_lines now _ _ (demanded_alike k line other a (to a) x)))
     kept_core inside (updates u c) st = kept_nodes u st
 
     -- a statement with its labels

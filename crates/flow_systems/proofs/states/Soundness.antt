@@ -1,31 +1,32 @@
 -- Every post-solution of a program's system holds in every run.
-use Rattle.std.proofs.Common.{◌≡◌, ◌∙◌, ◌⊎◌, inl, inr, ⊎_elim, ℕ, List, [], ◌∷◌, ◌++◌, refl, sym, ap, subst, append_assoc, append-nil}
+use Rattle.std.proofs.Common.{◌≡◌, ◌∙◌, ◌⊎◌, inl, inr, ⊎_elim, ℕ, List, [], ◌∷◌, ◌++◌, refl, sym, ap, subst}
 use Rattle.std.proofs.Common.{length}
 use Rattle.std.specs.Prelude.{pos, slice_set}
-use Rattle.std.proofs.lemmas.List.{map-set, length-set, length-map}
+use Rattle.std.proofs.lemmas.List.{map-set, length-map}
 use Rattle.std.proofs.lemmas.Option.{slice_get_within}
 use Rattle.base_facts.specs.Elements.{In}
 use Rattle.base_numbers.specs.Rational.{whole, zero_ℚ, ◌≤ℚ◌}
 use Rattle.base_numbers.specs.Extended.{fin, ◌≤ᴱ◌}
 use Rattle.base_numbers.proofs.rational.Laws.{whole-zero, whole_le}
-use Rattle.lang_tree.specs.Tree.{Statements, while_loop, for_loop, do_loop, breaks, continues, set, havoc, assume, only_where, check}
-use Rattle.lang_tree.specs.Tree.{branch, loop, jump, label}
+use Rattle.lang_tree.specs.Tree.{Statements}
 use Rattle.lang_tree.specs.Meaning.{State, value}
 use Rattle.lang_tree.specs.Runs.{Item, node, mark, turn, end, start_work, Does, Configuration, Step, Follows}
 use Rattle.flow_edges.specs.declared.edge.Action.{Action}
 use Rattle.flow_edges.specs.declared.edge.Action.TheVariants.{Guard, Assign, Havoc, Check}
 use Rattle.flow_edges.specs.Steps.{Labelled, steps_of, Acts}
-use Rattle.flow_edges.specs.Paths.{Leads, here, past, done, Arrives, at_mark, by_step, Path}
+use Rattle.flow_edges.specs.Paths.{Leads, here, past, at_mark, Path}
 use Rattle.flow_edges.specs.PathLaws.{EdgesArePaths, IsMark}
 use Rattle.flow_edges.proofs.steps.ElementLemmas.{contains_in}
 use Rattle.flow_edges.proofs.steps.StepLaw.{steps_law}
 use Rattle.flow_edges.proofs.steps.Reach.{leads_then}
 use Rattle.flow_edges.proofs.paths.PathLaw.{edges_law}
+use Rattle.flow_edges.proofs.at_checks.SinceMark.{Part, none, more, part_arrives, part_leads}
 use Rattle.flow_systems.specs.States.{RationalState, dotℚ, valueℚ, rational, Traces}
 use Rattle.flow_systems.specs.Equations.{Equations, Vector, Fits, PostSolution}
 use Rattle.flow_systems.specs.Solutions.{equations_of_program, Holds}
 use Rattle.flow_systems.specs.SolutionLaws.{PostSolutionsHold, ProgramPostSolutionsHold}
 use Rattle.flow_systems.proofs.states.RationalStates.{value_rational}
+use Rattle.flow_systems.proofs.states.Sizes.{keeps_size}
 
 -- ---- a step of a run is a labelled step and a trace
 trace-append : (a b : List Action) (x y z : RationalState) → Traces a x y → Traces b y z → Traces (a ++ b) x z
@@ -36,7 +37,7 @@ trace-append (Havoc var ∷ a) b x y z h k = (h.0, trace-append a b (slice_set x
 trace-append (Check about ∷ a) b x y z h k = trace-append a b x y z h k
 
 -- actions that lead from one integer state to another are a trace
-acts_trace : (actions : List Action) (x y : State) → Acts actions x y → Traces actions (rational x) (rational y)
+pub acts_trace : (actions : List Action) (x y : State) → Acts actions x y → Traces actions (rational x) (rational y)
 acts_trace [] x y h = ap rational h
 acts_trace (Guard f ∷ actions) x y h =
     let at_most : whole (value f x) ≤ℚ zero_ℚ = subst (λ q. whole (value f x) ≤ℚ q) whole-zero (whole_le (value f x) (pos 0) h.0) in
@@ -57,45 +58,7 @@ recorded : (item : Item) (rest : List Item) (x : State) (work : List Item) (y : 
     → Recorded item rest x work y
 recorded item rest x work y other d = let r = (steps_law item rest x work y other).0 d in (r.0, r.1, r.2, acts_trace r.0.actions x y r.3)
 
--- a state keeps its length
-keeps_length : (item : Item) (rest : List Item) (x : State) (work : List Item) (y : State) → Does item rest x work y → length y ≡ length x
-keeps_length (mark p) rest x work y d = ap length d.1
-keeps_length (node (set var form line) n) rest x work y d = ap length d.1 ∙ length-set x var (value form x)
-keeps_length (node (havoc var line) n) rest x work y d = ap length d.2 ∙ length-set x var d.0
-keeps_length (node (assume c line) n) rest x work y d = ap length d.2
-keeps_length (node (only_where c line) n) rest x work y d = ap length d.2
-keeps_length (node (check about c line) n) rest x work y d = ap length d.1
-keeps_length (node (branch c first second line) n) rest x work y d = ap length d.3
-keeps_length (node (loop kind c body line) n) rest x work y d = ap length d.1
-keeps_length (node (jump breaks line) n) rest x work y d = ap length d.1
-keeps_length (node (jump continues line) n) rest x work y d = ap length d.1
-keeps_length (node (label name line) n) rest x work y d = ap length d.1
-keeps_length (turn kind c body line n) rest x work y d = ap length d.3
-keeps_length (end while_loop c body line n) rest x work y d = ap length d.1
-keeps_length (end (for_loop g) c body line n) rest x work y d = ap length d.1
-keeps_length (end do_loop c body line n) rest x work y d = ap length d.3
-
 -- ---- since the last mark
--- labelled steps from the work after a mark, with no mark on the way
-data Part (start : List Item) : List Action → List Item → Type 0 where
-  none : Part start [] start
-  more : (actions : List Action) (item : Item) (rest : List Item) (s : Labelled) → Part start actions (item ∷ rest)
-      → In (steps_of item rest) s → Part start (actions ++ s.actions) s.work
-
-part_arrives : (start : List Item) (actions : List Action) (work : List Item) (later : List Action) (p : ℕ) (behind : List Item) →
-    Part start actions work → Arrives work later p behind → Arrives start (actions ++ later) p behind
-part_arrives start actions work later p behind none l = l
-part_arrives start actions work later p behind (more before item rest s part m) l =
-    subst (λ a. Arrives start a p behind) (sym (append_assoc before s.actions later))
-    (part_arrives start before (item ∷ rest) (s.actions ++ later) p behind part (by_step item rest s later p behind m l))
-
-part_leads : (start : List Item) (actions : List Action) (work : List Item) → Part start actions work → Leads start actions work
-part_leads start actions work none = here start
-part_leads start actions work (more before item rest s part m) =
-    let one = done item rest s [] s.work m (here s.work) in
-    subst (λ a. Leads start (before ++ a) s.work) (append-nil s.actions)
-    (leads_then start (item ∷ rest) s.work before (s.actions ++ []) (part_leads start before (item ∷ rest) part) one)
-
 module _ (system : Equations) (body : Statements) (v : Vector) (paths : EdgesArePaths system.edges body)
     (post : PostSolution system v) where
   -- the mark of a point that labelled steps reach, with a state that fits there
@@ -213,7 +176,7 @@ module _ (system : Equations) (body : Statements) (v : Vector) (paths : EdgesAre
   known_step a b step k =
       let past_first = subst (λ w. (w ≡ start_work body) ⊎ Since w (rational a.state)) step.first k.past_work in
       record {
-        size = keeps_length step.item step.rest a.state b.work b.state step.does ∙ k.size;
+        size = keeps_size step.item step.rest a.state b.work b.state step.does ∙ k.size;
         past_work = inr (advanced step.item step.rest a.state b.work b.state step.does k.size past_first);
       }
 

@@ -7,7 +7,7 @@ use Rattle.lang_grammar.specs.Expressions.{ReadsExpr, BeginsExpr}
 use Rattle.lang_grammar.specs.Reaches.{is_infix}
 use Rattle.lang_grammar.specs.Grammar.{Kind, a_name, comma, semicolon, left_brace, right_brace, left_paren, right_paren, change_sign}
 use Rattle.lang_grammar.specs.Grammar.{replaces}
-use Rattle.lang_grammar.specs.Grammar.{assume_word, the_end, Token, token, Expr, number, spell_expr, Groups}
+use Rattle.lang_grammar.specs.Grammar.{the_end, Token, token, Expr, number, spell_expr, Groups}
 use Rattle.lang_grammar.proofs.phrase.Found.{ends_there}
 use Rattle.lang_grammar.proofs.phrase.Starts.{reads_run}
 use Rattle.flow_transitions.specs.AutoGrammar.{Spot, Names, commas_then, names_then, Act, sets, assumes, act_then, acts_then, Head}
@@ -20,7 +20,7 @@ use Rattle.flow_transitions.specs.AutoGrammar.{Inside, inside_then, Begun, begun
 use Rattle.flow_transitions.specs.AutoGrammar.{some_points, a_point, some_edges}
 use Rattle.flow_transitions.specs.AutoGrammar.{an_edge, a_source, a_target, some_acts, an_assume, an_assigned, some_expression}
 use Rattle.flow_transitions.specs.AutoGrammar.{an_expression}
-use Rattle.flow_transitions.specs.AutoGrammar.{an_assumption}
+use Rattle.flow_transitions.specs.AutoGrammar.{an_assumption, assume_word}
 use Rattle.flow_transitions.specs.AutoGrammar.{GoodAct, GoodActs, GoodEdges, Begins, IsUnexpected}
 use Rattle.flow_transitions.proofs.grammar.Lists.{begun_append, commas_more, acts_more, edges_more, good_more, all_good_more, cancel_commas}
 use Rattle.flow_transitions.proofs.grammar.Lists.{cancel_names}

@@ -1,7 +1,7 @@
 -- Trees and the tokens behind them: what follows a part is determined by its tokens.
 use Rattle.std.proofs.Common.{◌≡◌, ◌∙◌, ◌++◌, ℕ, suc, List, [], ◌∷◌, refl, sym, ap, arith, append_assoc}
 use Rattle.lang_grammar.specs.Grammar.{a_name, comma, semicolon, right_brace, left_paren, right_paren, change_sign, replaces}
-use Rattle.lang_grammar.specs.Grammar.{assume_word, the_end, Token, token, Expr, spell_expr, Groups}
+use Rattle.lang_grammar.specs.Grammar.{the_end, Token, token, Expr, spell_expr, Groups}
 use Rattle.lang_grammar.proofs.grammar.Unique.{weight, unique, unique_expr}
 use Rattle.flow_transitions.specs.AutoGrammar.{Spot, Names, commas_then, names_then, Act, sets, assumes, act_then, acts_then, Head}
 use Rattle.flow_transitions.specs.AutoGrammar.{head_then}
@@ -12,7 +12,7 @@ use Rattle.flow_transitions.specs.AutoGrammar.{inside_then}
 use Rattle.flow_transitions.specs.AutoGrammar.{Begun, begun_then, no_token, some_variables, a_variable, all_variables, some_points, a_point}
 use Rattle.flow_transitions.specs.AutoGrammar.{some_edges, an_edge}
 use Rattle.flow_transitions.specs.AutoGrammar.{a_source, a_target, some_acts, an_assume, an_assigned, some_expression, an_expression}
-use Rattle.flow_transitions.specs.AutoGrammar.{an_assumption}
+use Rattle.flow_transitions.specs.AutoGrammar.{an_assumption, assume_word}
 use Rattle.flow_transitions.specs.AutoGrammar.{GoodAct, GoodActs, GoodEdges}
 
 -- ---- tokens behind a part

@@ -7,7 +7,8 @@ use Rattle.lang_tokens.specs.Lines.{line_at}
 use Rattle.lang_grammar.specs.Expressions.{BeginsExpr}
 use Rattle.lang_grammar.specs.Grammar.{Kind, a_name, comma, semicolon, left_brace, right_brace, left_paren, right_paren, change_sign}
 use Rattle.lang_grammar.specs.Grammar.{replaces}
-use Rattle.lang_grammar.specs.Grammar.{assume_word, the_end, token, Expr, spell_expr}
+use Rattle.lang_grammar.specs.Grammar.{demand_word, the_end, token, Expr, spell_expr}
+use Rattle.lang_grammar.specs.Grammar as grammar
 use Rattle.lang_tree.specs.Tree.{Statement}
 use Rattle.lang_meaning.specs.Names.{place_of}
 use Rattle.flow_transitions.specs.AutoReading.{Stand, Progress, progress, start, Stepped, Wanted, a_token, an_expression, wanted_at}
@@ -199,7 +200,8 @@ module _ (text : List ℕ) where
       ready = λ k a. tt;
       more = λ h. cc;
     })
-    step_acts assume_word a = inl (record { now = an_assume i a; has = (n, refl); grown = λ ts. refl; ready = λ k a. tt; more = λ h. cc })
+    step_acts (demand_word grammar.assumes) a =
+        inl (record { now = an_assume i a; has = (n, refl); grown = λ ts. refl; ready = λ k a. tt; more = λ h. cc })
     step_acts (a_name x) a = name_by x a (place_of x (names_in i.heads.variables)) refl
     step_acts (change_sign replaces) a = refuse text (some_acts i) (change_sign replaces) a n
         (neither comma (λ e. cc) (neither comma (λ e. cc) (λ m. let e = m.1 in cc)))

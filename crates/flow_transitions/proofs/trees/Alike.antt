@@ -2,7 +2,7 @@
 use Rattle.std.proofs.Common.{◌≡◌, ◌∙◌, ◌++◌, ◌⊎◌, inl, inr, ℕ, zero, suc, Bool, true, false, List, [], ◌∷◌, drop, refl, sym, ap}
 use Rattle.std.proofs.Common.{ap₂, subst}
 use Rattle.lang_grammar.specs.Expressions.{BeginsExpr, IsLongest, FindsExpr, stops_at, nests_at}
-use Rattle.lang_grammar.specs.Grammar.{Kind, assume_word, other_word, Prefix, negative, positive, negation, sign_of, Token}
+use Rattle.lang_grammar.specs.Grammar.{Kind, demand_word, other_word, Prefix, negative, positive, negation, sign_of, Token}
 use Rattle.lang_grammar.specs.Grammar.{token}
 use Rattle.lang_grammar.specs.Grammar.{Expr, number, variable, free, grouped, prefixed, joined, spell_expr}
 use Rattle.lang_grammar.specs.View.{tokens_of, kind_of}
@@ -13,7 +13,7 @@ use Rattle.flow_transitions.specs.AutoGrammar.{kind_here, tokens_here}
 
 -- it stands in no expression
 abbrev pub is_foreign : Kind → Bool
-is_foreign assume_word = true
+is_foreign (demand_word d) = true
 is_foreign other_word = true
 is_foreign _ = false
 
@@ -124,11 +124,15 @@ nests_alike xs ys a h (front, k, rest, split, fine, begins, deep) =
 -- ---- the tokens of a text
 alike_kind : (b : List ℕ) (k : lex_kind.Kind) → Same (kind_of b k) (kind_here b k)
 alike_kind b (lex_kind.TheVariants.Word word.VerifierAssume) = inr (refl, refl)
+alike_kind b (lex_kind.TheVariants.Word word.Assert) = inr (refl, refl)
+alike_kind b (lex_kind.TheVariants.Word word.VerifierAssert) = inr (refl, refl)
 alike_kind b (lex_kind.TheVariants.Word _) = inl refl
 alike_kind b _ = inl refl
 
 alike_back : (b : List ℕ) (k : lex_kind.Kind) → Same (kind_here b k) (kind_of b k)
 alike_back b (lex_kind.TheVariants.Word word.VerifierAssume) = inr (refl, refl)
+alike_back b (lex_kind.TheVariants.Word word.Assert) = inr (refl, refl)
+alike_back b (lex_kind.TheVariants.Word word.VerifierAssert) = inr (refl, refl)
 alike_back b (lex_kind.TheVariants.Word _) = inl refl
 alike_back b _ = inl refl
 

@@ -5,7 +5,8 @@ use Rattle.std.proofs.lemmas.Option.{slice_get-get_or}
 use Rattle.std.specs.Prelude.{slice_range}
 use Rattle.lang_grammar.specs.Grammar.{Kind, a_name, comma, semicolon, left_brace, right_brace, left_paren, right_paren, change_sign}
 use Rattle.lang_grammar.specs.Grammar.{replaces}
-use Rattle.lang_grammar.specs.Grammar.{assume_word, the_end, token}
+use Rattle.lang_grammar.specs.Grammar.{demand_word, the_end, token}
+use Rattle.lang_grammar.specs.Grammar as grammar
 use Rattle.lang_grammar.specs.View.{sign_kind}
 use Rattle.lang_tokens.specs.Lines.{line_at}
 use Rattle.lang_tokens.specs.Reading.{end_at}
@@ -30,7 +31,7 @@ symbol_here left_paren = symbol.LeftParen
 symbol_here right_paren = symbol.RightParen
 symbol_here left_brace = symbol.LeftBrace
 symbol_here right_brace = symbol.RightBrace
-symbol_here assume_word = symbol.Assume
+symbol_here (demand_word grammar.assumes) = symbol.Assume
 symbol_here the_end = symbol.End
 symbol_here _ = symbol.Other
 
@@ -72,6 +73,8 @@ word_here : (b : List ℕ) (w : lex_word.Word) → (word_symbol w ≡ symbol.Nam
     × (word_symbol w ≡ symbol_here (kind_here b (lex_kind.TheVariants.Word w)))
     × ([] ≡ name_in (kind_here b (lex_kind.TheVariants.Word w)))
 word_here b lex_word.TheVariants.VerifierAssume = (λ h. cc, refl, refl)
+word_here b lex_word.TheVariants.Assert = (λ h. cc, refl, refl)
+word_here b lex_word.TheVariants.VerifierAssert = (λ h. cc, refl, refl)
 word_here b _ = (λ h. cc, refl, refl)
 
 sign_here : (s : lex_sign.Sign) → (sign_symbol s ≡ symbol.Name → ⊥) × (sign_symbol s ≡ symbol_here (sign_kind s))

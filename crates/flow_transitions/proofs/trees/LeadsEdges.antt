@@ -7,7 +7,7 @@ use Rattle.lang_tokens.specs.declared.token.Token as lex_token
 use Rattle.lang_tokens.specs.Lines.{line_at}
 use Rattle.lang_grammar.specs.Expressions.{BeginsExpr, FineExpr}
 use Rattle.lang_grammar.specs.Grammar.{a_name, semicolon, left_brace, right_brace, left_paren, right_paren, change_sign}
-use Rattle.lang_grammar.specs.Grammar.{replaces, assume_word, Token, token, Expr, spell_expr, Groups}
+use Rattle.lang_grammar.specs.Grammar.{replaces, Token, token, Expr, spell_expr, Groups}
 use Rattle.lang_tree.specs.Tree.{Statement, Statements, nil, cons}
 use Rattle.lang_meaning.specs.declared.fault.ParseFault.{ParseFault}
 use Rattle.lang_meaning.specs.Names.{place_of}
@@ -19,7 +19,7 @@ use Rattle.flow_transitions.specs.AutoReading.{Stand, Progress, progress, expres
 use Rattle.flow_transitions.specs.AutoReading.{names_of, point_or, not_first, from_then, to_then, assigned_if, assumed, assigned, as_side}
 use Rattle.flow_transitions.specs.AutoReading.{at_edge, at_source, at_target, at_opening, at_act, at_paren, at_condition, past_condition}
 use Rattle.flow_transitions.specs.AutoReading.{at_equal, at_right_side, past_act, edge_to, then_act, with_act}
-use Rattle.flow_transitions.specs.AutoGrammar.{Act, sets, assumes, act_then, acts_then, Head, head_then, Written, edges_then}
+use Rattle.flow_transitions.specs.AutoGrammar.{assume_word, Act, sets, assumes, act_then, acts_then, Head, head_then, Written, edges_then}
 use Rattle.flow_transitions.specs.AutoGrammar.{Frame, condition, side, frame_then}
 use Rattle.flow_transitions.specs.AutoTrees.{FrameSays, FrameStands, ActsSay, HeadSays, EdgesSay, frame_of, expr_in}
 use Rattle.flow_transitions.proofs.grammar.Accepts.{ended_by}

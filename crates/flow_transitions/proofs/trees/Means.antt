@@ -153,6 +153,8 @@ kind_goes (lex_kind.TheVariants.Number n) b h e = cc
 kind_goes (lex_kind.TheVariants.Word w) b h e = words w e where
   words : (w : lex_word.Word) → kind_here b (lex_kind.TheVariants.Word w) ≡ the_end → ⊥
   words lex_word.TheVariants.VerifierAssume e = cc
+  words lex_word.TheVariants.Assert e = cc
+  words lex_word.TheVariants.VerifierAssert e = cc
   words _ e = cc
 kind_goes (lex_kind.TheVariants.Sign s) b h e = signs s e where
   signs : (s : lex_sign.Sign) → kind_here b (lex_kind.TheVariants.Sign s) ≡ the_end → ⊥

@@ -3,11 +3,13 @@ use Rattle.std.proofs.Common.{◌≡◌, ◌⊎◌, inl, inr, ℕ, Bool, true, f
 use Rattle.std.specs.Prelude.{codes, if◌then◌else◌}
 use Rattle.std.specs.Str.{bytes_eq}
 use Rattle.lang_grammar.specs.Grammar.{Kind, a_name, comma, semicolon, left_brace, right_brace, left_paren, right_paren, change_sign}
-use Rattle.lang_grammar.specs.Grammar.{replaces, assume_word, the_end}
+use Rattle.lang_grammar.specs.Grammar.{replaces, demand_word, the_end}
+use Rattle.lang_grammar.specs.Grammar as grammar
 use Rattle.lang_tree.specs.Tree.{Statement}
 use Rattle.flow_transitions.specs.declared.auto_edge.AutoEdge.{AutoEdge}
 use Rattle.flow_transitions.specs.declared.reading.point_name.PointName.{PointName}
 use Rattle.flow_transitions.specs.AutoReading.{Stand, Progress, Stepped, progress, token_at, unexpected_fault, unexpected, going, if_name}
+use Rattle.flow_transitions.specs.AutoGrammar.{assume_word}
 use Rattle.flow_transitions.specs.AutoReading.{word_then}
 use Rattle.flow_transitions.specs.AutoReading.{at_vars, at_variable, past_variable, at_points, at_point, past_point, at_edge, at_source}
 use Rattle.flow_transitions.specs.AutoReading.{at_target, at_opening, at_act, at_paren, past_condition, at_equal, past_act}
@@ -99,7 +101,7 @@ module _ (text : List ℕ) (names : List (List ℕ)) (points : List PointName) (
   -- ---- acts
   pub no_act : (e : AutoEdge) (k : Kind) (a : ℕ) → ((k ≡ right_brace) ⊎ ((k ≡ assume_word) ⊎ IsName k) → ⊥) → Here (at_act e) k a
   no_act e right_brace a n = absurd (n (inl refl))
-  no_act e assume_word a n = absurd (n (inr (inl refl)))
+  no_act e (demand_word grammar.assumes) a n = absurd (n (inr (inl refl)))
   no_act e (a_name x) a n = absurd (n (inr (inr (x, refl))))
   no_act e (change_sign replaces) a n = refl
   no_act e _ a n = refl

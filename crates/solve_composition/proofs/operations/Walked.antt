@@ -7,7 +7,7 @@ use Rattle.std.proofs.lemmas.Bool.{eqb-true}
 use Rattle.std.proofs.lemmas.List.{drop_more, drop_all, append-nil, map-append}
 use Rattle.base_numbers.specs.Rational.{ℚ}
 use Rattle.flow_edges.specs.declared.edge.Action.{Action}
-use Rattle.flow_edges.specs.declared.edge.Action.TheVariants.{Guard, Assign, Havoc}
+use Rattle.flow_edges.specs.declared.edge.Action.TheVariants.{Guard, Assign, Havoc, Check}
 use Rattle.base_fractions.specs.Fits.{long_limit}
 use Rattle.base_fractions.specs.Operation.{first_wide}
 use Rattle.flow_systems.proofs.Faults.{sooner}
@@ -43,6 +43,7 @@ unfolding guards_from
 guards_cons k forms (Guard form) rest = refl
 guards_cons k forms (Assign var form) rest = refl
 guards_cons k forms (Havoc var) rest = refl
+guards_cons k forms (Check about) rest = refl
 
 ends_cons : (k : ℕ) (forms : List Form) (action : Action) (rest : List Action)
     → ends_from k forms (action ∷ rest) ≡ ends_from (next_column k action) (next_state k forms action) rest
@@ -50,6 +51,7 @@ unfolding ends_from
 ends_cons k forms (Guard form) rest = refl
 ends_cons k forms (Assign var form) rest = refl
 ends_cons k forms (Havoc var) rest = refl
+ends_cons k forms (Check about) rest = refl
 
 guards_nil : (k : ℕ) (forms : List Form) → guards_from k forms [] ≡ []
 unfolding guards_from
@@ -155,6 +157,7 @@ unfolding free_count
 column_frees k (Guard form) = omega arith
 column_frees k (Assign var form) = omega arith
 column_frees k (Havoc var) = omega arith
+column_frees k (Check about) = omega arith
 
 -- actions have at most as many guards as there are actions
 pub guards_few : (k : ℕ) (forms : List Form) (actions : List Action) → length (guards_from k forms actions) ≤ length actions
@@ -164,3 +167,4 @@ guards_few k forms (Guard form ∷ actions) = let h = guards_few k forms actions
 guards_few k forms (Assign var form ∷ actions) = let h = guards_few k (slice_set forms var (composed form forms)) actions in
     omega (arith, h)
 guards_few k forms (Havoc var ∷ actions) = let h = guards_few (suc k) (slice_set forms var (column k)) actions in omega (arith, h)
+guards_few k forms (Check about ∷ actions) = let h = guards_few k forms actions in omega (arith, h)

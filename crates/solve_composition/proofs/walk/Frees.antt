@@ -2,7 +2,7 @@
 use Rattle.std.proofs.Common.{◌≡◌, ◌∙◌, ℕ, ◌+◌, ◌<◌, ◌≤◌, List, [], ◌∷◌, length, get_or, drop, ap, sym, refl, arith}
 use Rattle.std.proofs.lemmas.List.{drop_more, drop_all}
 use Rattle.flow_edges.specs.declared.edge.Action.{Action}
-use Rattle.flow_edges.specs.declared.edge.Action.TheVariants.{Guard, Assign, Havoc}
+use Rattle.flow_edges.specs.declared.edge.Action.TheVariants.{Guard, Assign, Havoc, Check}
 use Rattle.theory_validity.specs.Words.{free_count}
 
 -- the free assignments of a list are those of its first action and of the rest
@@ -11,6 +11,7 @@ unfolding free_count
 frees_cons (Guard form) rest = let e : free_count rest ≡ 0 + free_count rest = omega arith in e
 frees_cons (Assign var form) rest = let e : free_count rest ≡ 0 + free_count rest = omega arith in e
 frees_cons (Havoc var) rest = omega arith
+frees_cons (Check about) rest = let e : free_count rest ≡ 0 + free_count rest = omega arith in e
 
 -- the free assignments left are those of the action at hand and of the actions behind it
 pub frees_left : (actions : List Action) (i : ℕ) (action : Action) → i < length actions → action ≡ get_or actions i action
@@ -29,6 +30,7 @@ unfolding free_count
 frees-other (Guard form) n = refl
 frees-other (Assign var form) n = refl
 frees-other (Havoc var) n = absurd (n var refl)
+frees-other (Check about) n = refl
 
 -- behind the last action no free assignment is left
 pub frees_none : (actions : List Action) (i : ℕ) → length actions ≤ i → free_count (drop i actions) ≡ 0

@@ -44,12 +44,28 @@ const FRONT: &[u8] = b"int main()\n{int x = -5;\n}// end";
 
 const FRONT_NOTES: &[u8] = b"int main()\n{int x = -5;\n/*@ assert x == -5; */\n}// end";
 
+// Behind an `assert` its condition holds.
+const ASSERTED: &[u8] = b"int main() {
+    int x = 0;
+    while (nondet()) { assert(x < 5); x++; }
+}";
+
+const ASSERTED_NOTES: &[u8] = b"int main() {
+    int x = 0;
+    /*@ loop invariant x <= 5;
+        loop invariant -x <= 0; */
+    while (nondet()) { assert(x < 5); x++; }
+/*@ assert x <= 5; */
+/*@ assert -x <= 0; */
+}";
+
 const LINES: &[(&str, &[u8], &[u8])] = &[
     ("p", ONE_LINE, ONE_LINE_NOTES),
     ("p", BLANKS, BLANKS_NOTES),
     ("p --domain octagons", SILENT, SILENT),
     ("p", RETURNS, RETURNS_NOTES),
     ("p", FRONT, FRONT_NOTES),
+    ("p", ASSERTED, ASSERTED_NOTES),
 ];
 
 #[test]

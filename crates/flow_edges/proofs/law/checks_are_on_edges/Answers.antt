@@ -1,4 +1,4 @@
-use Rattle.flow_edges.proofs.checks.CheckLaw.{check_law}
+use Rattle.flow_edges.proofs.at_checks.CheckLaw.{check_law}
 use Rattle.flow_edges.proofs.law.checks_are_on_edges.Goals as goal
 
 pub returns : goal.returns

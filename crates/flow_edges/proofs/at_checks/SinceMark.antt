@@ -12,7 +12,7 @@ use Rattle.flow_edges.specs.Paths.{Leads, here, past, done, Arrives, by_step}
 use Rattle.flow_edges.specs.PathLaws.{IsMark}
 use Rattle.flow_edges.proofs.steps.StepLaw.{steps_law}
 use Rattle.flow_edges.proofs.steps.Reach.{leads_then}
-use Rattle.flow_edges.proofs.checks.Lasting.{Lasting, step_lasts}
+use Rattle.flow_edges.proofs.at_checks.Lasting.{Lasting, step_lasts}
 
 acts-append : (a b : List Action) (x y z : State) → Acts a x y → Acts b y z → Acts (a ++ b) x z
 acts-append [] b x y z h k = subst (λ w. Acts b w z) h k

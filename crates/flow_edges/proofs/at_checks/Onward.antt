@@ -16,7 +16,7 @@ use Rattle.flow_edges.specs.Paths.{Arrives, at_mark, by_step}
 use Rattle.flow_edges.proofs.steps.ElementLemmas.{in-append_left, in-append_right}
 use Rattle.flow_edges.proofs.steps.Walk.{past-nodes, end-nodes}
 use Rattle.flow_edges.proofs.steps.Reach.{some_choice}
-use Rattle.flow_edges.proofs.checks.Lasting.{Stands, AllStand, in_loop, HasMore, Lasting}
+use Rattle.flow_edges.proofs.at_checks.Lasting.{Stands, AllStand, in_loop, HasMore, Lasting}
 
 -- labelled steps lead on to a mark
 abbrev pub ComesOn : List Item → Type 0

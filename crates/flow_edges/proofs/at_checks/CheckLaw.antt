@@ -10,9 +10,9 @@ use Rattle.flow_edges.specs.CheckLaws.{CameAlong, ChecksAreOnEdges}
 use Rattle.flow_edges.proofs.steps.ElementLemmas.{in_contains, contains_in}
 use Rattle.flow_edges.proofs.paths.PathLaw.{edges_law}
 use Rattle.flow_edges.proofs.faults.FlowLaws.{limits}
-use Rattle.flow_edges.proofs.checks.Lasting.{Lasting, statements_stand, start_lasts}
-use Rattle.flow_edges.proofs.checks.Onward.{work_comes}
-use Rattle.flow_edges.proofs.checks.SinceMark.{part_arrives, Known, Since, known_all, since_mark}
+use Rattle.flow_edges.proofs.at_checks.Lasting.{Lasting, statements_stand, start_lasts}
+use Rattle.flow_edges.proofs.at_checks.Onward.{work_comes}
+use Rattle.flow_edges.proofs.at_checks.SinceMark.{part_arrives, Known, Since, known_all, since_mark}
 
 module _ (body : Statements) (run : List Configuration) where
   -- at a check, the edge goes on to any mark that labelled steps lead to
