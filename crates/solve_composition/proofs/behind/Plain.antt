@@ -1,5 +1,5 @@
 -- Guards over the variables alone are composed by operations that are never wide.
-use Rattle.std.proofs.Common.{◌≡◌, ◌∙◌, ◌⊎◌, inl, inr, ⊎_elim, ℕ, zero, suc, ℤ, List, [], ◌∷◌, ◌++◌, get_or, map, None, refl, ap, sym, subst}
+use Rattle.std.proofs.Common.{◌≡◌, ◌∙◌, ◌⊎◌, inl, inr, ⊎_elim, ℕ, zero, suc, ℤ, List, [], ◌∷◌, get_or, map, None, refl, ap, sym, subst}
 use Rattle.std.proofs.Common.{nat_abs, arith}
 use Rattle.std.specs.Prelude.{IsTrue, flat_map, ◌&&◌, ◌==◌, length}
 use Rattle.std.specs.List.{list_all, range_with_len}
@@ -19,10 +19,12 @@ use Rattle.flow_systems.specs.States.{dotℚ}
 use Rattle.flow_systems.specs.Sums.{products_operations, row_operations, form_operations}
 use Rattle.flow_systems.proofs.Widths.{first_wide_later, first_wide_past}
 use Rattle.theory_validity.specs.Words.{Affine as Formal, shifted, column, columns, width}
-use Rattle.solve_composition.specs.Behind.{placed_composition}
+use Rattle.solve_composition.specs.Behind.{placed_actions, placed_composition, end_forms}
+use Rattle.solve_composition.specs.Composed.{first_entries}
 use Rattle.solve_composition.specs.Operations.{column_values, constants, column_operations, form_composition}
-use Rattle.solve_composition.proofs.behind.Forms.{composition_only}
+use Rattle.solve_composition.proofs.behind.Forms.{composition_only, ends_only}
 use Rattle.solve_composition.proofs.sums.Products.{zero_fits}
+use Rattle.solve_composition.proofs.walk.States.{columns_are}
 
 -- ---- numbers that fit
 whole_fits : (z : ℤ) → IsTrue (is_number z) → Fits long_limit (whole z)
@@ -37,12 +39,14 @@ whole_fits z h =
 pub nothing_fits : Fits long_limit zero_ℚ
 nothing_fits = zero_fits
 
--- ---- lists of zeros, and of zeros but for one 1
-abbrev AreZero : List ℚ → Type 0
+-- ---- lists of coefficients
+-- all are 0
+abbrev pub AreZero : List ℚ → Type 0
 AreZero [] = Unit {0}
 AreZero (x ∷ xs) = (x ≡ zero_ℚ) × AreZero xs
 
-abbrev IsUnit : List ℚ → Type 0
+-- all are 0 but for at most one, which is 1
+abbrev pub IsUnit : List ℚ → Type 0
 IsUnit [] = Unit {0}
 IsUnit (x ∷ xs) = ((x ≡ zero_ℚ) × IsUnit xs) ⊎ ((x ≡ one_ℚ) × AreZero xs)
 
@@ -157,3 +161,25 @@ guards_pass w n (g ∷ gs) h =
 pub guards_alone : (n : ℕ) (gs : List Form) → IsTrue (list_all (is_form n) gs) → first_wide long_limit (placed_composition n [] gs) ≡ None
 guards_alone n gs h =
     ap (first_wide long_limit) (composition_only (width n (guards gs)) n (columns n) gs) ∙ guards_pass (width n (guards gs)) n gs h
+
+-- ---- the columns as forms
+zero_entries : (w : ℕ) → AreZero (first_entries w [])
+zero_entries zero = tt
+zero_entries (suc w) = (refl, zero_entries w)
+
+-- the coefficients of a column are 0 but for one
+pub column_entries : (w k : ℕ) → IsUnit (first_entries w (column k).coeffs)
+unfolding column shifted
+column_entries zero k = tt
+column_entries (suc w) zero = inr (refl, zero_entries w)
+column_entries (suc w) (suc k) = inl (refl, column_entries w k)
+
+-- and its constant is 0
+pub column_constant : (k : ℕ) → (column k).constant ≡ zero_ℚ
+unfolding column shifted
+column_constant zero = refl
+column_constant (suc k) = column_constant k
+
+-- guards leave the variables, which are the first columns
+pub plain_ends : (n : ℕ) (gs : List Form) → end_forms n (placed_actions [] gs) ≡ map column (range_with_len 0 n)
+plain_ends n gs = ends_only n (columns n) gs ∙ columns_are n
