@@ -37,7 +37,8 @@ pub width_behind : (n : ℕ) (before : List Action) (gs : List Form) → width n
 unfolding width
 width_behind n before gs = ap (λ k. n + k) (frees_behind before gs)
 
-ends_only : (k : ℕ) (fs : List Formal) (gs : List Form) → ends_from k fs (guards gs) ≡ fs
+-- guards alone leave the variables as they are
+pub ends_only : (k : ℕ) (fs : List Formal) (gs : List Form) → ends_from k fs (guards gs) ≡ fs
 unfolding ends_from
 ends_only k fs [] = refl
 ends_only k fs (g ∷ gs) = ends_only k fs gs
@@ -67,7 +68,8 @@ guards_behind k fs (Assign var form ∷ before) gs = guards_behind k (slice_set 
 guards_behind k fs (Havoc var ∷ before) gs = guards_behind (suc k) (slice_set fs var (column k)) before gs
 guards_behind k fs (Check about ∷ before) gs = guards_behind k fs before gs
 
-composition_only : (w k : ℕ) (fs : List Formal) (gs : List Form)
+-- the operations of guards alone
+pub composition_only : (w k : ℕ) (fs : List Formal) (gs : List Form)
     → actions_composition w [] k fs (guards gs) ≡ flat_map (form_composition w fs) gs
 composition_only w k fs [] = refl
 composition_only w k fs (g ∷ gs) = ap (λ os. form_composition w fs g ++ os) (composition_only w k fs gs)

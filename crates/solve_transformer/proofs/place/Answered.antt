@@ -1,5 +1,5 @@
 -- All that is said of the answer at a place.
-use Rattle.std.proofs.Common.{◌≡◌, ◌∙◌, ℕ, List, [], ◌++◌, false, true≢false, map, Some, None, Ok, Err, refl, ap, sym, subst}
+use Rattle.std.proofs.Common.{◌≡◌, ◌∙◌, ℕ, List, [], ◌++◌, false, true≢false, length, map, Some, None, Ok, Err, refl, ap, sym, subst}
 use Rattle.base_numbers.specs.Rational.{ℚ}
 use Rattle.base_fractions.specs.Fits.{long_limit}
 use Rattle.base_fractions.specs.Operation.{first_wide, operation_of}
@@ -42,16 +42,6 @@ placed_lost system z edge r h =
     }
 
 module _ (system : Equations) (z : Vector) (edge : Edge) (reached : lost (z edge.from) system.template ≡ false) where
-  -- where actions and guards aren't composed
-  pub placed_wide : (fault : OperationFault) (part : PartFault) → IsFaultOf (sides_of system edge) fault → IsPartFault Side fault part
-      → AnswersAt system z edge (Err part)
-  placed_wide fault part h e = record { value = tt; evidence = tt; state = tt; fits = tt; refused = side fault part h e }
-    where
-      side : (fault : OperationFault) (part : PartFault) → IsFaultOf (sides_of system edge) fault → IsPartFault Side fault part
-          → IsPlaceFault system z edge part
-      side (WideFault wide) part h e = subst (IsPlaceFault system z edge) (sym e) (reached, h)
-      side NoMemoryFault part h e = subst (IsPlaceFault system z edge) (sym e) tt
-
   module _ (sides : first_wide long_limit (sides_of system edge) ≡ None) where
     fault_at : (fault : PartFault) → IsOperatorFault system z edge [] fault → IsPlaceFault system z edge fault
     fault_at (Wide Side wide) h = absurd h.1
