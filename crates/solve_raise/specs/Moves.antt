@@ -2,7 +2,7 @@
 use Rattle.std.specs.Prelude.{ℤ, List, [], ◌∷◌}
 use Rattle.base_numbers.specs.Rational.{ℚ}
 use Rattle.flow_edges.specs.declared.edge.Action.{Action}
-use Rattle.flow_edges.specs.declared.edge.Action.TheVariants.{Guard, Assign, Havoc}
+use Rattle.flow_edges.specs.declared.edge.Action.TheVariants.{Guard, Assign, Havoc, Check}
 use Rattle.flow_edges.specs.declared.edge.Edge.{Edge}
 use Rattle.base_fractions.specs.Operation.{Operation}
 use Rattle.flow_systems.specs.Equations.{Equations}
@@ -15,12 +15,13 @@ use Rattle.solve_composition.specs.Value.{word_of}
 use Rattle.flow_systems.specs.declared.sums.Constants.{Constants}
 use Rattle.flow_systems.specs.declared.sums.Constants.TheVariants.{Kept, Zero}
 
--- the actions that give a variable a value, without the guards
+-- the actions that give a variable a value, without guards and checks
 abbrev pub moves : Constants → List Action → List Action
 moves constants [] = []
 moves constants (Guard form ∷ actions) = moves constants actions
 moves constants (Assign var form ∷ actions) = Assign var (form_with constants form) ∷ moves constants actions
 moves constants (Havoc var ∷ actions) = Havoc var ∷ moves constants actions
+moves constants (Check about ∷ actions) = moves constants actions
 
 -- the trace of these start values and free values
 abbrev pub trace_of : List ℚ → List ℚ → Trace

@@ -37,6 +37,7 @@ fn step(
             state[*var as usize] = free[0];
             Ok(1)
         }
+        Action::Check(_) => Ok(0),
     }
 }
 

@@ -7,7 +7,7 @@ use Rattle.std.proofs.lemmas.Option.{slice_get-get_or, get_or_from_slice_get}
 use Rattle.base_numbers.specs.Rational.{ℚ}
 use Rattle.base_numbers.specs.Extended.{Ext}
 use Rattle.flow_edges.specs.declared.edge.Action.{Action}
-use Rattle.flow_edges.specs.declared.edge.Action.TheVariants.{Guard, Assign, Havoc}
+use Rattle.flow_edges.specs.declared.edge.Action.TheVariants.{Guard, Assign, Havoc, Check}
 use Rattle.flow_edges.specs.declared.edge.Edge.{Edge}
 use Rattle.base_fractions.specs.Fits.{long_limit}
 use Rattle.base_fractions.specs.Operation.{Operation, first_wide}
@@ -96,6 +96,7 @@ count_same [] = refl
 count_same (Guard form ∷ actions) = count_same actions
 count_same (Assign var form ∷ actions) = count_same actions
 count_same (Havoc var ∷ actions) = ap suc (count_same actions)
+count_same (Check about ∷ actions) = count_same actions
 
 -- a trace with sizes has a value for each free assignment of the edge
 pub free_of : (system : Equations) (rows unknown k : ℕ) (t : Pieces) → Sized system (choice_of rows unknown k) t → (e : Edge)

@@ -2,7 +2,7 @@
 use Rattle.std.proofs.Common.{◌≡◌, ◌∙◌, ℕ, suc, List, [], ◌∷◌, ◌++◌, map, length, refl, sym, ap}
 use Rattle.std.specs.Prelude.{ℤ, slice_set}
 use Rattle.flow_edges.specs.declared.edge.Action.{Action}
-use Rattle.flow_edges.specs.declared.edge.Action.TheVariants.{Guard, Assign, Havoc}
+use Rattle.flow_edges.specs.declared.edge.Action.TheVariants.{Guard, Assign, Havoc, Check}
 use Rattle.flow_edges.specs.declared.edge.Edge.{Edge}
 use Rattle.flow_systems.specs.States.{RationalState, dotℚ}
 use Rattle.flow_systems.specs.FreeValues.{Follows}
@@ -23,6 +23,7 @@ ends-kept k fs [] = refl
 ends-kept k fs (Guard form ∷ actions) = ends-kept k fs actions
 ends-kept k fs (Assign var form ∷ actions) = ends-kept k (slice_set fs var (composed form fs)) actions
 ends-kept k fs (Havoc var ∷ actions) = ends-kept (suc k) (slice_set fs var (column k)) actions
+ends-kept k fs (Check about ∷ actions) = ends-kept k fs actions
 
 ends-zero : (k : ℕ) (fs : List Affine) (actions : List Action) → ends_from k fs (moves Zero actions)
     ≡ ends_from k fs (map linear_action actions)
@@ -31,6 +32,7 @@ ends-zero k fs [] = refl
 ends-zero k fs (Guard form ∷ actions) = ends-zero k fs actions
 ends-zero k fs (Assign var form ∷ actions) = ends-zero k (slice_set fs var (composed (linear_form form) fs)) actions
 ends-zero k fs (Havoc var ∷ actions) = ends-zero (suc k) (slice_set fs var (column k)) actions
+ends-zero k fs (Check about ∷ actions) = ends-zero k fs actions
 
 -- where the moves end
 module _ (n : ℕ) (start free : Word) (y : RationalState) (l : length start ≡ n) where

@@ -13,7 +13,7 @@ use Rattle.base_fractions.specs.Extended.{extended}
 use Rattle.base_fractions.specs.Fits.{long_limit}
 use Rattle.base_fractions.specs.Operation.{first_wide}
 use Rattle.flow_edges.specs.declared.edge.Action.{Action}
-use Rattle.flow_edges.specs.declared.edge.Action.TheVariants.{Guard, Assign, Havoc}
+use Rattle.flow_edges.specs.declared.edge.Action.TheVariants.{Guard, Assign, Havoc, Check}
 use Rattle.flow_edges.specs.declared.edge.Edge.{Edge}
 use Rattle.flow_systems.specs.Equations.{Equations, Vector}
 use Rattle.flow_systems.specs.declared.system.System.{System}
@@ -94,6 +94,7 @@ frees_few [] = omega arith
 frees_few (Guard form ∷ actions) = let h = frees_few actions in omega (arith, h)
 frees_few (Assign var form ∷ actions) = let h = frees_few actions in omega (arith, h)
 frees_few (Havoc var ∷ actions) = let h = frees_few actions in omega (arith, h)
+frees_few (Check about ∷ actions) = let h = frees_few actions in omega (arith, h)
 
 forms_few : (n : ℕ) (actions : List Action) → length (guard_forms n actions) ≤ length actions
 unfolding guard_forms
