@@ -1,4 +1,4 @@
--- What the system of equations has to do with the values above them.
+-- What the system of equations has to do with the values above them, and what is so of the least of these values whatever their system.
 use Rattle.std.specs.Prelude.{◌≡◌, ◌↔◌, ℕ, ◌<◌, List, length, IsTrue}
 use Rattle.base_numbers.specs.Extended.{pos_inf}
 use Rattle.flow_systems.specs.Equations.{Vector, PostSolution, Least}
@@ -23,7 +23,7 @@ abbrev pub LeastAboveEqualRightSides : Type 0
 LeastAboveEqualRightSides = (equations : List Equation) (values : Values) → IsTrue (are_equations equations) →
     IsLeastAbove equations values → EqualsRightSides equations values
 
--- there is one least value for each name
+-- there is at most one least value for each name
 abbrev pub AtMostOneLeastAbove : Type 0
 AtMostOneLeastAbove = (equations : List Equation) (values others : Values) → IsLeastAbove equations values → IsLeastAbove equations others →
     (k : ℕ) → k < length equations → values k ≡ others k

@@ -20,7 +20,7 @@ pub fn least_above_equal_right_sides()
     ensures { LeastAboveEqualRightSides }
 {}
 
-/// There is one least value for each name.
+/// There is at most one least value for each name.
 pub fn at_most_one_least_above()
     ensures { AtMostOneLeastAbove }
 {}

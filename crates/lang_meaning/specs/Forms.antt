@@ -1,4 +1,4 @@
--- Forms over so many variables, and how they are combined.
+-- Forms over a number of variables: sums, differences and multiples. A product of two, which may be refused, is in `Walk.antt`.
 use Rattle.std.specs.Prelude.{ℕ, ℤ, pos, ◌+◌, ◌+ℤ◌, ◌-ℤ◌, ◌*ℤ◌, Bool, true, false, List, [], ◌∷◌, nat_abs, nat_le, replicate, slice_set}
 use Rattle.std.specs.List.{list_all}
 use Rattle.std.specs.Ordering.{int_eq}

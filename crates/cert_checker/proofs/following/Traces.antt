@@ -9,7 +9,7 @@ use Rattle.base_fractions.specs.Fits.{long_limit}
 use Rattle.base_fractions.specs.Operation.{Operation, is_wide, first_wide, operation_of}
 use Rattle.base_fractions.specs.declared.wide.Wide.{Wide}
 use Rattle.flow_edges.specs.declared.edge.Action.{Action}
-use Rattle.flow_edges.specs.declared.edge.Action.TheVariants.{Guard, Assign, Havoc}
+use Rattle.flow_edges.specs.declared.edge.Action.TheVariants.{Guard, Assign, Havoc, Check}
 use Rattle.flow_edges.specs.declared.edge.Edge.{Edge}
 use Rattle.flow_systems.specs.declared.spot.Site.{Site}
 use Rattle.flow_systems.specs.States.{RationalState, dotℚ}
@@ -156,6 +156,7 @@ count_same [] = refl
 count_same (Guard form ∷ actions) = count_same actions
 count_same (Assign var form ∷ actions) = count_same actions
 count_same (Havoc var ∷ actions) = ap suc (count_same actions)
+count_same (Check about ∷ actions) = count_same actions
 
 module _ (site : Site) (f : Fault) (system : Equations) (z : Vector) (edge : Edge) (row : List ℤ) (t : Pieces)
     (start : length t.start ≡ system.variables) (free : length t.free ≡ free_count edge.actions) where

@@ -7,7 +7,7 @@ use Rattle.std.specs.List.{list_all}
 use Rattle.std.proofs.lemmas.Bool.{leb-true, ltb-true}
 use Rattle.std.proofs.lemmas.List.Folds.{list_all_at}
 use Rattle.flow_edges.specs.declared.edge.Action.{Action}
-use Rattle.flow_edges.specs.declared.edge.Action.TheVariants.{Guard, Assign, Havoc}
+use Rattle.flow_edges.specs.declared.edge.Action.TheVariants.{Guard, Assign, Havoc, Check}
 use Rattle.flow_edges.specs.FlowLimits.{is_edge, is_action}
 use Rattle.flow_systems.specs.declared.system.System.{System}
 use Rattle.flow_systems.proofs.Sizes.{both, flow_sizes}
@@ -29,6 +29,7 @@ frees_within [] = omega arith
 frees_within (Guard form ∷ actions) = omega (arith, frees_within actions)
 frees_within (Assign var form ∷ actions) = omega (arith, frees_within actions)
 frees_within (Havoc var ∷ actions) = omega (arith, frees_within actions)
+frees_within (Check about ∷ actions) = omega (arith, frees_within actions)
 
 edge_is : (system : System) (edge : ℕ) → edge < length system.flow.edges
     → IsTrue (is_edge (length system.flow.names) (length system.flow.points) (edge_at system edge))
@@ -95,6 +96,7 @@ forms_count k fs [] = omega arith
 forms_count k fs (Guard form ∷ actions) = omega (arith, forms_count k fs actions)
 forms_count k fs (Assign var form ∷ actions) = omega (arith, forms_count k (slice_set fs var (composed form fs)) actions)
 forms_count k fs (Havoc var ∷ actions) = omega (arith, forms_count (suc k) (slice_set fs var (column k)) actions)
+forms_count k fs (Check about ∷ actions) = omega (arith, forms_count k fs actions)
 
 -- and no more guards than actions
 pub few_guards : (n : ℕ) (actions : List Action) → length (guard_forms n actions) ≤ length actions
