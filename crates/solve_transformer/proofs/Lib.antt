@@ -1,2 +1,3 @@
 pub mod splits
 pub mod values
+pub mod place_laws

@@ -3,3 +3,4 @@ pub mod Splits
 pub mod Readings
 pub mod Meanings
 pub mod Places
+pub mod PlaceLaws

@@ -1,6 +1,5 @@
 -- All that is said of the answer at a place.
-use Rattle.std.proofs.Common.{◌≡◌, ◌∙◌, ℕ, List, [], ◌++◌, false, true≢false, length, map, Some, None, Ok, Err, refl, ap, sym, subst}
-use Rattle.base_numbers.specs.Rational.{ℚ}
+use Rattle.std.proofs.Common.{◌≡◌, ◌∙◌, ℕ, List, [], false, true≢false, length, map, None, Ok, Err, refl, ap, sym, subst}
 use Rattle.base_fractions.specs.Fits.{long_limit}
 use Rattle.base_fractions.specs.Operation.{first_wide, operation_of}
 use Rattle.flow_edges.specs.declared.edge.Edge.{Edge}
@@ -20,9 +19,8 @@ use Rattle.solve_composition.specs.declared.value.Value.{Value}
 use Rattle.solve_composition.specs.declared.value.Value.TheVariants.{Unreached}
 use Rattle.solve_composition.specs.Behind.{end_forms}
 use Rattle.solve_composition.specs.Composed.{dense}
-use Rattle.solve_transformer.specs.declared.place.Placed.{Placed}
 use Rattle.solve_transformer.specs.Meanings.{HasEvidence}
-use Rattle.solve_transformer.specs.Places.{AnswersAt, IsPartFault, IsPlaceFault, ends_at, ends_reading, sides_of, state_after, state_reading}
+use Rattle.solve_transformer.specs.Places.{AnswersAt, IsPartFault, IsPlaceFault, ends_at, ends_reading, sides_of, state_reading}
 use Rattle.solve_transformer.specs.Values.{IsLowestLost, IsOperatorFault, IsValue, NoneWide, problem_reading, whole_problem}
 use Rattle.solve_transformer.proofs.place.Outcomes.{value_state, value_reading}
 use Rattle.solve_transformer.proofs.transform.Answered.{answered_lost}
@@ -65,45 +63,45 @@ module _ (system : Equations) (z : Vector) (edge : Edge) (reached : lost (z edge
 
     module _ (v : Value) (is : IsValue system z edge [] v) (evidence : HasEvidence system z edge [] v) (fits : NoneWide system z edge [])
         (ends : List Affine) (same : ends ≡ map (dense (width system.variables edge.actions)) (end_forms system.variables edge.actions))
-        where
-      reading_is : ends_reading ends v ≡ state_reading system.variables edge.actions (lp (whole_problem system z edge []))
-      reading_is = ap (λ (fs : List Affine). ends_reading fs v) same ∙ value_reading system z edge reached v is
+      where
+        reading_is : ends_reading ends v ≡ state_reading system.variables edge.actions (lp (whole_problem system z edge []))
+        reading_is = ap (λ (fs : List Affine). ends_reading fs v) same ∙ value_reading system z edge reached v is
 
-      -- where the state is read, too
-      pub placed_found : (state : Rattle.std.specs.Prelude.Option RationalState) → state ≡ ends_at ends v
-          → first_wide long_limit (ends_reading ends v) ≡ None → AnswersAt system z edge (Ok (record { value = v; state = state }))
-      placed_found state e none = record {
-        value = is;
-        evidence = evidence;
-        state = e ∙ ap (λ (fs : List Affine). ends_at fs v) same ∙ value_state system z edge reached v is;
-        fits = λ found. (
-          sides,
-          (fits found).0,
-          first_wide_later long_limit (problem_reading system z edge [])
-              (state_reading system.variables edge.actions (lp (whole_problem system z edge []))) (fits found).1
-              ∙ ap (first_wide long_limit) (sym reading_is) ∙ none,
-        );
-        refused = tt;
-      }
+        -- where the state is read, too
+        pub placed_found : (state : Rattle.std.specs.Prelude.Option RationalState) → state ≡ ends_at ends v
+            → first_wide long_limit (ends_reading ends v) ≡ None → AnswersAt system z edge (Ok (record { value = v; state = state }))
+        placed_found state e none = record {
+          value = is;
+          evidence = evidence;
+          state = e ∙ ap (λ (fs : List Affine). ends_at fs v) same ∙ value_state system z edge reached v is;
+          fits = λ found. (
+            sides,
+            (fits found).0,
+            first_wide_later long_limit (problem_reading system z edge [])
+                (state_reading system.variables edge.actions (lp (whole_problem system z edge []))) (fits found).1
+                ∙ ap (first_wide long_limit) (sym reading_is) ∙ none,
+          );
+          refused = tt;
+        }
 
-      -- and where it isn't
-      pub placed_unread : (fault : OperationFault) (part : PartFault) → IsFaultOf (ends_reading ends v) fault
-          → IsPartFault Reading fault part → AnswersAt system z edge (Err part)
-      placed_unread fault part h e = record { value = tt; evidence = tt; state = tt; fits = tt; refused = unread fault part h e }
-        where
-          unread : (fault : OperationFault) (part : PartFault) → IsFaultOf (ends_reading ends v) fault → IsPartFault Reading fault part
-              → IsPlaceFault system z edge part
-          unread (WideFault wide) part h e =
-              subst (IsPlaceFault system z edge) (sym e) (
-                reached,
-                (
-                  sides,
+        -- and where it isn't
+        pub placed_unread : (fault : OperationFault) (part : PartFault) → IsFaultOf (ends_reading ends v) fault
+            → IsPartFault Reading fault part → AnswersAt system z edge (Err part)
+        placed_unread fault part h e = record { value = tt; evidence = tt; state = tt; fits = tt; refused = unread fault part h e }
+          where
+            unread : (fault : OperationFault) (part : PartFault) → IsFaultOf (ends_reading ends v) fault → IsPartFault Reading fault part
+                → IsPlaceFault system z edge part
+            unread (WideFault wide) part h e =
+                subst (IsPlaceFault system z edge) (sym e) (
+                  reached,
                   (
-                    (fits reached).0,
-                    first_wide_later long_limit (problem_reading system z edge [])
-                        (state_reading system.variables edge.actions (lp (whole_problem system z edge []))) (fits reached).1
-                        ∙ ap (first_wide long_limit) (sym reading_is) ∙ h,
+                    sides,
+                    (
+                      (fits reached).0,
+                      first_wide_later long_limit (problem_reading system z edge [])
+                          (state_reading system.variables edge.actions (lp (whole_problem system z edge []))) (fits reached).1
+                          ∙ ap (first_wide long_limit) (sym reading_is) ∙ h,
+                    ),
                   ),
-                ),
-              )
-          unread NoMemoryFault part h e = subst (IsPlaceFault system z edge) (sym e) tt
+                )
+            unread NoMemoryFault part h e = subst (IsPlaceFault system z edge) (sym e) tt

@@ -1,16 +1,14 @@
 -- What the outcome of the problem at a place says of the state there.
-use Rattle.std.proofs.Common.{◌≡◌, ◌∙◌, ℕ, List, [], ◌∷◌, ◌++◌, length, map, Some, false, true≢false, ℤ, refl, ap, ap₂, sym, subst}
+use Rattle.std.proofs.Common.{◌≡◌, ◌∙◌, ℕ, List, [], ◌∷◌, length, map, Some, false, true≢false, ℤ, refl, ap, ap₂, sym}
 use Rattle.base_numbers.specs.Rational.{ℚ}
 use Rattle.base_numbers.specs.Extended.{Ext as Extended}
 use Rattle.flow_edges.specs.declared.edge.Action.{Action}
 use Rattle.flow_edges.specs.declared.edge.Edge.{Edge}
 use Rattle.flow_systems.specs.Equations.{Equations, Vector}
-use Rattle.flow_systems.specs.declared.trace.Trace.{Trace}
-use Rattle.theory_validity.specs.Words.{Affine as Formal, Word, val, values, width, columns, ends_from, end_of, end_form, guard_forms}
+use Rattle.theory_validity.specs.Words.{Affine as Formal, Word, val, values, width, end_of, end_form, guard_forms}
 use Rattle.lp_theory.specs.Problem.{Outcome, best, unbounded, empty}
 use Rattle.lp_theory.specs.Simplex.{lp}
 use Rattle.lp_theory.specs.Free.{unsplit}
-use Rattle.theory_transformers.specs.Limits.{tabulate}
 use Rattle.theory_transformers.specs.EdgeProblems.{lost}
 use Rattle.theory_transformers.proofs.limits.Products.{length-tabulate}
 use Rattle.solve_composition.specs.declared.value.Value.{Value}

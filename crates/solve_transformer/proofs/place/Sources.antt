@@ -8,7 +8,7 @@ use Rattle.flow_edges.specs.declared.edge.Action.{Action}
 use Rattle.flow_edges.specs.declared.edge.Action.TheVariants.{Guard}
 use Rattle.flow_edges.specs.Steps.{guards}
 use Rattle.flow_systems.specs.Equations.{Equations, Vector}
-use Rattle.theory_validity.specs.Words.{combined, free_count, width, guard_forms, end_form}
+use Rattle.theory_validity.specs.Words.{combined, width, guard_forms, end_form}
 use Rattle.solve_composition.specs.declared.affine.Affine.{Affine}
 use Rattle.solve_composition.specs.declared.placed.PlacedForms.{PlacedForms}
 use Rattle.solve_composition.specs.Behind.{placed_actions, placed_forms, end_forms}

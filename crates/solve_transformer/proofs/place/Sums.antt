@@ -9,7 +9,7 @@ use Rattle.base_numbers.proofs.rational.Laws.{+ℚ_assoc, +ℚ_idr, +ℚ_idl}
 use Rattle.base_fractions.specs.Fits.{Fits, long_limit}
 use Rattle.base_fractions.specs.declared.wide.Op.TheVariants.{Add}
 use Rattle.base_fractions.specs.declared.wide.Wide.{Wide}
-use Rattle.base_fractions.specs.Operation.{Operation, Answers, first_wide, operation_of, product_sum_operations}
+use Rattle.base_fractions.specs.Operation.{Operation, Answers, first_wide, product_sum_operations}
 use Rattle.flow_systems.proofs.Widths.{first_wide_later, first_wide_sooner, one_answer, after}
 use Rattle.theory_validity.specs.Words.{val}
 use Rattle.solve_composition.specs.declared.affine.Affine.{Affine}

@@ -1,4 +1,4 @@
-use Rattle.std.proofs.Common.{◌<◌, length, min, arith}
+use Rattle.std.proofs.Common.{arith}
 use Rattle.std.proofs.lemmas.Result.{err_from_is_err_and}
 use Rattle.base_fractions.specs.Operation.{operation_of}
 use Rattle.solve_transformer.proofs.place.Sums.{summed_none, summed_more, summed_wide, summed_all}

@@ -1,8 +1,7 @@
-use Rattle.std.proofs.Common.{◌≡◌, ◌∙◌, ◌+◌, [], length, ap, refl}
+use Rattle.std.proofs.Common.{◌∙◌, ◌+◌, [], length, ap, refl}
 use Rattle.std.proofs.lemmas.Result.{err_from_is_err_and}
 use Rattle.flow_systems.specs.Equations.{Vector}
 use Rattle.flow_systems.specs.View.{equations_of}
-use Rattle.solve_composition.specs.declared.placed.PlacedForms.{PlacedForms}
 use Rattle.solve_composition.specs.Composed.{dense}
 use Rattle.solve_transformer.specs.Places.{placed_edge, nothing}
 use Rattle.solve_transformer.specs.Splits.{bounds_at}
