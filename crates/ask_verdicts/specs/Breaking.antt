@@ -1,5 +1,5 @@
 -- What breaks a condition at a place: at a point, behind actions from it. The cases against a condition are those in which it may be false.
-use Rattle.std.specs.Prelude.{◌≡◌, ◌==◌, ◌&&◌, ℕ, ◌<◌, Bool, List, [], ◌∷◌, length, get_or, nat_le}
+use Rattle.std.specs.Prelude.{◌≡◌, ◌&&◌, ℕ, ◌<◌, Bool, List, [], ◌∷◌, length, get_or, nat_le}
 use Rattle.std.specs.List.{list_all}
 use Rattle.base_numbers.specs.Rational.{zero_ℚ, ◌≤ℚ◌}
 use Rattle.lang_tree.specs.declared.form.Form.{Form}
