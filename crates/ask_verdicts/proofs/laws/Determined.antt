@@ -1,5 +1,5 @@
 -- Verdicts and refusals are determined.
-use Rattle.std.proofs.Common.{◌≡◌, ℕ, refl}
+use Rattle.std.proofs.Common.{refl}
 use Rattle.ask_verdicts.specs.Laws.{OpenStatesBreak, VerdictsAreOne, WideVerdictsDontFit, RefusalsAreOne}
 use Rattle.ask_verdicts.specs.declared.outcome.VerdictFault.TheVariants.{Wide, NoMemory}
 use Rattle.ask_verdicts.proofs.verdicts.Once.{breaks_some, same_verdict, first_unfit, same_refusal}

@@ -4,7 +4,7 @@ use Rattle.std.specs.Prelude.{pos}
 use Rattle.base_numbers.specs.Rational.{whole, zero_ℚ, ◌≤ℚ◌}
 use Rattle.base_numbers.proofs.rational.Laws.{whole-zero, whole_le}
 use Rattle.lang_tree.specs.declared.form.Form.{Form}
-use Rattle.lang_tree.specs.Meaning.{State, value, MayBe}
+use Rattle.lang_tree.specs.Meaning.{State, value}
 use Rattle.lang_tree.specs.Cases.{cases_of, HoldAll, HoldSome}
 use Rattle.lang_tree.proofs.cases.CaseLaw.{cases_law}
 use Rattle.flow_systems.specs.States.{rational}

@@ -1,16 +1,13 @@
 -- Vectors with the same bounds at a point say the same of the places behind it.
-use Rattle.std.proofs.Common.{◌≡◌, ◌∙◌, ℕ, ◌<◌, List, [], ◌++◌, length, get_or, Some, None, sym, ap, subst}
+use Rattle.std.proofs.Common.{◌≡◌, ◌∙◌, ℕ, ◌<◌, List, [], ◌++◌, length, get_or, None, sym, ap, subst}
 use Rattle.std.proofs.lemmas.Option.{slice_get_within}
-use Rattle.base_numbers.specs.Rational.{ℚ}
 use Rattle.base_numbers.specs.Extended.{fin, ◌≤ᴱ◌}
-use Rattle.base_fractions.specs.declared.wide.Wide.{Wide}
 use Rattle.base_fractions.specs.Fits.{long_limit}
 use Rattle.base_fractions.specs.Operation.{operation_of, first_wide}
 use Rattle.lang_tree.specs.declared.form.Form.{Form}
 use Rattle.flow_edges.specs.declared.edge.Action.{Action}
 use Rattle.flow_systems.specs.States.{RationalState, dotℚ}
 use Rattle.flow_systems.specs.Equations.{Equations, Vector}
-use Rattle.flow_systems.specs.declared.spot.Part.{Part}
 use Rattle.flow_systems.specs.declared.spot.PartFault.{PartFault}
 use Rattle.flow_systems.specs.declared.spot.PartFault.TheVariants.{Wide as WidePart, NoMemory as NoMemoryPart}
 use Rattle.theory_validity.specs.Words.{width, guard_forms, end_form}

@@ -1,5 +1,5 @@
 -- The cases that the loop has judged.
-use Rattle.std.proofs.Common.{◌≡◌, ◌∙◌, ◌↔◌, ℕ, ◌+◌, ◌<◌, ◌≤◌, List, [], length, get_or, Some, None, sym, subst}
+use Rattle.std.proofs.Common.{◌≡◌, ◌∙◌, ◌↔◌, ℕ, ◌+◌, ◌<◌, List, [], length, get_or, Some, None, subst}
 use Rattle.std.specs.Prelude.{Option, MatchOption}
 use Rattle.std.proofs.lemmas.List.{get_or_default}
 use Rattle.base_numbers.specs.Rational.{ℚ}
@@ -13,7 +13,6 @@ use Rattle.flow_systems.specs.declared.spot.PartFault.TheVariants.{Wide as WideP
 use Rattle.lp_simplex.specs.Operations.{capped}
 use Rattle.ask_verdicts.specs.Breaking.{NoneBreaks, NoneOpen}
 use Rattle.ask_verdicts.specs.Verdicts.{FitsFor, IsBreaking, IsFaultFor, IsOpen, IsFirstFault, AllFit}
-use Rattle.ask_verdicts.specs.declared.outcome.Verdict.{Verdict}
 use Rattle.ask_verdicts.specs.declared.outcome.Verdict.TheVariants.{Proved, Open}
 use Rattle.ask_verdicts.specs.declared.outcome.VerdictFault.TheVariants.{Wide as WideVerdict}
 use Rattle.ask_verdicts.proofs.firsts.Firsts.{IsPassed, passed_more, found_fits}
