@@ -87,9 +87,11 @@ module _ (system : Equations) (z : Vector) (check : CheckCases) where
               );
             }
 
+            -- an open verdict isn't `Proved`, and some state breaks the check on the edge
             pub on_unproved : (Open x ≡ Proved) ↔ NoneOn system z check edge
             on_unproved = ((λ f. absurd (open_apart x f)), (λ none. absurd (on_apart x on_open none)))
 
+            -- no operation is wide up to the place that is open
             pub on_fits : FitsOn system z check edge
             on_fits =
                 found_fits (NoneAt system z check edge) (FitsAt system z check edge) k judged fits_here (length edge.actions)
@@ -149,6 +151,7 @@ module _ (system : Equations) (z : Vector) (check : CheckCases) where
           state = first_here;
         }
 
+        -- no operation is wide up to the edge on which the check is open
         pub edge_open_fits : CheckFits system z check
         edge_open_fits =
             found_fits (λ i. NoneOn system z check (edge_of system i)) (λ i. FitsOn system z check (edge_of system i)) e judged edge_fits
