@@ -85,7 +85,7 @@ returns c =
     let w = c.args.variables + c.count_frees-frees.result in
     let g = c.in_ok-walked.ensures (columns c.args.variables) start in
     let r = c.in_ok-add_guards.ensures (ends_from (length c.deref_mut.result.now) (columns c.args.variables) c.args.before.now)
-        (end ∙ g.1) in
+    (end ∙ g.1) in
     placed_composed c.args.variables w (length c.deref_mut.result.now) c.args.before.now c.args.guards.now
     (width_is c.args.variables c.count_frees-frees.result c.args.before.now c.count_frees-frees.ensures.count)
     (start_size w c.args.variables c.deref_mut.result.now start) (g.2 []) c.count_frees-frees.result
