@@ -31,7 +31,8 @@ module _ (system : Equations) (z : Vector) (checks : List CheckCases) (named oth
   same_wide : WideChecks named edge case part wide ≡ WideChecks other later after more again
   same_wide =
       let items = same_item (CheckFits system z) checks (IsCheckFault system z) (IsCheckFault system z) named other
-      (WideCheck edge case part wide) (WideCheck later after more again) (λ check h fit. check_unfit system z check edge case part wide h fit)
+      (WideCheck edge case part wide) (WideCheck later after more again)
+      (λ check h fit. check_unfit system z check edge case part wide h fit)
       (λ check h fit. check_unfit system z check later after more again h fit) a b in
       let here = subst (λ (c : CheckCases). IsCheckFault system z c (WideCheck later after more again)) (sym items.0) b.here in
       let same = same_check_fault system z a.item edge later case after part more wide again a.here here in

@@ -27,7 +27,8 @@ module _ (system : Equations) (z : Vector) (check : CheckCases) where
 
   same_on : (edge : Edge) (x y : RationalState) → OpenOn system z check edge x → OpenOn system z check edge y → x ≡ y
   same_on edge x y a b =
-      let number = same_first (NoneAt system z check edge) (OpenAt system z check edge) (open_apart_at edge) (length edge.actions) x y a b in
+      let number = same_first (NoneAt system z check edge) (OpenAt system z check edge) (open_apart_at edge) (length edge.actions) x y a b
+      in
       same_state system z edge.from (take a.number edge.actions) check.against x y a.here.1
       (subst (λ k. IsOpen system z edge.from (take k edge.actions) check.against y) (sym number) b.here.1)
 
@@ -59,7 +60,8 @@ module _ (system : Equations) (z : Vector) (check : CheckCases) where
       → FaultOn system z check edge (WideVerdict case part wide) → FaultOn system z check edge (WideVerdict other more again)
       → (case ≡ other) × (part ≡ more) × (wide ≡ again)
   same_fault_on edge case other part more wide again a b =
-      let number = same_refused (NoneAt system z check edge) (FitsAt system z check edge) (length edge.actions) (FaultAt system z check edge)
+      let number = same_refused (NoneAt system z check edge) (FitsAt system z check edge) (length edge.actions)
+      (FaultAt system z check edge)
       (FaultAt system z check edge) (WideVerdict case part wide) (WideVerdict other more again) (fault_apart_at edge case part wide)
       (fault_apart_at edge other more again) a b in
       same_refusal system z edge.from (take a.number edge.actions) check.against case other part more wide again a.here.1

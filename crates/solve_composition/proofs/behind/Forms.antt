@@ -136,7 +136,8 @@ module _ (n w k : ℕ) (before : List Action) (gs : List Form) (e : w ≡ width 
         let cols = columns n in
         let made = l ∙ ap₂ (λ xs ys. xs ++ ys) g (sym (dense_composed w (ends_from k cols before) gs))
         ∙ sym (map-append (dense w) (guards_from k cols before) (map (λ x. composed x (ends_from k cols before)) gs))
-        ∙ ap (map (dense w)) (sym (guards_behind k cols before gs)) ∙ ap (λ j. map (dense w) (guards_from j cols (placed_actions before gs))) s
+        ∙ ap (map (dense w)) (sym (guards_behind k cols before gs)) ∙ ap
+        (λ j. map (dense w) (guards_from j cols (placed_actions before gs))) s
         ∙ ap (map (dense w)) (sym (guard_forms_are n (placed_actions before gs)))
         ∙ ap (λ v. map (dense v) (guard_forms n (placed_actions before gs))) wide in
         let ended = t ∙ ap (map (dense w)) (sym (ends_behind k cols before gs))

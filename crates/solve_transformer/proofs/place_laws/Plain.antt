@@ -113,7 +113,8 @@ unfolding dot
 unit_dot [] xs u f = nothing_fits
 unit_dot (c ∷ cs) [] u f = nothing_fits
 unit_dot (c ∷ cs) (x ∷ xs) u f =
-    ⊎_elim (λ z. subst (Fits long_limit) (sym (ap (λ s. s +ℚ dot cs xs) (zero_times c x z.0) ∙ +ℚ_idl (dot cs xs))) (unit_dot cs xs z.1 f.1))
+    ⊎_elim (λ z. subst (Fits long_limit) (sym (ap (λ s. s +ℚ dot cs xs) (zero_times c x z.0) ∙ +ℚ_idl (dot cs xs)))
+    (unit_dot cs xs z.1 f.1))
     (λ o. subst (Fits long_limit) (sym (ap₂ (λ s t. s +ℚ t) (ap (λ d. d *ℚ x) o.0 ∙ *ℚ_idl x) (zero_dot cs xs o.1) ∙ +ℚ_idr x)) f.0) u
 
 column_read : (w k : ℕ) (xs : List ℚ) → AllFit xs → first_wide long_limit (form_reading xs (dense w (column k))) ≡ None

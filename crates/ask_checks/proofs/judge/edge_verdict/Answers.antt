@@ -31,29 +31,35 @@ returns-in_err-verdict-clause-refused c =
 pub returns-in-Open-clause-proved : goal.returns-in-Open-clause-proved
 returns-in-Open-clause-proved c =
     let s = c.args.system.now in
-    let says = subst (SaysOpen (equations_of s) (vector_at s c.args.bounds.now) c.args.edge.now.from _ c.as_slice-against.result.now) c.in-Open.is
+    let says = subst (SaysOpen (equations_of s) (vector_at s c.args.bounds.now) c.args.edge.now.from _ c.as_slice-against.result.now)
+    c.in-Open.is
     c.in_ok-verdict.ensures.state in
     on_unproved (equations_of s) (vector_at s c.args.bounds.now) c.args.check.now c.args.edge.now c.loop-place.place c.loop-place.invariant
     c.as_slice-actions.result.now c.as_slice-actions.ensures c.index-actions-place.result c.loop-place-test.true c.index-actions-place.is
-    (c.if-is_check.ensures.0 refl) _ refl c.as_slice-against.result.now c.as_slice-against.ensures c.in_ok-verdict.ensures.fits c.in-Open.state says
+    (c.if-is_check.ensures.0 refl) _ refl c.as_slice-against.result.now c.as_slice-against.ensures c.in_ok-verdict.ensures.fits
+    c.in-Open.state says
 
 pub returns-in-Open-clause-state : goal.returns-in-Open-clause-state
 returns-in-Open-clause-state c =
     let s = c.args.system.now in
-    let says = subst (SaysOpen (equations_of s) (vector_at s c.args.bounds.now) c.args.edge.now.from _ c.as_slice-against.result.now) c.in-Open.is
+    let says = subst (SaysOpen (equations_of s) (vector_at s c.args.bounds.now) c.args.edge.now.from _ c.as_slice-against.result.now)
+    c.in-Open.is
     c.in_ok-verdict.ensures.state in
     on_open (equations_of s) (vector_at s c.args.bounds.now) c.args.check.now c.args.edge.now c.loop-place.place c.loop-place.invariant
     c.as_slice-actions.result.now c.as_slice-actions.ensures c.index-actions-place.result c.loop-place-test.true c.index-actions-place.is
-    (c.if-is_check.ensures.0 refl) _ refl c.as_slice-against.result.now c.as_slice-against.ensures c.in_ok-verdict.ensures.fits c.in-Open.state says
+    (c.if-is_check.ensures.0 refl) _ refl c.as_slice-against.result.now c.as_slice-against.ensures c.in_ok-verdict.ensures.fits
+    c.in-Open.state says
 
 pub returns-in-Open-clause-fits : goal.returns-in-Open-clause-fits
 returns-in-Open-clause-fits c =
     let s = c.args.system.now in
-    let says = subst (SaysOpen (equations_of s) (vector_at s c.args.bounds.now) c.args.edge.now.from _ c.as_slice-against.result.now) c.in-Open.is
+    let says = subst (SaysOpen (equations_of s) (vector_at s c.args.bounds.now) c.args.edge.now.from _ c.as_slice-against.result.now)
+    c.in-Open.is
     c.in_ok-verdict.ensures.state in
     on_fits (equations_of s) (vector_at s c.args.bounds.now) c.args.check.now c.args.edge.now c.loop-place.place c.loop-place.invariant
     c.as_slice-actions.result.now c.as_slice-actions.ensures c.index-actions-place.result c.loop-place-test.true c.index-actions-place.is
-    (c.if-is_check.ensures.0 refl) _ refl c.as_slice-against.result.now c.as_slice-against.ensures c.in_ok-verdict.ensures.fits c.in-Open.state says
+    (c.if-is_check.ensures.0 refl) _ refl c.as_slice-against.result.now c.as_slice-against.ensures c.in_ok-verdict.ensures.fits
+    c.in-Open.state says
 
 pub loop-place-preserved : goal.loop-place-preserved
 loop-place-preserved c =

@@ -9,7 +9,8 @@ use Rattle.ask_checks.proofs.list.check_verdicts.Goals as goal
 pub loop-number-preserved : goal.loop-number-preserved
 loop-number-preserved c =
     let s = c.args.system.now in
-    judged_push (IsCheckVerdict (equations_of s) (vector_at s c.args.bounds.now)) (CheckFits (equations_of s) (vector_at s c.args.bounds.now))
+    judged_push (IsCheckVerdict (equations_of s) (vector_at s c.args.bounds.now))
+    (CheckFits (equations_of s) (vector_at s c.args.bounds.now))
     c.args.checks.now c.loop-number.number c.index-checks-number.result c.loop-number-test.true c.index-checks-number.is
     c.loop-number.list.items c.loop-number.invariant c.push.new.self.items c.in-Ok.verdict c.in-Ok.ensures.verdict c.in-Ok.ensures.fits
     c.in_ok-push-in-Ok.ensures.items
