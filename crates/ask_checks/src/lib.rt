@@ -8,8 +8,7 @@ mod list;
 mod outcome;
 
 pub use law::{
-    open_states_break, proved_checks_hold, proved_verdicts_hold, refusals_are_one,
-    verdicts_are_one,
+    open_states_break, proved_checks_hold, proved_verdicts_hold, refusals_are_one, verdicts_are_one,
 };
 pub use lines::checks_text;
 pub use list::{check_verdicts, has_open};

@@ -39,12 +39,14 @@ pub fn check_verdicts(
     for (number, check) in checks.iter().enumerate() {
         match check_verdict(alloc, system, bounds, check) {
             Ok(verdict) => list.push(verdict)?,
-            Err(CheckFault::Wide {
-                edge,
-                case,
-                part,
-                wide,
-            }) => {
+            Err(
+                CheckFault::Wide {
+                    edge,
+                    case,
+                    part,
+                    wide,
+                },
+            ) => {
                 return Err(ChecksFault::Wide {
                     check: capped(number),
                     edge,

@@ -1,5 +1,5 @@
 -- A check is broken somewhere, or at none of its places.
-use Rattle.std.proofs.Common.{◌≡◌, ◌∙◌, ℕ, ◌<◌, List, [], length, get_or, take, refl, sym, ap, subst}
+use Rattle.std.proofs.Common.{◌≡◌, ◌∙◌, ℕ, ◌<◌, List, [], length, take, sym, subst}
 use Rattle.std.specs.Prelude.{Contains}
 use Rattle.std.proofs.lemmas.List.{get_or_default}
 use Rattle.lang_tree.specs.declared.form.Form.{Form}
@@ -51,7 +51,7 @@ module _ (system : Equations) (z : Vector) (check : CheckCases) where
   none_breaks_check none x b =
       let i = b.listed.0 in
       let is : edge_of system i ≡ b.edge = sym (get_or_default system.edges i b.edge (record { from = 0; to = 0; actions = [] }) b.listed.1)
-          ∙ b.listed.2 in
+      ∙ b.listed.2 in
       none_on b.edge x b.before b.place b.breaks (subst (NoneOn system z check) is (none i b.listed.1))
 
   -- the state of an open verdict breaks the check

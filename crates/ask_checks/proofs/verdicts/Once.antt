@@ -1,5 +1,5 @@
 -- There is one verdict on a check, and one refusal.
-use Rattle.std.proofs.Common.{◌≡◌, ◌∙◌, ℕ, List, length, take, refl, sym, ap, subst}
+use Rattle.std.proofs.Common.{◌≡◌, ◌∙◌, ℕ, length, take, refl, sym, ap, subst}
 use Rattle.base_numbers.specs.Rational.{ℚ}
 use Rattle.base_fractions.specs.declared.wide.Wide.{Wide}
 use Rattle.flow_edges.specs.declared.checked.CheckCases.{CheckCases}
