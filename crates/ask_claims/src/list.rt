@@ -31,7 +31,14 @@ pub fn verdicts(
 {
     let mut list = Vec::new(alloc);
     for (number, claim) in claims.iter().enumerate() {
-        match verdict(alloc, system, bounds, claim.point, &[], claim.against.as_slice()) {
+        match verdict(
+            alloc,
+            system,
+            bounds,
+            claim.point,
+            &[],
+            claim.against.as_slice(),
+        ) {
             Ok(verdict) => list.push(verdict)?,
             Err(VerdictFault::Wide { case, part, wide }) => {
                 return Err(ClaimsFault::Wide {
