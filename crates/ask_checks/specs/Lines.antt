@@ -1,5 +1,6 @@
 -- Verdicts on checks as a list of bytes.
-use Rattle.std.specs.Prelude.{◌+◌, ◌==◌, ◌++◌, ℕ, suc, not, List, [], ◌∷◌, codes, decimal, length, reverse, take, take_while}
+use Rattle.std.specs.Prelude.{◌+◌, ◌==◌, ◌++◌, ℕ, suc, not, List, [], ◌∷◌, codes, decimal, length, take}
+use Rattle.std.specs.List.{suffix_len}
 use Rattle.lang_tokens.specs.Lines.{line_at}
 use Rattle.lang_tree.specs.declared.check.CheckKind.{CheckKind}
 use Rattle.lang_tree.specs.declared.check.CheckKind.TheVariants.{Assert}
@@ -11,7 +12,7 @@ use Rattle.ask_verdicts.specs.declared.outcome.Verdict.{Verdict}
 
 -- one more than the bytes between the last line feed before a place and the place
 abbrev pub column_at : List ℕ → ℕ → ℕ
-column_at text at = 1 + length (take_while (λ b. not (b == 10)) (reverse (take at text)))
+column_at text at = 1 + suffix_len (λ b. not (b == 10)) (take at text)
 
 -- what a check is for
 abbrev pub kind_text : CheckKind → List ℕ

@@ -1,6 +1,5 @@
 -- Where a check stands on the edges of a system, and what breaks it there.
-use Rattle.std.specs.Prelude.{ℕ, ◌<◌, List, [], length, get_or, take, Contains}
-use Rattle.lang_tree.specs.declared.form.Form.{Form}
+use Rattle.std.specs.Prelude.{ℕ, List, [], get_or, take, Contains}
 use Rattle.flow_edges.specs.Checks.{StandsBehind}
 use Rattle.flow_edges.specs.declared.checked.CheckCases.{CheckCases}
 use Rattle.flow_edges.specs.declared.edge.Action.{Action}

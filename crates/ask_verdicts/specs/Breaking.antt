@@ -7,7 +7,6 @@ use Rattle.lang_tree.specs.Limits.{is_form}
 use Rattle.flow_edges.specs.declared.edge.Action.{Action}
 use Rattle.flow_systems.specs.States.{RationalState, valueℚ, Traces}
 use Rattle.flow_systems.specs.Equations.{Equations, Vector, Fits}
-use Rattle.ask_verdicts.specs.Firsts.{NoneBelow}
 
 -- all guards of a case have a value of at most 0 at a rational state
 abbrev pub PassesAll : List Form → RationalState → Type 0
@@ -35,7 +34,7 @@ NoneBreaks system z p before case = (x : RationalState) → Breaks system z p be
 
 -- nor any of the first n cases
 abbrev pub NoneOpen : Equations → Vector → ℕ → List Action → List (List Form) → ℕ → Type 0
-NoneOpen system z p before cases n = NoneBelow (λ k. NoneBreaks system z p before (get_or cases k [])) n
+NoneOpen system z p before cases n = (k : ℕ) → k < n → NoneBreaks system z p before (get_or cases k [])
 
 -- at most 256 guards, each over n variables
 abbrev pub is_case : ℕ → List Form → Bool

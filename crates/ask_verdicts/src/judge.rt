@@ -13,7 +13,7 @@ use crate::outcome::{Verdict, VerdictFault};
 use flow_edges::{Action, Case};
 use flow_systems::{Bounds, Fracs, PartFault, System};
 use lang_tree::Form;
-use solve_transformer::{Placed, placed_value};
+use solve_transformer::placed_value;
 use std::alloc::Global;
 
 /// The number of an item in a list, as faults give it: one above 4,294,967,295 as this greatest one.
@@ -47,8 +47,8 @@ fn breaking_state(
     ensures fits { OnOk result (FitsFor (equations_of system.now) (vector_at system.now bounds.now) point before.now case.now) }
     ensures refused { IfErr result (IsFaultFor (equations_of system.now) (vector_at system.now bounds.now) point before.now case.now) }
 {
-    let Placed { state, .. } = placed_value(alloc, system, bounds, point, before, case)?;
-    Ok(state)
+    let answer = placed_value(alloc, system, bounds, point, before, case)?;
+    Ok(answer.state)
 }
 
 /// The verdict of bounds on a condition at a place, which is behind actions from a point: `Proved` where a bound at the point is

@@ -1,7 +1,5 @@
 -- A proved check is true in every run.
-use Rattle.std.proofs.Common.{◌≡◌, ℕ, ◌<◌, false, List, length, refl, subst}
-use Rattle.std.specs.Prelude.{ℤ, IsTrue}
-use Rattle.lang_tree.specs.Cases.{cases_of}
+use Rattle.std.proofs.Common.{refl}
 use Rattle.flow_systems.specs.States.{rational}
 use Rattle.flow_systems.specs.Solutions.{equations_of_program}
 use Rattle.flow_systems.proofs.states.Checked.{checked_law}

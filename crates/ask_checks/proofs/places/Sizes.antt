@@ -1,9 +1,8 @@
 -- The edges of a system go from its points, with few actions over its variables; so have the first actions of one.
 use Rattle.std.proofs.Common.{◌≡◌, ℕ, zero, suc, ◌<◌, ◌≤◌, List, [], ◌∷◌, length, length-take, get_or, take, refl, sym, subst, arith}
-use Rattle.std.specs.Prelude.{IsTrue, Bool, nat_lt, nat_le, ◌&&◌}
+use Rattle.std.specs.Prelude.{IsTrue, Bool, nat_lt, nat_le}
 use Rattle.std.specs.List.{list_all}
 use Rattle.std.proofs.lemmas.Bool.{and_parts, and_from, leb-true, ltb-true}
-use Rattle.flow_edges.specs.declared.edge.Action.{Action}
 use Rattle.flow_edges.specs.declared.edge.Edge.{Edge}
 use Rattle.flow_edges.specs.declared.graph.Flow.{Flow}
 use Rattle.flow_edges.specs.FlowLimits.{is_action, is_edge}

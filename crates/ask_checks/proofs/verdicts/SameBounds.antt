@@ -1,5 +1,5 @@
 -- Vectors with the same bounds say the same of a check.
-use Rattle.std.proofs.Common.{◌≡◌, ℕ, ◌<◌, List, length, take}
+use Rattle.std.proofs.Common.{◌≡◌, ℕ, ◌<◌, length, take}
 use Rattle.flow_edges.specs.declared.checked.CheckCases.{CheckCases}
 use Rattle.flow_edges.specs.declared.edge.Edge.{Edge}
 use Rattle.flow_systems.specs.States.{RationalState}

@@ -78,9 +78,9 @@ all_cases : (n : ℕ) (cases : List (List Form)) → Each (Each (IsForm n)) case
     → IsTrue (list_all (is_case n) cases)
 all_cases n [] forms short = refl
 all_cases n (case ∷ cases) forms short =
-    let few = le-leb (length case) 256 short.0 in
     and_from (is_case n case) (list_all (is_case n) cases)
-    (and_from (nat_le (length case) 256) (list_all (is_form n) case) few (each_passes (is_form n) case forms.0))
+    (and_from (nat_le (length case) 256) (list_all (is_form n) case) (le-leb (length case) 256 short.0)
+    (each_passes (is_form n) case forms.0))
     (all_cases n cases forms.1 short.1)
 
 -- the cases of a condition that may be tested have few guards each, all over the variables
