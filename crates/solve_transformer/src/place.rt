@@ -21,13 +21,8 @@ ghost use Rattle.solve_composition.specs.Behind.{placed_actions, placed_forms};
 ghost use Rattle.solve_transformer.specs.Meanings.{HasEvidence};
 ghost use Rattle.solve_transformer.specs.Splits.{bounds_at};
 ghost use Rattle.solve_transformer.specs.Places.{placed_edge, nothing, state_after, sides_of, ends_at, ends_reading, form_reading};
-<<<<<<< HEAD
 ghost use Rattle.solve_transformer.specs.Places.{forms_reading, products_reading, AnswersAt, IsPartFault, IsPlaced, IsPlaceFault};
 ghost use Rattle.solve_transformer.specs.Places.{NoneWideAt};
-=======
-ghost use Rattle.solve_transformer.specs.Places.{forms_reading, products_reading, AnswersAt};
-ghost use Rattle.solve_transformer.specs.Places.{IsPartFault, IsPlaced, IsPlaceFault, NoneWideAt};
->>>>>>> d68d94a8c183ad07e8c417f387b6897467c594e1
 ghost use Rattle.solve_transformer.specs.Values.{IsValue};
 
 use crate::build::lowest_lost;

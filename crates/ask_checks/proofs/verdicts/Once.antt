@@ -27,13 +27,8 @@ module _ (system : Equations) (z : Vector) (check : CheckCases) where
 
   same_on : (edge : Edge) (x y : RationalState) → OpenOn system z check edge x → OpenOn system z check edge y → x ≡ y
   same_on edge x y a b =
-<<<<<<< HEAD
       let number = same_first (NoneAt system z check edge) (OpenAt system z check edge) (open_apart_at edge)
       (length edge.actions) x y a b in
-=======
-      let number = same_first (NoneAt system z check edge) (OpenAt system z check edge) (open_apart_at edge) (length edge.actions) x y a b
-      in
->>>>>>> d68d94a8c183ad07e8c417f387b6897467c594e1
       same_state system z edge.from (take a.number edge.actions) check.against x y a.here.1
       (subst (λ k. IsOpen system z edge.from (take k edge.actions) check.against y) (sym number) b.here.1)
 
