@@ -144,32 +144,42 @@ function wholeStates(planes, scale, flat) {
 
 export const placeName = ({ x, y }, flat) => (flat ? `${x}` : `(${x}, ${y})`);
 
-/** Names of corners beside them, away from the middle; of names that would lie on others the first stays. */
+/** Boxes for a name beside a place: first away from the middle, then turned further and further from there. */
+function boxesBeside({ x, y }, [away, down], width, scale, flat) {
+    const start = Math.atan2(down, away);
+    const turns = flat ? [0] : [0, 0.6, -0.6, 1.2, -1.2, 1.9, -1.9];
+    return turns.map((turn) => {
+        const [right, low] = flat ? [0, -1] : [Math.cos(start + turn), Math.sin(start + turn)];
+        const left = right > 0.35 ? x + 9 : right < -0.35 ? x - 9 - width : x - width / 2;
+        const level = y + low * (Math.abs(right) > 0.35 ? 10 : 16);
+        return {
+            x: Math.min(Math.max(left, scale.left + 4), scale.left + scale.width - width - 4),
+            y: Math.min(Math.max(level - 7, scale.top), scale.top + scale.height - 14),
+            width,
+            height: 14,
+        };
+    });
+}
+
+const overlap = (one, other) =>
+    one.x < other.x + other.width && other.x < one.x + one.width && one.y < other.y + other.height && other.y < one.y + one.height;
+
+/** Names of corners beside them, away from the middle, where there is a place for them. */
 function cornerNames(corners, scale, flat) {
     const group = draw('g', {});
-    const taken = [];
     const pixels = corners.map((corner) => ({ x: scale.x(corner.x.toNumber()), y: scale.y(corner.y.toNumber()) }));
-    const middle = {
-        x: pixels.reduce((sum, { x }) => sum + x, 0) / pixels.length,
-        y: pixels.reduce((sum, { y }) => sum + y, 0) / pixels.length,
-    };
+    const taken = pixels.map(({ x, y }) => ({ x: x - 5, y: y - 5, width: 10, height: 10 }));
+    const middle = (axis) => pixels.reduce((sum, place) => sum + place[axis], 0) / pixels.length;
     corners.forEach((corner, at) => {
         const { x, y } = pixels[at];
         const text = placeName(corner, flat);
-        const [away, down] = corners.length === 1 ? [1, -1] : [x - middle.x, y - middle.y];
-        const size = Math.hypot(away, down) || 1;
-        const side = away / size;
-        const width = text.length * 6.6;
-        const inside = (place) => Math.min(Math.max(place, scale.left + 4), scale.left + scale.width - width - 4);
-        const start = inside(side > 0.35 ? x + 9 : side < -0.35 ? x - 9 - width : x - width / 2);
-        const level = flat ? y - 14 : Math.max(y + (down / size) * 16 + 4, scale.top + 10);
-        const box = { x: start, y: level - 11, width, height: 14 };
-        const meets = (other) =>
-            box.x < other.x + other.width && other.x < box.x + box.width && box.y < other.y + other.height && other.y < box.y + box.height;
+        const away = corners.length === 1 ? [1, -1] : [x - middle('x'), y - middle('y')];
         group.append(draw('circle', { cx: x, cy: y, r: 3.6, class: 'corner' }));
-        if (taken.some(meets)) return;
+        const others = taken.filter((_, place) => place !== at);
+        const box = boxesBeside(pixels[at], away, text.length * 6.8, scale, flat).find((one) => !others.some((other) => overlap(one, other)));
+        if (!box) return;
         taken.push(box);
-        group.append(draw('text', { x: start, y: level, class: 'corner-name' }, text));
+        group.append(draw('text', { x: box.x, y: box.y + 11, class: 'corner-name' }, text));
     });
     return group;
 }
@@ -177,10 +187,12 @@ function cornerNames(corners, scale, flat) {
 /** What a meet is, in words. */
 export function inWords({ empty, open, corners }, flat) {
     const count = corners.length;
+    const ends = count === 1 ? 'one corner' : `${count} corners`;
     if (empty) return 'Nothing';
-    if (!open) return count === 1 ? 'A point' : count === 2 ? (flat ? 'A range' : 'A segment') : `A polygon with ${count} corners`;
-    if (count) return count === 1 ? 'Open, with one corner' : `Open, with ${count} corners`;
-    return 'Open, with no corner';
+    if (open) return count ? `Unbounded, with ${ends}` : 'Unbounded, with no corner';
+    if (count === 1) return flat ? 'One value' : 'A point';
+    if (count === 2) return flat ? 'A range' : 'A segment';
+    return `A polygon with ${ends}`;
 }
 
 /**

@@ -180,8 +180,17 @@ function placesOf(planes) {
     return places;
 }
 
+/** Corners in turn, beginning with the lowest of those at the left. */
+function fromLeft(corners) {
+    let first = 0;
+    corners.forEach(({ x, y }, at) => {
+        if ((x.compare(corners[first].x) || y.compare(corners[first].y)) < 0) first = at;
+    });
+    return [...corners.slice(first), ...corners.slice(0, first)];
+}
+
 /**
- * The meet of half planes: its `corners` in turn against the clock, the numbers of the half planes that give it a `side`, whether it is
+ * The meet of half planes: its `corners` in turn against the clock from the lowest one at the left, the numbers of the half planes that give it a `side`, whether it is
  * `empty`, and whether it goes on without end (`open`).
  */
 export function meet(planes) {
@@ -192,7 +201,7 @@ export function meet(planes) {
     return {
         empty: !polygon.length,
         open: polygon.some(isOnFrame),
-        corners: polygon.filter((place) => !isOnFrame(place)).map(({ x, y }) => ({ x, y })),
+        corners: fromLeft(polygon.filter((place) => !isOnFrame(place)).map(({ x, y }) => ({ x, y }))),
         sides: [...new Set(sides)].sort((one, other) => one - other),
     };
 }

@@ -1,12 +1,11 @@
 // The worker that runs the program: for each question a fresh instance of the module, whose memory holds nothing of earlier ones.
 //
-// The module's one call takes texts, one after another, their lengths, how many of them are words, room for what is answered, and two
-// records: how long the output and the message are that were put there, and how far the work is.
+// The module's one call (crates/tmpl_page) takes texts that stand one behind the other, their lengths, how many of them are words, room for
+// the output with the message behind it, and a record: how far the work is, in four numbers of 32 bits, and how long output and message are.
 let module = null;
 
 const PAGE = 65536;
-const PROGRESS = 16;
-const PLACED = 16;
+const TOLD = 32;
 
 /** Takes more of the memory, behind what the module has, and gives its place. */
 function take(memory, bytes) {
@@ -14,19 +13,19 @@ function take(memory, bytes) {
     return Number(memory.grow(BigInt(pages))) * PAGE;
 }
 
-/** Says how far the work is, at most ten times a second. */
+/** What the module calls now and then while it works: says how far it is, at most ten times a second. */
 function watcher(number) {
-    const state = { memory: null, place: 0, said: performance.now() };
-    state.look = () => {
-        if (performance.now() < state.said + 100) return;
-        state.said = performance.now();
-        const [round, raised, turn, pivots] = new Uint32Array(state.memory.buffer, state.place, 4);
+    const watch = { memory: null, told: 0, said: performance.now() };
+    watch.look = () => {
+        if (performance.now() < watch.said + 100) return;
+        watch.said = performance.now();
+        const [round, raised, turn, pivots] = new Uint32Array(watch.memory.buffer, watch.told, 4);
         self.postMessage({ number, progress: { round, raised, turn, pivots } });
     };
-    return state;
+    return watch;
 }
 
-/** The answer, with so many bytes of room for what is written; null where that is too little, with what is needed. */
+/** The answer, with so many bytes of room for what is written; where that is too little, how much is needed. */
 function answered(number, words, contents, room) {
     const watch = watcher(number);
     const { exports } = new WebAssembly.Instance(module, { page: { look: () => watch.look() } });
@@ -34,25 +33,22 @@ function answered(number, words, contents, room) {
     const encoder = new TextEncoder();
     const texts = [...words.map((word) => encoder.encode(word)), ...contents];
     const total = texts.reduce((sum, text) => sum + text.length, 0);
-    const base = take(memory, PROGRESS + PLACED + 8 * texts.length + total + room);
-    const place = { progress: base, placed: base + PROGRESS, lengths: base + PROGRESS + PLACED };
-    place.texts = place.lengths + 8 * texts.length;
-    place.room = place.texts + total;
-    const numbers = new BigUint64Array(memory.buffer, place.lengths, texts.length);
+    const told = take(memory, TOLD + 8 * texts.length + total + room);
+    const lengths = told + TOLD;
+    const first = lengths + 8 * texts.length;
     const bytes = new Uint8Array(memory.buffer);
-    let at = place.texts;
-    texts.forEach((text, index) => {
-        numbers[index] = BigInt(text.length);
-        bytes.set(text, at);
-        at += text.length;
-    });
-    Object.assign(watch, { memory, place: place.progress });
-    const many = [place.texts, total, place.lengths, texts.length, words.length, place.room, room, place.placed, place.progress];
-    const status = exports.tmpl_page_answer(...many.map(BigInt));
-    const [output, message] = [...new BigUint64Array(memory.buffer, place.placed, 2)].map(Number);
+    let place = first;
+    for (const text of texts) {
+        bytes.set(text, place);
+        place += text.length;
+    }
+    new BigUint64Array(memory.buffer, lengths, texts.length).set(texts.map((text) => BigInt(text.length)));
+    Object.assign(watch, { memory, told });
+    const status = exports.tmpl_page_answer(...[first, total, lengths, texts.length, words.length, place, room, told].map(BigInt));
+    const [output, message] = [...new BigUint64Array(memory.buffer, told + 16, 2)].map(Number);
     if (output + message > room) return { needed: output + message };
-    const written = (from, length) => new Uint8Array(memory.buffer).slice(place.room + from, place.room + from + length);
-    return { status, output: written(0, output), message: new TextDecoder().decode(written(output, message)) };
+    const written = new Uint8Array(memory.buffer).slice(place, place + output + message);
+    return { status, output: written.slice(0, output), message: new TextDecoder().decode(written.subarray(output)) };
 }
 
 self.onmessage = ({ data }) => {

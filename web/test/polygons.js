@@ -12,22 +12,11 @@ const planesOf = (text) =>
 
 const placeText = ({ x, y }) => `(${x}, ${y})`.replaceAll('\u2212', '-');
 
-/** Corners in turn, beginning with the lowest of the leftmost. */
-function turned(corners) {
-    if (!corners.length) return corners;
-    let first = 0;
-    corners.forEach(({ x, y }, at) => {
-        const order = x.compare(corners[first].x) || y.compare(corners[first].y);
-        if (order < 0) first = at;
-    });
-    return [...corners.slice(first), ...corners.slice(0, first)];
-}
-
 /** What is said of a meet: empty, or its corners, its sides, and whether it is open. */
 function told(planes) {
     const { empty, open, corners, sides } = meet(planes);
     if (empty) return 'empty';
-    const parts = [turned(corners).map(placeText).join(' '), sides.join(' '), open ? 'open' : 'closed'];
+    const parts = [corners.map(placeText).join(' '), sides.join(' '), open ? 'open' : 'closed'];
     return parts.filter((part) => part).join(' | ');
 }
 
@@ -99,8 +88,8 @@ export function faults() {
         expect(`${name}, exactly`, String(exact), 'true');
     }
     const frame = { left: new Fraction(-1n), right: new Fraction(9n), bottom: new Fraction(-1n), top: new Fraction(9n) };
-    const seen = turned(clip(planesOf('-1 0 0, 0 -1 0'), frame)).map((place) => placeText(place) + (place.side === FRAME ? '!' : ''));
-    expect('what a frame cuts off', seen.join(' '), '(0, 0) (9, 0)! (9, 9)! (0, 9)');
+    const seen = clip(planesOf('-1 0 0, 0 -1 0'), frame).map((place) => placeText(place) + (place.side === FRAME ? '!' : ''));
+    expect('what a frame cuts off', seen.join(' '), '(9, 0)! (9, 9)! (0, 9) (0, 0)');
     expect('the sights of a strip', sights(planesOf('1 -1 2, -1 1 0')).map(placeText).join(' '), '(1, -1) (0, 0)');
     return found;
 }
