@@ -1,7 +1,8 @@
 // The heap of the page's module: what the kit's Rattle calls in place of malloc, realloc and free. Nothing proves it.
 //
 // A block has 16 bytes before it, which keep its class. The classes of size are the multiples of 16 up to 1,024, and above these four for
-// each power of two. A block that is given back waits in the list of its class; new ones are cut from the end of the memory, which grows.
+// each power of two. A block that is given back waits in the list of its class; new ones are cut from what the memory has grown by here, and
+// so never from what the page has taken of it.
 
 typedef unsigned long size;
 
@@ -23,8 +24,6 @@ static const size most_pages = 49152;
 // How many calls lie between two looks of the page at the work.
 static const unsigned look_after = 8192;
 
-extern unsigned char __heap_base;
-
 // The page looks at how far the work is.
 __attribute__((import_module("page"), import_name("look"))) void look(void);
 
@@ -44,7 +43,7 @@ static size bytes_of(size class) {
     return (5 + (class - SMALL) % 4) << (power - 2);
 }
 
-// Makes room for so many bytes at the end of the memory. What is left where the page has taken memory in between stays unused.
+// Makes room for so many bytes at the end of the memory. Where the page has taken memory in between, what was left before that stays unused.
 static int grow(size bytes) {
     size pages = bytes / PAGE + 1;
     if (pages < 16) pages = 16;
@@ -58,10 +57,6 @@ static int grow(size bytes) {
 
 static struct block *cut(size class) {
     size bytes = HEAD + bytes_of(class);
-    if (!end) {
-        next = ((size)&__heap_base + 15) & ~(size)15;
-        end = __builtin_wasm_memory_size(0) * PAGE;
-    }
     if (bytes > end - next && !grow(bytes)) return 0;
     struct block *block = (struct block *)next;
     next += bytes;

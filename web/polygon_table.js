@@ -1,6 +1,6 @@
 // Meets of half planes that were worked out by hand.
-import { Fraction } from '../fraction.js';
-import { clip, FRAME, halfPlanes, meet, sights } from '../polygon.js';
+import { Fraction } from './fraction.js';
+import { clip, FRAME, halfPlanes, meet, sights } from './polygon.js';
 
 /** Half planes from `a b c`, for a*x + b*y <= c. */
 const planesOf = (text) =>
