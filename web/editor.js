@@ -63,6 +63,10 @@ export class Editor {
             changed();
         });
         this.area.addEventListener('click', () => this.pointAtCaret());
+        // Notes end where the text that is seen ends, however long other lines are.
+        const seen = () => this.notes.style.setProperty('--seen', `${root.clientWidth - this.gutter.offsetWidth}px`);
+        new ResizeObserver(seen).observe(root);
+        new ResizeObserver(seen).observe(this.gutter);
         this.gutter.addEventListener('click', (event) => {
             const at = [...this.gutter.children].indexOf(event.target) + 1;
             const note = this.marks.notes.find(({ line }) => line === at);

@@ -279,23 +279,24 @@ function showBounds(point) {
         body.replaceChildren(row);
         return;
     }
-    const limit = (value) => (value === null ? element('span', 'none', '') : String(value));
-    body.replaceChildren(
-        ...relations(now.pairs, point.bounds).map(({ text: words, single, low, high, least, most }) => {
-            const isExact = low !== null && high !== null && low.equals(high);
-            const says = (end, implied) => end !== null && !(implied && end.equals(implied));
-            const isNews = single || says(high, most) || says(low, least);
-            const row = element('tr', isExact ? 'exact' : isNews ? '' : 'implied');
-            cell(row, 'low', isExact || low === null ? '' : limit(low), isExact || low === null ? '' : '\u2264');
-            cell(row, 'row', withSigns(words));
-            cell(row, 'high', high === null ? limit(null) : limit(high), isExact ? '=' : high === null ? '' : '\u2264', true);
-            if (low === null && high === null) {
-                row.className = 'implied';
-                row.lastElementChild.replaceChildren(element('span', 'none', 'no bound'));
-            }
-            return row;
-        }),
-    );
+    const says = (end, implied) => end !== null && !(implied && end.equals(implied));
+    const rows = relations(now.pairs, point.bounds).map((relation) => {
+        const { single, low, high, least, most } = relation;
+        return { ...relation, isNews: single ? low !== null || high !== null : says(high, most) || says(low, least) };
+    });
+    body.replaceChildren(...[...rows.filter((row) => row.isNews), ...rows.filter((row) => !row.isNews)].map(boundRow));
+}
+
+/** A row of the table of bounds: those that the ranges give already stand behind the others, and are softer. */
+function boundRow({ text: words, low, high, isNews }) {
+    const isExact = low !== null && high !== null && low.equals(high);
+    const row = element('tr', isExact && isNews ? 'exact' : isNews ? '' : 'implied');
+    const hasLow = low !== null && !isExact;
+    cell(row, 'low', hasLow ? String(low) : '', hasLow ? '\u2264' : '');
+    cell(row, 'row', withSigns(words));
+    const sign = isExact ? '=' : high === null ? '' : '\u2264';
+    cell(row, 'high', high === null ? (low === null ? 'no bound' : '') : String(high), sign, true);
+    return row;
 }
 
 // ---- the picture

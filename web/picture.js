@@ -164,22 +164,26 @@ function boxesBeside({ x, y }, [away, down], width, scale, flat) {
 const overlap = (one, other) =>
     one.x < other.x + other.width && other.x < one.x + one.width && one.y < other.y + other.height && other.y < one.y + one.height;
 
-/** Names of corners beside them, away from the middle, where there is a place for them. */
-function cornerNames(corners, scale, flat) {
+/** Corners, and a state as a cross, with their names beside them, away from the middle, where there is a place for them. */
+function namedPlaces(corners, mark, scale, flat) {
     const group = draw('g', {});
-    const pixels = corners.map((corner) => ({ x: scale.x(corner.x.toNumber()), y: scale.y(corner.y.toNumber()) }));
+    const isCorner = mark && corners.some((corner) => corner.x.equals(mark.x) && corner.y.equals(mark.y));
+    const places = mark && !isCorner ? [mark, ...corners] : corners;
+    const pixels = places.map((place) => ({ x: scale.x(place.x.toNumber()), y: scale.y(place.y.toNumber()) }));
     const taken = pixels.map(({ x, y }) => ({ x: x - 5, y: y - 5, width: 10, height: 10 }));
     const middle = (axis) => pixels.reduce((sum, place) => sum + place[axis], 0) / pixels.length;
-    corners.forEach((corner, at) => {
+    places.forEach((place, at) => {
         const { x, y } = pixels[at];
-        const text = placeName(corner, flat);
-        const away = corners.length === 1 ? [1, -1] : [x - middle('x'), y - middle('y')];
-        group.append(draw('circle', { cx: x, cy: y, r: 3.6, class: 'corner' }));
-        const others = taken.filter((_, place) => place !== at);
+        const isMark = mark && place.x.equals(mark.x) && place.y.equals(mark.y);
+        const text = placeName(place, flat);
+        const away = places.length === 1 ? [1, -1] : [x - middle('x'), y - middle('y')];
+        if (place !== mark) group.append(draw('circle', { cx: x, cy: y, r: 3.6, class: 'corner' }));
+        if (isMark) group.append(draw('path', { d: `M${x - 5} ${y - 5}l10 10m0 -10l-10 10`, class: 'state-mark' }));
+        const others = taken.filter((_, other) => other !== at);
         const box = boxesBeside(pixels[at], away, text.length * 6.8, scale, flat).find((one) => !others.some((other) => overlap(one, other)));
         if (!box) return;
         taken.push(box);
-        group.append(draw('text', { x: box.x, y: box.y + 11, class: 'corner-name' }, text));
+        group.append(draw('text', { x: box.x, y: box.y + 11, class: isMark ? 'state-name' : 'corner-name' }, text));
     });
     return group;
 }
@@ -216,21 +220,11 @@ export function drawPicture(root, { planes, frame, names, mark, flat, label, wid
         drawn.append(draw('line', { x1, y1, x2, y2, class: 'side' }));
     });
     picture.append(drawn);
-    if (planes) picture.append(cornerNames(meet(planes).corners, scale, flat));
-    if (mark) picture.append(marked(mark, scale, at, flat));
+    picture.append(namedPlaces(planes ? meet(planes).corners : [], mark ?? null, scale, flat));
     if (!polygon.length) {
         const text = planes ? 'No state fits these bounds' : 'No run comes here';
         picture.append(draw('text', { x: scale.left + scale.width / 2, y: scale.top + scale.height / 2, 'text-anchor': 'middle', class: 'nothing' }, text));
     }
     root.replaceChildren(picture);
     return scale;
-}
-
-/** The state of an open check, as a cross with its name. */
-function marked(mark, scale, at, flat) {
-    const [x, y] = at(mark);
-    const group = draw('g', {});
-    group.append(draw('path', { d: `M${x - 5} ${y - 5}l10 10m0 -10l-10 10`, class: 'state-mark' }));
-    group.append(draw('text', { x: x + 9, y: y + 16, class: 'state-name' }, placeName(mark, flat)));
-    return group;
 }
