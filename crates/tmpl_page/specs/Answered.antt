@@ -13,8 +13,8 @@ pub data IsPlaced (output message room room_now : List ℕ) : Type 0 where
       → IsPlaced output message room room_now
   longer : length room < length output + length message → room_now ≡ room → IsPlaced output message room room_now
 
--- an answer to words over these contents, as `answer` promises it, by its exit code, by the lengths of its output and of its message, and by
--- where these are placed
+-- an answer to words over these contents, as `answer` promises it, by its exit code, by the lengths of its output and of its message, and
+-- by where these are placed
 pub record IsPlacedAnswer (commands : Commands) (m : Meanings) (words contents : List (List ℕ)) (code output_length message_length : ℕ)
     (room room_now : List ℕ) : Type 0 where
   pub status : Status

@@ -12,12 +12,11 @@ mod placing;
 mod told;
 mod words;
 
-pub use told::Told;
-pub use top_run::{Exact, Meaning};
-
 use answering::answer_texts;
 use placing::{place, place_nothing};
 use std::alloc::Global;
+pub use told::Told;
+pub use top_run::{Exact, Meaning};
 
 /// What `top_answer::answer` answers to words and to the contents of the files that they name. `texts` has all of these one behind the
 /// other, `lengths` how long each is, and the first `words` of them are the words; what stands behind the last one is nothing.

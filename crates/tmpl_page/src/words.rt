@@ -34,8 +34,10 @@ pub(crate) fn words_of(alloc: Global, pieces: &[&[u8]]) -> Result<Vec<String>, N
 {
     let mut words = Vec::new(alloc);
     for piece in pieces {
-        let word = word_of(alloc, piece)?;
-        words.push(word).map_err(|_| NoWords::NoMemory)?;
+        match word_of(alloc, piece) {
+            Ok(word) => words.push(word).map_err(|_| NoWords::NoMemory)?,
+            Err(cause) => return Err(cause),
+        }
     }
     Ok(words)
 }
