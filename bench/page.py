@@ -133,6 +133,20 @@ def reports(walk):
     walk.settle()
 
 
+def large(walk):
+    """A program near the limit of its length, and one with many points."""
+    lines = "".join(f"    while (x < {at}) {{ x = x + 1; if (nondet()) y = y + x; }}\n" for at in range(2, 22))
+    text = "int main() {\n    int x = 0, y = 0;\n" + lines + "    // " + "long " * 12000 + "\n}\n"
+    walk.set_program(text)
+    walk.settle()
+    status, output, _ = written(["solve", "p", "--domain", "octagons"], {"p": text})
+    walk.expect("a large program: the status", status, 0)
+    walk.expect("a large program", walk.text("report-text").encode(), output)
+    walk.set_program(text + " " * 65536)
+    walk.settle()
+    walk.expect("a program that is too long", walk.text("said"), "Too long: the program.")
+
+
 def corners(walk):
     """Points and their pictures."""
     walk.choose("example", "sum.c")
@@ -321,20 +335,23 @@ def contrast(walk):
 STAND_IN = """
 const known = self.onmessage;
 const asked = self.postMessage.bind(self);
+const more = ' | verify PROGRAM (the options of solve) | solve, certify, check, prove, verify: [--function NAME] [--int N]';
 let verify = false;
-self.postMessage = (data, more) => {
-    if (data.answer && !verify && /^usage/.test(data.answer.message)) data.answer.message += ' | verify PROGRAM (the options of solve)';
+self.postMessage = (data, given) => {
+    if (data.answer && !verify && /^usage/.test(data.answer.message)) data.answer.message += more;
     if (data.answer && verify) {
         data.answer.status = 10;
         data.answer.output = new TextEncoder().encode(`check 0 at 4:9: assert: proved\\ncheck 1 at 8:5: assert: open at x = 10, y = 0\\nproved 1 of 2\\nimprovements: 3\\n`);
         asked(data);
     } else {
-        asked(data, more);
+        asked(data, given);
     }
 };
 self.onmessage = (event) => {
-    verify = event.data.words?.[0] === 'verify';
-    if (verify) event.data.words[0] = 'solve';
+    const { words } = event.data;
+    verify = words?.[0] === 'verify';
+    if (verify) words[0] = 'solve';
+    for (const option of ['--function', '--int']) if (words?.includes(option)) words.splice(words.indexOf(option), 2);
     known(event);
 };
 """
@@ -348,14 +365,14 @@ def checks(walk, room):
         print("page.sh: the program doesn't know checks yet: a stand-in shows how they are shown", file=sys.stderr)
         with open(page, encoding="utf-8") as file:
             whole = file.read()
-        begin = whole.index("// The worker that runs the program")
-        end = whole.index("</script>", begin)
+        end = whole.index("</script>", whole.index('id="worker">'))
         with open(f"{room}/checks.html", "w", encoding="utf-8") as file:
-            # A worker's own text has no declarations of `self.onmessage` behind this.
-            file.write(whole[:end].replace("        assert(", "        // assert(") + STAND_IN + whole[end:])
+            file.write(whole[:end] + STAND_IN + whole[end:])
         walk.page = f"{room}/checks.html"
         text = CHECKED.replace("assert(x + y == 10);", "assume(x + y == 10);").replace("assert(y == 5);", "assume(y <= 5);")
         walk.open()
+        shown = walk.browser.evaluate("['function-field', 'width-field'].map((it) => !document.getElementById(it).hidden)")
+        walk.expect("a function and a width to choose", shown, [True, True])
     else:
         text = CHECKED
     walk.set_program(text)
@@ -385,7 +402,9 @@ def pictures(walk, room):
         walk.choose("example", example)
         walk.settle()
         time.sleep(0.4)
-        walk.browser.picture(f"{room}/{file}.png")
+        # Without the foot, which says of what the page was made.
+        clip = {"x": 0, "y": 0, "width": width, "height": walk.browser.evaluate("document.querySelector('footer').offsetTop")}
+        walk.browser.picture(f"{room}/{file}.png", clip)
 
 
 def main(words):
@@ -403,7 +422,7 @@ def main(words):
             walk = Walk(browser, page)
             browser.resize(1280, 860)
             browser.media("light")
-            for step in (Walk.open, polygons, reports, corners, wrong_text, lambda it: certificates(it, room), long_run, links, keys, names, widths, contrast,
+            for step in (Walk.open, polygons, reports, large, corners, wrong_text, lambda it: certificates(it, room), long_run, links, keys, names, widths, contrast,
                          lambda it: checks(it, kept), lambda it: pictures(it, kept)):
                 step(walk)
             walk.expect("what was asked of the network", browser.asked_for(), [])

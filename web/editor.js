@@ -63,6 +63,7 @@ export class Editor {
             changed();
         });
         this.area.addEventListener('click', () => this.pointAtCaret());
+        this.area.addEventListener('keydown', (event) => this.indent(event));
         // Notes end where the text that is seen ends, however long other lines are.
         const seen = () => this.notes.style.setProperty('--seen', `${root.clientWidth - this.gutter.offsetWidth}px`);
         new ResizeObserver(seen).observe(root);
@@ -123,6 +124,17 @@ export class Editor {
         const line = this.text.slice(0, this.area.selectionStart).split('\n').length;
         const here = this.marks.notes.filter((note) => note.line === line);
         if (here.length && !here.some((note) => note.point === this.marks.chosen?.point)) this.choose(here[0].point);
+    }
+
+    /** A new line begins where the one before begins, or further in behind a brace. */
+    indent(event) {
+        if (event.key !== 'Enter' || event.ctrlKey || event.metaKey || event.altKey || event.isComposing) return;
+        const line = this.text.slice(0, this.area.selectionStart).split('\n').at(-1);
+        const blanks = /^[ \t]*/.exec(line)[0] + (/\{\s*$/.test(line) ? '    ' : '');
+        if (!blanks) return;
+        event.preventDefault();
+        // This way the browser can undo it.
+        document.execCommand('insertText', false, `\n${blanks}`);
     }
 
     /** The classes that marks give to the token at each place: [from, to, class]. */

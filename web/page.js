@@ -13,6 +13,9 @@ const text = (content) => new TextDecoder().decode(content);
 
 const MOST_NOTES = 6;
 
+/** As many as the program takes: a person stops what goes on for too long. */
+const MOST_IMPROVEMENTS = '1000000';
+
 /** What is open and what is known of it. */
 const now = {
     name: 'program.c',
@@ -52,7 +55,7 @@ function question(command, more = []) {
     if (command === 'check') {
         words.push('certificate');
     } else {
-        words.push('--domain', domain(), '--policy', at('policy').value);
+        words.push('--domain', domain(), '--policy', at('policy').value, '--improvements', MOST_IMPROVEMENTS);
         if (domain() === 'rows') {
             words.push('--rows', 'rows');
             contents.push(bytes(at('rows').value));
@@ -133,14 +136,17 @@ function runSoon() {
     waiting = setTimeout(run, 300);
 }
 
-const REFUSED = {
-    program: (cause, line) => `${cause[0].toUpperCase()}${cause.slice(1)}${line ? ` in line ${line}` : ''}.`,
-    rows: (cause, line) => `The rows: ${cause}${line ? ` in line ${line}` : ''}.`,
-};
+/** What refuses a text, as a sentence. */
+function refusal(subject, cause, line) {
+    const place = line ? ` in line ${line}` : '';
+    if (subject === 'rows') return `The rows: ${cause}${place}.`;
+    const said = cause || 'no answer';
+    return `${said[0].toUpperCase()}${said.slice(1)}${place}.`;
+}
 
 function showRefusal(message) {
     const { subject, cause, line } = readMessage(message);
-    const words = REFUSED[subject]?.(cause, line) ?? `${cause}.`;
+    const words = refusal(subject, cause, line);
     say('refused', words);
     at('state').title = message.trim();
     at('rows-fault').hidden = subject !== 'rows';
@@ -174,6 +180,7 @@ function showReport(reportText, milliseconds, verdicts) {
     const checks = now.verdicts?.checks ?? [];
     const open = checks.filter((check) => !check.proved).length;
     const told = checks.length ? `${checks.length - open} of ${counted(checks.length, 'check')} proved. ` : '';
+    at('state').dataset.open = open > 0;
     say('done', `${told}Least bounds after ${counted(Number(rounds), 'improvement')}, in ${seconds(milliseconds)}.`);
     at('state').title = '';
     at('rows-fault').hidden = true;
@@ -649,16 +656,19 @@ async function begin() {
     }
     connect();
     const examples = showExamples();
+    if (!(await showLinked())) {
+        const first = examples.find(({ name }) => name === 'sum.c') ?? examples[0];
+        at('example').value = first.name;
+        now.name = first.name;
+        show({ text: first.text });
+    }
     try {
         await ready();
+        run();
     } catch (error) {
-        say('refused', `This browser can’t run the program, which needs WebAssembly with 64-bit memory: Chrome, Edge or another Chromium from 133, Firefox from 134. (${error.message})`);
+        const needs = 'WebAssembly with 64-bit memory: Chrome, Edge and their like from 133 on, Firefox from 134 on';
+        say('refused', `This browser can\u2019t run the program, which needs ${needs}. (${error.message})`);
     }
-    if (await showLinked()) return;
-    const first = examples.find(({ name }) => name === 'sum.c') ?? examples[0];
-    at('example').value = first.name;
-    now.name = first.name;
-    show({ text: first.text });
 }
 
 begin();
