@@ -174,9 +174,11 @@ def wrong_text(walk):
     walk.expect("a wrong text: the status", status, 4)
     walk.expect("a wrong text: its whole message", walk.browser.evaluate("document.getElementById('state').title"), message)
     walk.expect("a wrong text: what is said", walk.text("said"), "Not affine in line 3.")
+    walk.expect("a wrong text: the rest is of a text before", walk.browser.evaluate("document.getElementById('before').hidden"), False)
     walk.expect("a wrong text: at its line", walk.browser.evaluate("[...document.querySelectorAll('.notes .line')].findIndex((it) => it.querySelector('.bad'))"), 2)
     walk.set_program("int main() {\n    int x = 0;\n    x = x + x;\n}\n")
     walk.settle()
+    walk.expect("nothing is of a text before", walk.browser.evaluate("document.getElementById('before').hidden"))
     walk.expect("a text that is mended", walk.browser.evaluate("document.querySelectorAll('.bad').length"), 0)
 
 

@@ -152,7 +152,14 @@ function showRefusal(message) {
     at('rows-fault').hidden = subject !== 'rows';
     at('rows-fault').textContent = words;
     const isHere = subject === 'program' && line;
-    editor.show({ fault: isHere ? { line, text: cause } : null, checks: [], stale: true });
+    editor.show({ notes: [], chosen: null, checks: [], fault: isHere ? { line, text: cause } : null });
+    showStale(true);
+}
+
+/** Softens what is shown of a text that has changed since. */
+function showStale(isStale) {
+    document.querySelector('.result').classList.toggle('before', isStale && now.report !== null);
+    at('before').hidden = !isStale || !now.report;
 }
 
 // ---- what is found
@@ -181,6 +188,7 @@ function showReport(reportText, milliseconds, verdicts) {
     const open = checks.filter((check) => !check.proved).length;
     const told = checks.length ? `${checks.length - open} of ${counted(checks.length, 'check')} proved. ` : '';
     at('state').dataset.open = open > 0;
+    showStale(false);
     say('done', `${told}Least bounds after ${counted(Number(rounds), 'improvement')}, in ${seconds(milliseconds)}.`);
     at('state').title = '';
     at('rows-fault').hidden = true;
@@ -263,7 +271,8 @@ function choosePoint(number) {
     now.mark = null;
     const point = now.report.points[number];
     for (const input of at('points').querySelectorAll('input')) input.checked = Number(input.value) === number;
-    editor.chooseLine(point.kind === 'entry' ? null : lineOf(point), number);
+    const isBefore = document.querySelector('.result').classList.contains('before');
+    editor.chooseLine(point.kind === 'entry' || isBefore ? null : lineOf(point), number);
     showBounds(point);
     showPicture();
 }
@@ -423,6 +432,7 @@ function showChecked(report, reportText) {
     now.point = Math.min(now.point, report.points.length - 1);
     at('report-text').textContent = reportText;
     say('done', 'Certificate accepted: these bounds are the least ones over its rows.');
+    showStale(false);
     showNotes([]);
     showPoints();
     showVariables();
@@ -551,7 +561,12 @@ function pressed(event) {
 
 // ---- the beginning
 
-const editor = new Editor(at('editor'), { changed: runSoon, choose: choosePoint });
+function textChanges() {
+    at('example').value = '';
+    runSoon();
+}
+
+const editor = new Editor(at('editor'), { changed: textChanges, choose: choosePoint });
 
 function connect() {
     for (const input of at('settings').querySelectorAll('input, select')) {
