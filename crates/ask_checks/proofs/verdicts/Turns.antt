@@ -93,9 +93,11 @@ module _ (system : Equations) (z : Vector) (check : CheckCases) where
             pub on_open : OpenOn system z check edge x
             on_open = record { number = k; within = l; before = judged.none_below; here = open_at }
 
+            -- so not all of the edge's cases are closed
             pub on_unproved : (Open x ≡ Proved) ↔ NoneOn system z check edge
             on_unproved = ((λ f. absurd (open_apart x f)), (λ none. absurd (on_apart x on_open none)))
 
+            -- and up to it no operation is wide
             pub on_fits : FitsOn system z check edge
             on_fits =
                 found_fits (NoneAt system z check edge) (FitsAt system z check edge) k judged fits_here (length edge.actions)
@@ -162,6 +164,7 @@ module _ (system : Equations) (z : Vector) (check : CheckCases) where
           state = first_here;
         }
 
+        -- and up to it no operation is wide
         pub edge_open_fits : CheckFits system z check
         edge_open_fits =
             found_fits (λ i. NoneOn system z check (edge_of system i)) (λ i. FitsOn system z check (edge_of system i)) e judged edge_fits
