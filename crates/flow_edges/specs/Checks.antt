@@ -1,8 +1,8 @@
 -- The checks of a program, and where they stand on its edges.
-use Rattle.std.specs.Prelude.{◌≡◌, ℕ, ◌<◌, false, List, [], ◌∷◌, ◌++◌, length, map, take}
-use Rattle.base_facts.specs.Elements.{In}
+use Rattle.std.specs.Prelude.{◌≡◌, false, List, [], ◌∷◌, ◌++◌, map}
 use Rattle.lang_tree.specs.declared.check.Check.{Check}
-use Rattle.lang_tree.specs.Tree.{Condition, Statement, Statements, set, havoc, assume, only_where, check, branch, loop, jump, label, nil, cons}
+use Rattle.lang_tree.specs.Tree.{Condition, Statement, Statements, set, havoc, assume, only_where, check, branch, loop, jump, label}
+use Rattle.lang_tree.specs.Tree.{nil, cons}
 use Rattle.lang_tree.specs.Cases.{cases_of}
 use Rattle.flow_edges.specs.declared.checked.CheckCases.{CheckCases}
 use Rattle.flow_edges.specs.declared.edge.Action.{Action}
@@ -43,9 +43,3 @@ checks_of_program body = map with_cases (checks_in body)
 pub record StandsBehind (actions : List Action) (about : Check) (before : List Action) : Type 0 where
   pub later : List Action
   pub parted : actions ≡ before ++ action.Check about ∷ later
-
--- so many actions come before a check among actions, and it isn't among those
-pub record ComesFirst (actions : List Action) (about : Check) (count : ℕ) : Type 0 where
-  pub within : count < length actions
-  pub stands : StandsBehind actions about (take count actions)
-  pub first : ¬ (In (take count actions) (action.Check about))

@@ -1,7 +1,8 @@
 -- Why a program has no flow within the limits.
 use Rattle.std.specs.Prelude.{ℕ, ◌||◌, Bool, true, false, List, [], ◌∷◌, ◌++◌, Option, Some, None, length, nat_lt, option_map, position}
 use Rattle.std.specs.Prelude.{if◌then◌else◌}
-use Rattle.lang_tree.specs.Tree.{Condition, Statement, Statements, set, havoc, assume, only_where, check, branch, loop, jump, label, nil, cons}
+use Rattle.lang_tree.specs.Tree.{Condition, Statement, Statements, set, havoc, assume, only_where, check, branch, loop, jump, label}
+use Rattle.lang_tree.specs.Tree.{nil, cons}
 use Rattle.lang_tree.specs.Cases.{cases_of}
 use Rattle.lang_tree.specs.PointNumbers.{point_count}
 use Rattle.flow_edges.specs.declared.edge.Edge.{Edge}

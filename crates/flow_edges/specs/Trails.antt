@@ -1,7 +1,8 @@
 -- Edges that are walked, action by action.
 use Rattle.std.specs.Prelude.{ℕ, ◌+◌, ◌||◌, true, false, List, [], ◌++◌, map, flat_map, take, if◌then◌else◌}
 use Rattle.lang_tree.specs.declared.form.Form.{Form}
-use Rattle.lang_tree.specs.Tree.{Condition, Statement, Statements, set, havoc, assume, only_where, check, branch, loop, jump, label, nil, cons}
+use Rattle.lang_tree.specs.Tree.{Condition, Statement, Statements, set, havoc, assume, only_where, check, branch, loop, jump, label}
+use Rattle.lang_tree.specs.Tree.{nil, cons}
 use Rattle.lang_tree.specs.PointNumbers.{splits, points_of, points_in, join_of, exit_of}
 use Rattle.flow_edges.specs.declared.edge.Action.{Action}
 use Rattle.flow_edges.specs.declared.edge.Edge.{Edge}

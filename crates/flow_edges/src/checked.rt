@@ -1,13 +1,11 @@
-//! The checks of a program, and where they stand on its edges.
+//! The checks of a program.
 
-ghost use Rattle.std.specs.Prelude.{◌≡◌, ◌↔◌, ◌++◌, IfOk, IfSome, IsTrue, None, OnOk, map};
-ghost use Rattle.base_facts.specs.Elements.{In};
+ghost use Rattle.std.specs.Prelude.{◌≡◌, ◌++◌, IfOk, IsTrue, OnOk, map};
 ghost use Rattle.lang_tree.specs.View.{statement_of, statements_of};
 ghost use Rattle.flow_edges.specs.Constants.{has_rooms, have_rooms};
-ghost use Rattle.flow_edges.specs.Checks.{ComesFirst, checks_in, checks_of, checks_of_program, with_cases};
+ghost use Rattle.flow_edges.specs.Checks.{checks_in, checks_of, checks_of_program, with_cases};
 
 use crate::case::Cases;
-use crate::edge::Action;
 use crate::listing::list_cases;
 use base_list::Sequence;
 use lang_tree::{Check, Program, Stmt};
@@ -79,27 +77,5 @@ fn add_checks_of(alloc: Global, list: &mut Vec<CheckCases>, stmt: &Stmt) -> Resu
             list,
             body.as_slice(),
         ),
-    }
-}
-
-/// The number of actions that come before the first place of the check among these, or `None` where it isn't among them.
-pub fn prefix_of(actions: &[Action], check: Check) -> Option<usize>
-    ensures missing { result ≡ None → ¬ (In actions.now (Action.Check check)) }
-    ensures first { IfSome result (λ count. ComesFirst actions.now check count) }
-{
-    for (place, action) in actions.iter().enumerate() {
-        if is_check(action, check) {
-            return Some(place);
-        }
-    }
-    None
-}
-
-fn is_check(action: &Action, check: Check) -> bool
-    ensures { IsTrue result ↔ (action.now ≡ Action.Check check) }
-{
-    match action {
-        Action::Check(other) => *other == check,
-        _ => false,
     }
 }

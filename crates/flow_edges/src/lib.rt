@@ -28,7 +28,7 @@ mod wide;
 
 pub use build::flow;
 pub use case::{Case, Cases, CasesFault};
-pub use checked::{CheckCases, Checks, checks, prefix_of};
+pub use checked::{CheckCases, Checks, checks};
 pub use edge::{Action, Actions, Edge, Edges};
 pub use fault::FlowFault;
 pub use graph::Flow;

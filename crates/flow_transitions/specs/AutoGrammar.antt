@@ -5,8 +5,7 @@ use Rattle.lang_tokens.specs.declared.token.Kind as lex_kind
 use Rattle.lang_tokens.specs.declared.token.Token as lex_token
 use Rattle.lang_grammar.specs.Grammar.{Kind, a_name, comma, semicolon, left_brace, right_brace, left_paren, right_paren, change_sign}
 use Rattle.lang_grammar.specs.Grammar.{replaces}
-use Rattle.lang_grammar.specs.Grammar.{demand_word, other_word, the_end, Token, token, Expr, spell_expr, Groups}
-use Rattle.lang_grammar.specs.Grammar as grammar
+use Rattle.lang_grammar.specs.Grammar.{demand_word, assumes as to_assume, other_word, the_end, Token, token, Expr, spell_expr, Groups}
 use Rattle.lang_grammar.specs.View.{kind_of}
 
 -- ---- tokens
@@ -19,7 +18,7 @@ kind_here bytes k = kind_of bytes k
 
 -- the word `assume`
 abbrev pub assume_word : Kind
-assume_word = demand_word grammar.assumes
+assume_word = demand_word to_assume
 
 abbrev pub token_here : List ℕ → lex_token.Token → Token
 token_here text t = token (kind_here (slice_range text t.at (t.at + t.len)) t.kind) t.at

@@ -225,7 +225,8 @@ mutual
       loop (kind_from kind) (condition_from cond) (statements_from body) line
   statement_from (gcons (gnum (suc (suc (suc (suc (suc zero)))))) (gcons kind (gnum line))) = jump (jump_from kind) line
   statement_from (gcons (gnum (suc (suc (suc (suc (suc (suc zero))))))) (gcons name (gnum line))) = label (name_from name) line
-  statement_from (gcons (gnum (suc (suc (suc (suc (suc (suc (suc zero)))))))) (gcons cond (gnum line))) = only_where (condition_from cond) line
+  statement_from (gcons (gnum (suc (suc (suc (suc (suc (suc (suc zero)))))))) (gcons cond (gnum line))) =
+      only_where (condition_from cond) line
   statement_from (gcons (gnum (suc (suc (suc (suc (suc (suc (suc (suc k))))))))) (gcons about (gcons cond (gnum line)))) =
       check (check_from about) (condition_from cond) line
   statement_from g = havoc 0 0

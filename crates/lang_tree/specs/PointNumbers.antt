@@ -1,6 +1,7 @@
 -- How many points a statement makes. Points are numbered along the statements in order; the entry is 0.
 use Rattle.std.specs.Prelude.{ℕ, ◌+◌, Bool, true, nat_lt, if◌then◌else◌, length}
-use Rattle.lang_tree.specs.Tree.{Condition, Statement, Statements, set, havoc, assume, only_where, check, branch, loop, jump, label, nil, cons}
+use Rattle.lang_tree.specs.Tree.{Condition, Statement, Statements, set, havoc, assume, only_where, check, branch, loop, jump, label}
+use Rattle.lang_tree.specs.Tree.{nil, cons}
 use Rattle.lang_tree.specs.Cases.{cases_of}
 
 -- an assumption makes a point where it has more than one case

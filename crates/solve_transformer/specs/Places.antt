@@ -79,8 +79,8 @@ sides_of system edge = edge_composition system.variables [] edge.actions
 
 -- the reading: the trace, and then the state at its end
 abbrev pub place_reading : Equations → Vector → Edge → List Operation
-place_reading system z edge =
-    problem_reading system z edge [] ++ state_reading system.variables edge.actions (lp (whole_problem system z edge []))
+place_reading system z edge = problem_reading system z edge [] ++ state_reading system.variables edge.actions
+    (lp (whole_problem system z edge []))
 
 -- no side, no pivot and no reading is wide; where a bound at the point is -inf there is no problem
 abbrev pub NoneWideAt : Equations → Vector → Edge → Type 0

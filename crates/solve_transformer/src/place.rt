@@ -21,8 +21,8 @@ ghost use Rattle.solve_composition.specs.Behind.{placed_actions, placed_forms};
 ghost use Rattle.solve_transformer.specs.Meanings.{HasEvidence};
 ghost use Rattle.solve_transformer.specs.Splits.{bounds_at};
 ghost use Rattle.solve_transformer.specs.Places.{placed_edge, nothing, state_after, sides_of, ends_at, ends_reading, form_reading};
-ghost use Rattle.solve_transformer.specs.Places.{forms_reading, products_reading, AnswersAt};
-ghost use Rattle.solve_transformer.specs.Places.{IsPartFault, IsPlaced, IsPlaceFault, NoneWideAt};
+ghost use Rattle.solve_transformer.specs.Places.{forms_reading, products_reading, AnswersAt, IsPartFault, IsPlaced, IsPlaceFault};
+ghost use Rattle.solve_transformer.specs.Places.{NoneWideAt};
 ghost use Rattle.solve_transformer.specs.Values.{IsValue};
 
 use crate::build::lowest_lost;

@@ -23,8 +23,9 @@ pub verdicts_are_one : VerdictsAreOne
 verdicts_are_one system z w claims verdicts again same points a b =
     same_answers (IsClaimVerdict system w) (λ claim x y. same_verdict system w claim.point [] claim.against x y) claims verdicts again
     (answers_stay (λ (claim : Claim). claim.point < system.points) (IsClaimVerdict system z) (IsClaimVerdict system w)
-    (λ claim verdict there. verdict_stays system z w claim.point (λ r l. same claim.point r there l) [] claim.against verdict) claims
-    verdicts points a) b
+    (λ claim verdict there. verdict_stays system z w claim.point (λ r l. same claim.point r there l) [] claim.against verdict)
+    claims verdicts
+    points a) b
 
 -- the verdict at a place is one on the claim there
 pub verdict_at : (system : Equations) (z : Vector) (claims : List Claim) (verdicts : List Verdict) (k : ℕ) (claim : Claim)

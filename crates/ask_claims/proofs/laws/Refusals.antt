@@ -49,6 +49,7 @@ refusals_are_one system z w claims (WideClaim named case part wide) (WideClaim o
     let here = wide_stays (λ (claim : Claim). claim.point < system.points) (ClaimFits system z) (ClaimFits system w)
     (λ c fault. IsFirstFault system z c.point [] c.against fault) (λ c fault. IsFirstFault system w c.point [] c.against fault)
     (λ claim there fit. all_fit_stays system z w claim.point (λ r l. same claim.point r there l) [] claim.against fit)
-    (λ claim fault there f. first_fault_stays system z w claim.point (λ r l. same claim.point r there l) [] claim.against fault f) claims
-    named (WideVerdict case part wide) points h in
+    (λ claim fault there f. first_fault_stays system z w claim.point (λ r l. same claim.point r there l) [] claim.against fault f)
+    claims named
+    (WideVerdict case part wide) points h in
     same_wide_claim system w claims named other case later part more wide again here k

@@ -7,8 +7,7 @@ use Rattle.lang_tokens.specs.Lines.{line_at}
 use Rattle.lang_grammar.specs.Expressions.{BeginsExpr}
 use Rattle.lang_grammar.specs.Grammar.{Kind, a_name, comma, semicolon, left_brace, right_brace, left_paren, right_paren, change_sign}
 use Rattle.lang_grammar.specs.Grammar.{replaces}
-use Rattle.lang_grammar.specs.Grammar.{demand_word, the_end, token, Expr, spell_expr}
-use Rattle.lang_grammar.specs.Grammar as grammar
+use Rattle.lang_grammar.specs.Grammar.{demand_word, assumes as to_assume, the_end, token, Expr, spell_expr}
 use Rattle.lang_tree.specs.Tree.{Statement}
 use Rattle.lang_meaning.specs.Names.{place_of}
 use Rattle.flow_transitions.specs.AutoReading.{Stand, Progress, progress, start, Stepped, Wanted, a_token, an_expression, wanted_at}
@@ -61,6 +60,8 @@ module _ (text : List ℕ) where
         named x (inl e) = e
         named x (inr e) = cc
   step_edges h ws o (change_sign replaces) a = refuse text (some_edges h ws) (change_sign replaces) a o (neither comma (λ e. cc) (λ e. cc))
+  step_edges h ws o (demand_word to_assume) a = refuse text (some_edges h ws) (demand_word to_assume) a o
+      (neither comma (λ e. cc) (λ e. cc))
   step_edges h ws o _ a = refuse text (some_edges h ws) _ a o (neither comma (λ e. cc) (λ e. cc))
 
   source_by : (h : Heads) (ws : List Written) (o : Outer text h ws) (w : ℕ) (x : List ℕ) (a : ℕ) (q : Option ℕ)
@@ -85,6 +86,7 @@ module _ (text : List ℕ) where
       (line_at text w) a (outside text h ws o (at_source (line_at text w)))))
       (sym (names_back text (all_spots h.points))) (source_by h ws o w x a (place_of x (names_in h.points)) refl)
   step_edge h ws o w (change_sign replaces) a = refuse text (an_edge h ws w) (change_sign replaces) a o (λ n. let e = n.1 in cc)
+  step_edge h ws o w (demand_word to_assume) a = refuse text (an_edge h ws w) (demand_word to_assume) a o (λ n. let e = n.1 in cc)
   step_edge h ws o w _ a = refuse text (an_edge h ws w) _ a o (λ n. let e = n.1 in cc)
 
   module _ (h : Heads) (ws : List Written) (o : Outer text h ws) (w : ℕ) (x : List ℕ) (b p : ℕ)
@@ -112,6 +114,8 @@ module _ (text : List ℕ) where
         (outside text h ws o (at_target (line_at text w) p b)))) (sym (names_back text (all_spots h.points)))
         (target_by y a (place_of y (names_in h.points)) refl)
     step_source (change_sign replaces) a = refuse text (a_source h ws w x b) (change_sign replaces) a (o, (p, from))
+        (λ n. let e = n.1 in cc)
+    step_source (demand_word to_assume) a = refuse text (a_source h ws w x b) (demand_word to_assume) a (o, (p, from))
         (λ n. let e = n.1 in cc)
     step_source _ a = refuse text (a_source h ws w x b) _ a (o, (p, from)) (λ n. let e = n.1 in cc)
 
@@ -148,6 +152,8 @@ module _ (text : List ℕ) where
       more = λ h. cc;
     })
     step_target y c q to later (change_sign replaces) a = refuse text (a_target h ws w x b y c) (change_sign replaces) a
+        (o, (p, from), (q, to, later)) (λ e. cc)
+    step_target y c q to later (demand_word to_assume) a = refuse text (a_target h ws w x b y c) (demand_word to_assume) a
         (o, (p, from), (q, to, later)) (λ e. cc)
     step_target y c q to later _ a = refuse text (a_target h ws w x b y c) _ a (o, (p, from), (q, to, later)) (λ e. cc)
 
@@ -200,7 +206,7 @@ module _ (text : List ℕ) where
       ready = λ k a. tt;
       more = λ h. cc;
     })
-    step_acts (demand_word grammar.assumes) a =
+    step_acts (demand_word to_assume) a =
         inl (record { now = an_assume i a; has = (n, refl); grown = λ ts. refl; ready = λ k a. tt; more = λ h. cc })
     step_acts (a_name x) a = name_by x a (place_of x (names_in i.heads.variables)) refl
     step_acts (change_sign replaces) a = refuse text (some_acts i) (change_sign replaces) a n
@@ -218,6 +224,7 @@ module _ (text : List ℕ) where
       more = λ h. cc;
     })
     step_assume b (change_sign replaces) a = refuse text (an_assume i b) (change_sign replaces) a n (λ e. cc)
+    step_assume b (demand_word to_assume) a = refuse text (an_assume i b) (demand_word to_assume) a n (λ e. cc)
     step_assume b _ a = refuse text (an_assume i b) _ a n (λ e. cc)
 
     step_assigned : (x : List ℕ) (b var : ℕ) → place_of x (names_in i.heads.variables) ≡ Some var → (k : Kind) (a : ℕ)
@@ -230,6 +237,7 @@ module _ (text : List ℕ) where
       ready = λ k a. tt;
       more = λ h. cc;
     })
+    step_assigned x b var e (demand_word to_assume) a = refuse text (an_assigned i x b) (demand_word to_assume) a (n, (var, e)) (λ e. cc)
     step_assigned x b var e _ a = refuse text (an_assigned i x b) _ a (n, (var, e)) (λ e. cc)
 
     step_condition : (b c : ℕ) (e : Expr) (s : Statement) → FrameSays text (names_in i.heads.variables) (condition b c) e s
@@ -246,6 +254,8 @@ module _ (text : List ℕ) where
     })
     step_condition b c e s says (change_sign replaces) a stops = refuse text (whole_expression i (condition b c) e) (change_sign replaces) a
         (n, (s, says)) (neither comma (λ e. cc) stops)
+    step_condition b c e s says (demand_word to_assume) a stops = refuse text (whole_expression i (condition b c) e) (demand_word to_assume)
+        a (n, (s, says)) (neither comma (λ e. cc) stops)
     step_condition b c e s says _ a stops = refuse text (whole_expression i (condition b c) e) _ a (n, (s, says))
         (neither comma (λ e. cc) stops)
 
@@ -263,6 +273,8 @@ module _ (text : List ℕ) where
     })
     step_side x b c e s says (change_sign replaces) a stops = refuse text (whole_expression i (side x b c) e) (change_sign replaces) a
         (n, (s, says)) (neither comma (λ e. cc) stops)
+    step_side x b c e s says (demand_word to_assume) a stops = refuse text (whole_expression i (side x b c) e) (demand_word to_assume) a
+        (n, (s, says)) (neither comma (λ e. cc) stops)
     step_side x b c e s says _ a stops = refuse text (whole_expression i (side x b c) e) _ a (n, (s, says)) (neither comma (λ e. cc) stops)
 
     step_assumption : (b c : ℕ) (e : Expr) (d : ℕ) (s : Statement) → FrameSays text (names_in i.heads.variables) (condition b c) e s
@@ -277,6 +289,8 @@ module _ (text : List ℕ) where
     })
     step_assumption b c e d s says (change_sign replaces) a = refuse text (an_assumption i b c e d) (change_sign replaces) a (n, (s, says))
         (λ e. cc)
+    step_assumption b c e d s says (demand_word to_assume) a = refuse text (an_assumption i b c e d) (demand_word to_assume) a
+        (n, (s, says)) (λ e. cc)
     step_assumption b c e d s says _ a = refuse text (an_assumption i b c e d) _ a (n, (s, says)) (λ e. cc)
 
   -- ---- all of them

@@ -9,7 +9,7 @@ use Rattle.std.specs.Str.{bytes_eq}
 use Rattle.lang_tokens.specs.Lines.{line_at}
 use Rattle.lang_grammar.specs.Expressions.{BeginsExpr}
 use Rattle.lang_grammar.specs.Grammar.{Kind, a_name, comma, semicolon, change_sign, replaces}
-use Rattle.lang_grammar.specs.Grammar.{the_end, Token, token, spell_expr}
+use Rattle.lang_grammar.specs.Grammar.{demand_word, assumes as to_assume, the_end, Token, token, spell_expr}
 use Rattle.lang_tree.specs.declared.limits.TheConstants.{MOST_VARIABLES}
 use Rattle.flow_edges.specs.declared.limits.TheConstants.{MOST_POINTS}
 use Rattle.lang_meaning.specs.Names.{place_of}
@@ -112,6 +112,7 @@ module _ (text : List ℕ) where
         more = λ h. cc;
       }) (bytes_eq x (codes "vars")) refl
   step_start (change_sign replaces) a = refuse no_token (change_sign replaces) a tt (λ h. cc)
+  step_start (demand_word to_assume) a = refuse no_token (demand_word to_assume) a tt (λ h. cc)
   step_start _ a = refuse no_token _ a tt (λ h. cc)
 
   variable_by : (v : ℕ) (ss : List Spot) (x : List ℕ) (a : ℕ) → AreVariables ss → (o : Option ℕ) → place_of x (spot_names ss) ≡ o
@@ -141,6 +142,7 @@ module _ (text : List ℕ) where
       → After text (some_variables v ss) k a (token_at at_variable (progress (spot_names ss) [] [] at_variable) (seen_here text k a))
   step_variables v ss (a_name x) a h = variable_by v ss x a h (place_of x (spot_names ss)) refl
   step_variables v ss (change_sign replaces) a h = refuse (some_variables v ss) (change_sign replaces) a h (λ n. let e = n.1 in cc)
+  step_variables v ss (demand_word to_assume) a h = refuse (some_variables v ss) (demand_word to_assume) a h (λ n. let e = n.1 in cc)
   step_variables v ss _ a h = refuse (some_variables v ss) _ a h (λ n. let e = n.1 in cc)
 
   -- one token on behind a variable's name
@@ -170,6 +172,8 @@ module _ (text : List ℕ) where
   })
   step_variable v ss x b (change_sign replaces) a h = refuse (a_variable v ss x b) (change_sign replaces) a h
       (neither comma (λ e. cc) (λ e. cc))
+  step_variable v ss x b (demand_word to_assume) a h = refuse (a_variable v ss x b) (demand_word to_assume) a h
+      (neither comma (λ e. cc) (λ e. cc))
   step_variable v ss x b _ a h = refuse (a_variable v ss x b) _ a h (neither comma (λ e. cc) (λ e. cc))
 
   -- ---- points
@@ -185,6 +189,7 @@ module _ (text : List ℕ) where
         more = λ h. cc;
       }) (bytes_eq x (codes "points")) refl
   step_all v ns (change_sign replaces) a h = refuse (all_variables v ns) (change_sign replaces) a h (λ h. cc)
+  step_all v ns (demand_word to_assume) a h = refuse (all_variables v ns) (demand_word to_assume) a h (λ h. cc)
   step_all v ns _ a h = refuse (all_variables v ns) _ a h (λ h. cc)
 
   point_by : (v : ℕ) (ns : Names) (p : ℕ) (ss : List Spot) (x : List ℕ) (a : ℕ) → AreVariables (all_spots ns) × AreNew [] ss
@@ -209,6 +214,7 @@ module _ (text : List ℕ) where
       (progress (names_in ns) (map (point_here text) ss) [] at_point) (seen_here text (a_name x) a)))
       (sym (names_back text ss)) (point_by v ns p ss x a h (place_of x (spot_names ss)) refl)
   step_points v ns p ss (change_sign replaces) a h = refuse (some_points v ns p ss) (change_sign replaces) a h (λ n. let e = n.1 in cc)
+  step_points v ns p ss (demand_word to_assume) a h = refuse (some_points v ns p ss) (demand_word to_assume) a h (λ n. let e = n.1 in cc)
   step_points v ns p ss _ a h = refuse (some_points v ns p ss) _ a h (λ n. let e = n.1 in cc)
 
   abbrev pointed : List Spot → List ℕ → ℕ → List Rattle.flow_transitions.specs.declared.reading.point_name.PointName.PointName
@@ -288,5 +294,7 @@ module _ (text : List ℕ) where
   step_point v ns p ss x b semicolon a h = by_count v ns p ss x b a h (nat_le 2 (length (pointed ss x b)))
       (nat_le (length (pointed ss x b)) MOST_POINTS) refl refl
   step_point v ns p ss x b (change_sign replaces) a h = refuse (a_point v ns p ss x b) (change_sign replaces) a h
+      (neither comma (λ e. cc) (λ e. cc))
+  step_point v ns p ss x b (demand_word to_assume) a h = refuse (a_point v ns p ss x b) (demand_word to_assume) a h
       (neither comma (λ e. cc) (λ e. cc))
   step_point v ns p ss x b _ a h = refuse (a_point v ns p ss x b) _ a h (neither comma (λ e. cc) (λ e. cc))

@@ -5,8 +5,7 @@ use Rattle.std.proofs.lemmas.Option.{slice_get-get_or}
 use Rattle.std.specs.Prelude.{slice_range}
 use Rattle.lang_grammar.specs.Grammar.{Kind, a_name, comma, semicolon, left_brace, right_brace, left_paren, right_paren, change_sign}
 use Rattle.lang_grammar.specs.Grammar.{replaces}
-use Rattle.lang_grammar.specs.Grammar.{demand_word, the_end, token}
-use Rattle.lang_grammar.specs.Grammar as grammar
+use Rattle.lang_grammar.specs.Grammar.{demand_word, assumes as to_assume, the_end, token}
 use Rattle.lang_grammar.specs.View.{sign_kind}
 use Rattle.lang_tokens.specs.Lines.{line_at}
 use Rattle.lang_tokens.specs.Reading.{end_at}
@@ -31,7 +30,7 @@ symbol_here left_paren = symbol.LeftParen
 symbol_here right_paren = symbol.RightParen
 symbol_here left_brace = symbol.LeftBrace
 symbol_here right_brace = symbol.RightBrace
-symbol_here (demand_word grammar.assumes) = symbol.Assume
+symbol_here (demand_word to_assume) = symbol.Assume
 symbol_here the_end = symbol.End
 symbol_here _ = symbol.Other
 

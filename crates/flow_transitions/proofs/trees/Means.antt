@@ -185,6 +185,7 @@ end_last text ts i a h = drop-map _ (i + 1) ts ∙ ap (map _) (drop_all (i + 1) 
 end_only : (k : Kind) → symbol_here k ≡ symbol.End → k ≡ the_end
 end_only the_end h = refl
 end_only (Rattle.lang_grammar.specs.Grammar.change_sign Rattle.lang_grammar.specs.Grammar.replaces) h = cc
+end_only (Rattle.lang_grammar.specs.Grammar.demand_word Rattle.lang_grammar.specs.Grammar.assumes) h = cc
 end_only _ h = cc
 
 module _ (text : List ℕ) (tokens : List lex_token.Token) (are : AreTokensOf text tokens) where

@@ -3,8 +3,7 @@ use Rattle.std.proofs.Common.{◌≡◌, ◌⊎◌, inl, inr, ℕ, Bool, true, f
 use Rattle.std.specs.Prelude.{codes, if◌then◌else◌}
 use Rattle.std.specs.Str.{bytes_eq}
 use Rattle.lang_grammar.specs.Grammar.{Kind, a_name, comma, semicolon, left_brace, right_brace, left_paren, right_paren, change_sign}
-use Rattle.lang_grammar.specs.Grammar.{replaces, demand_word, the_end}
-use Rattle.lang_grammar.specs.Grammar as grammar
+use Rattle.lang_grammar.specs.Grammar.{replaces, demand_word, assumes as to_assume, the_end}
 use Rattle.lang_tree.specs.Tree.{Statement}
 use Rattle.flow_transitions.specs.declared.auto_edge.AutoEdge.{AutoEdge}
 use Rattle.flow_transitions.specs.declared.reading.point_name.PointName.{PointName}
@@ -30,6 +29,7 @@ no_word text word stand r (a_name x) a n = on (bytes_eq x word) refl where
   on true e = absurd (n (ap a_name (bytes_same x word e)))
   on false e = refl
 no_word text word stand r (change_sign replaces) a n = refl
+no_word text word stand r (demand_word to_assume) a n = refl
 no_word text word stand r _ a n = refl
 
 -- where a name has to stand, whatever comes of it, anything else is unexpected
@@ -37,6 +37,7 @@ no_name : (text : List ℕ) (here : Stepped) (k : Kind) (a : ℕ) → (IsName k 
     → if_name (seen_here text k a).symbol here (unexpected (seen_here text k a)) ≡ Err (unexpected_fault (seen_here text k a))
 no_name text here (a_name x) a n = absurd (n (x, refl))
 no_name text here (change_sign replaces) a n = refl
+no_name text here (demand_word to_assume) a n = refl
 no_name text here _ a n = refl
 
 module _ (text : List ℕ) (names : List (List ℕ)) (points : List PointName) (edges : List AutoEdge) where
@@ -56,6 +57,7 @@ module _ (text : List ℕ) (names : List (List ℕ)) (points : List PointName) (
   no_variable_sign comma a n = absurd (n (inl refl))
   no_variable_sign semicolon a n = absurd (n (inr refl))
   no_variable_sign (change_sign replaces) a n = refl
+  no_variable_sign (demand_word to_assume) a n = refl
   no_variable_sign _ a n = refl
 
   -- anything but the word `points`
@@ -71,6 +73,7 @@ module _ (text : List ℕ) (names : List (List ℕ)) (points : List PointName) (
   no_point_sign comma a n = absurd (n (inl refl))
   no_point_sign semicolon a n = absurd (n (inr refl))
   no_point_sign (change_sign replaces) a n = refl
+  no_point_sign (demand_word to_assume) a n = refl
   no_point_sign _ a n = refl
 
   -- ---- edges
@@ -78,30 +81,34 @@ module _ (text : List ℕ) (names : List (List ℕ)) (points : List PointName) (
   no_edge the_end a n = absurd (n (inr refl))
   no_edge (a_name x) a n = no_word text (codes "edge") _ (progress names points edges at_edge) (a_name x) a (λ e. n (inl e))
   no_edge (change_sign replaces) a n = refl
+  no_edge (demand_word to_assume) a n = refl
   no_edge _ a n = refl
 
   -- where the first point of an edge has to stand, anything but a name
   pub no_source_name : (line : ℕ) (k : Kind) (a : ℕ) → (IsName k → ⊥) → Here (at_source line) k a
   no_source_name line (a_name x) a n = absurd (n (x, refl))
   no_source_name line (change_sign replaces) a n = refl
+  no_source_name line (demand_word to_assume) a n = refl
   no_source_name line _ a n = refl
 
   -- where the second point of an edge has to stand, anything but a name
   pub no_target_name : (line from at : ℕ) (k : Kind) (a : ℕ) → (IsName k → ⊥) → Here (at_target line from at) k a
   no_target_name line from at (a_name x) a n = absurd (n (x, refl))
   no_target_name line from at (change_sign replaces) a n = refl
+  no_target_name line from at (demand_word to_assume) a n = refl
   no_target_name line from at _ a n = refl
 
   -- behind the points of an edge anything but `{`
   pub no_opening : (e : AutoEdge) (k : Kind) (a : ℕ) → (k ≡ left_brace → ⊥) → Here (at_opening e) k a
   no_opening e left_brace a n = absurd (n refl)
   no_opening e (change_sign replaces) a n = refl
+  no_opening e (demand_word to_assume) a n = refl
   no_opening e _ a n = refl
 
   -- ---- acts
   pub no_act : (e : AutoEdge) (k : Kind) (a : ℕ) → ((k ≡ right_brace) ⊎ ((k ≡ assume_word) ⊎ IsName k) → ⊥) → Here (at_act e) k a
   no_act e right_brace a n = absurd (n (inl refl))
-  no_act e (demand_word grammar.assumes) a n = absurd (n (inr (inl refl)))
+  no_act e (demand_word to_assume) a n = absurd (n (inr (inl refl)))
   no_act e (a_name x) a n = absurd (n (inr (inr (x, refl))))
   no_act e (change_sign replaces) a n = refl
   no_act e _ a n = refl
@@ -110,21 +117,25 @@ module _ (text : List ℕ) (names : List (List ℕ)) (points : List PointName) (
   pub no_paren : (e : AutoEdge) (line : ℕ) (k : Kind) (a : ℕ) → (k ≡ left_paren → ⊥) → Here (at_paren e line) k a
   no_paren e line left_paren a n = absurd (n refl)
   no_paren e line (change_sign replaces) a n = refl
+  no_paren e line (demand_word to_assume) a n = refl
   no_paren e line _ a n = refl
 
   -- behind a variable that is assigned anything but `=`
   pub no_equal : (e : AutoEdge) (var line : ℕ) (k : Kind) (a : ℕ) → (k ≡ change_sign replaces → ⊥) → Here (at_equal e var line) k a
   no_equal e var line (change_sign replaces) a n = absurd (n refl)
+  no_equal e var line (demand_word to_assume) a n = refl
   no_equal e var line _ a n = refl
 
   -- behind a condition anything but `)`
   pub no_closing : (e : AutoEdge) (s : Statement) (k : Kind) (a : ℕ) → (k ≡ right_paren → ⊥) → Here (past_condition e s) k a
   no_closing e s right_paren a n = absurd (n refl)
   no_closing e s (change_sign replaces) a n = refl
+  no_closing e s (demand_word to_assume) a n = refl
   no_closing e s _ a n = refl
 
   -- behind an act anything but `;`
   pub no_semicolon : (e : AutoEdge) (s : Statement) (k : Kind) (a : ℕ) → (k ≡ semicolon → ⊥) → Here (past_act e s) k a
   no_semicolon e s semicolon a n = absurd (n refl)
   no_semicolon e s (change_sign replaces) a n = refl
+  no_semicolon e s (demand_word to_assume) a n = refl
   no_semicolon e s _ a n = refl

@@ -2,7 +2,7 @@
 use Rattle.std.proofs.Common.{◌≡◌, inr, ℕ, Bool, true, false, List, [], refl, subst, subst₂, sym}
 use Rattle.std.specs.Prelude.{IfOk, IfErr, Result, Ok, Err, Some}
 use Rattle.clap.specs.Words.{Row, Text as WordText}
-use Rattle.ask_checks.proofs.laws.Lists.{verdicts_are_one}
+use Rattle.ask_checks.proofs.laws.Determined.{verdicts_are_one}
 use Rattle.ask_files.specs.Files.{Request, analysis_with}
 use Rattle.ask_files.specs.declared.which.ReadCause.{ReadCause}
 use Rattle.ask_files.specs.declared.which.Which.TheVariants as which

@@ -12,7 +12,7 @@ use Rattle.lang_tree.specs.declared.limits.TheConstants.{MOST_VARIABLES}
 use Rattle.flow_edges.specs.Checks.{Checked, checks_in, checks_of, checks_of_program, with_cases}
 use Rattle.flow_edges.specs.declared.checked.CheckCases.{CheckCases}
 use Rattle.ask_verdicts.specs.Breaking.{is_case}
-use Rattle.ask_verdicts.proofs.cases.Guards.{cases_fit}
+use Rattle.ask_verdicts.proofs.breaking.Cases.{tested_cases}
 
 mutual
   -- the condition of a check in a statement is within the limits
@@ -50,7 +50,7 @@ all_cased : (n : ℕ) (checks : List Checked) → ((c : Checked) → In checks c
     → IsTrue (list_all (are_cases n) (map with_cases checks))
 all_cased n [] h = refl
 all_cased n (c ∷ cs) h =
-    and_from (are_cases n (with_cases c)) (list_all (are_cases n) (map with_cases cs)) (cases_fit n c.cond (h c (inl refl)))
+    and_from (are_cases n (with_cases c)) (list_all (are_cases n) (map with_cases cs)) (tested_cases n false c.cond (h c (inl refl)))
     (all_cased n cs (λ d m. h d (inr m)))
 
 -- so have those against the checks of a program

@@ -84,12 +84,12 @@ returns c =
     c.in_ok-state.state.len (omega (arith, kept, before)) in
     let w = c.args.variables + c.count_frees-frees.result in
     let g = c.in_ok-walked.ensures (columns c.args.variables) start in
-    let r = c.in_ok-add_guards.ensures (ends_from (length c.deref_mut.result.now) (columns c.args.variables) c.args.before.now) (end ∙ g.1)
-    in
+    let r = c.in_ok-add_guards.ensures (ends_from (length c.deref_mut.result.now) (columns c.args.variables) c.args.before.now)
+    (end ∙ g.1) in
     placed_composed c.args.variables w (length c.deref_mut.result.now) c.args.before.now c.args.guards.now
     (width_is c.args.variables c.count_frees-frees.result c.args.before.now c.count_frees-frees.ensures.count)
-    (start_size w c.args.variables c.deref_mut.result.now start) (g.2 []) c.count_frees-frees.result c.into_list-list.result.items
-    c.new.result
+    (start_size w c.args.variables c.deref_mut.result.now start) (g.2 []) c.count_frees-frees.result
+    c.into_list-list.result.items c.new.result
     c.new-2.result c.count_frees-frees.ensures.count (c.into_list-list.ensures ∙ g.0)
     (c.new-2.ensures ∙ take_at c.walk.new.state (drop (length c.walk.new.state) c.in_ok-state.state.items) c.in_ok-state.state.len
     (omega (arith, kept, before)) ∙ g.1) (c.new.ensures ∙ r.0) r.1

@@ -11,8 +11,8 @@ pub returns-in_err-sum : goal.returns-in_err-sum
 returns-in_err-sum c =
     let p = err_from_is_err_and c.from_residual.result c.from_residual.ensures.1 in
     rw (p.1, p.2)
-    (summed_wide c.args.coeffs.now c.args.word.now c.loop-column.column c.loop-column.sum c.loop-column.invariant (omega arith)
-    (omega arith)
+    (summed_wide c.args.coeffs.now c.args.word.now c.loop-column.column c.loop-column.sum c.loop-column.invariant
+    (omega arith) (omega arith)
     c.index-coeffs-column.result c.index-word-column.result c.index-coeffs-column.is c.index-word-column.is
     (operation_of (λ q. q) c.in_err-sum.field-0.0) c.in_err-sum.ensures)
 

@@ -1,4 +1,4 @@
-use Rattle.ask_checks.proofs.laws.Lists.{verdicts_are_one}
+use Rattle.ask_checks.proofs.laws.Determined.{verdicts_are_one}
 use Rattle.top_texts.proofs.check_texts.OneText.{check_verdicts_once, judged_once}
 use Rattle.top_answer.proofs.laws.check_verdicts_are_one.Goals as goal
 
