@@ -18,12 +18,11 @@ fn column_of(text: &[u8], at: u32) -> u32
     ensures { result ≡ column_at text.now at }
 {
     let before = &text[..text.len().min(at as usize)];
-    let bytes = before
-        .iter()
-        .rev()
-        .take_while(|byte| **byte != b'\n')
-        .count();
-    1 + bytes as u32
+    let mut column = 1;
+    for byte in before {
+        column = if *byte == b'\n' { 1 } else { column + 1 };
+    }
+    column
 }
 
 /// What a check is for.

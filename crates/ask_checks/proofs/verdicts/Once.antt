@@ -1,5 +1,5 @@
 -- There is one verdict on a check, and one refusal.
-use Rattle.std.proofs.Common.{◌≡◌, ◌∙◌, ℕ, List, length, take, refl, sym, ap, subst}
+use Rattle.std.proofs.Common.{◌≡◌, ◌∙◌, ℕ, length, take, refl, sym, ap, subst}
 use Rattle.base_numbers.specs.Rational.{ℚ}
 use Rattle.base_fractions.specs.declared.wide.Wide.{Wide}
 use Rattle.flow_edges.specs.declared.checked.CheckCases.{CheckCases}
@@ -27,8 +27,8 @@ module _ (system : Equations) (z : Vector) (check : CheckCases) where
 
   same_on : (edge : Edge) (x y : RationalState) → OpenOn system z check edge x → OpenOn system z check edge y → x ≡ y
   same_on edge x y a b =
-      let number = same_first (NoneAt system z check edge) (OpenAt system z check edge) (open_apart_at edge)
-      (length edge.actions) x y a b in
+      let number = same_first (NoneAt system z check edge) (OpenAt system z check edge) (open_apart_at edge) (length edge.actions) x y a b
+      in
       same_state system z edge.from (take a.number edge.actions) check.against x y a.here.1
       (subst (λ k. IsOpen system z edge.from (take k edge.actions) check.against y) (sym number) b.here.1)
 

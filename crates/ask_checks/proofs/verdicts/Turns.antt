@@ -1,8 +1,9 @@
 -- The actions of an edge, and the edges of a system, that a loop has judged.
-use Rattle.std.proofs.Common.{◌≡◌, ◌∙◌, ◌↔◌, ℕ, ◌+◌, ◌<◌, ◌≤◌, List, [], length, get_or, take, refl, sym, subst}
+use Rattle.std.proofs.Common.{◌≡◌, ◌∙◌, ◌↔◌, ℕ, ◌+◌, ◌<◌, ◌≤◌, List, [], length, get_or, take, refl, ap, subst, subst₂}
 use Rattle.std.proofs.lemmas.List.{get_or_default}
 use Rattle.base_numbers.specs.Rational.{ℚ}
 use Rattle.base_fractions.specs.declared.wide.Wide.{Wide}
+use Rattle.lang_tree.specs.declared.form.Form.{Form}
 use Rattle.flow_edges.specs.declared.checked.CheckCases.{CheckCases}
 use Rattle.flow_edges.specs.declared.edge.Action.{Action}
 use Rattle.flow_edges.specs.declared.edge.Action.TheVariants.{Check}
@@ -18,8 +19,8 @@ use Rattle.ask_verdicts.specs.declared.outcome.VerdictFault.{VerdictFault}
 use Rattle.ask_verdicts.specs.declared.outcome.VerdictFault.TheVariants.{Wide as WideVerdict}
 use Rattle.ask_verdicts.proofs.firsts.Firsts.{IsPassed, passed_more, found_fits, first_found, none_lower}
 use Rattle.ask_verdicts.proofs.verdicts.Once.{open_apart, open_somewhere}
-use Rattle.ask_checks.specs.Places.{StandsAt, edge_of}
-use Rattle.ask_checks.specs.Verdicts.{NoneAt, OpenAt, FitsAt, FaultAt, NoneOn, OpenOn, FitsOn, FaultOn, SaysOpen, CheckFits, IsCheckFault}
+use Rattle.ask_checks.specs.Places.{edge_of}
+use Rattle.ask_checks.specs.Verdicts.{NoneAt, OpenAt, FitsAt, NoneOn, OpenOn, FitsOn, FaultOn, SaysOpen, CheckFits, IsCheckFault}
 use Rattle.ask_checks.specs.Verdicts.{IsCheckVerdict}
 use Rattle.ask_checks.specs.declared.outcome.CheckFault.TheVariants.{Wide as WideCheck}
 use Rattle.ask_checks.proofs.places.Standing.{stands_here, stands_is}
@@ -40,8 +41,14 @@ module _ (system : Equations) (z : Vector) (check : CheckCases) where
     pub on_apart : (x : RationalState) → OpenOn system z check edge x → NoneOn system z check edge → ⊥
     on_apart x = first_found (NoneAt system z check edge) (OpenAt system z check edge) open_at_apart (length edge.actions) x
 
-    module _ (k : ℕ) (judged : IsJudgedOn edge k) (action : Action) (l : k < length edge.actions)
-        (is : action ≡ get_or edge.actions k action) where
+    module _ (k : ℕ) (judged : IsJudgedOn edge k) (actions : List Action) (same : actions ≡ edge.actions) (action : Action)
+        (there : k < length actions) (read : action ≡ get_or actions k action) where
+      l : k < length edge.actions
+      l = subst (λ xs. k < length xs) same there
+
+      is : action ≡ get_or edge.actions k action
+      is = read ∙ ap (λ xs. get_or xs k action) same
+
       -- an action that is not the check
       pub on_other : ¬ (action ≡ Check check.check) → IsJudgedOn edge (k + 1)
       on_other other =
@@ -49,9 +56,13 @@ module _ (system : Equations) (z : Vector) (check : CheckCases) where
           (λ stands. absurd (other (stands_is edge check k action l is stands)))
           (λ stands. absurd (other (stands_is edge check k action l is stands)))
 
-      module _ (e : action ≡ Check check.check) (before : List Action) (b : before ≡ take k edge.actions) where
+      module _ (e : action ≡ Check check.check) (before : List Action) (taken : before ≡ take k actions) (against : List (List Form))
+          (g : against ≡ check.against) where
+        b : before ≡ take k edge.actions
+        b = taken ∙ ap (take k) same
+
         -- the first wide operation behind it
-        pub on_refused : (fault : VerdictFault) → IsFirstFault system z edge.from before check.against fault
+        pub on_refused : (fault : VerdictFault) → IsFirstFault system z edge.from before against fault
             → FaultOn system z check edge fault
         on_refused fault h = record {
           number = k;
@@ -60,42 +71,37 @@ module _ (system : Equations) (z : Vector) (check : CheckCases) where
           fit = judged.fit;
           here = (
             stands_here edge check k action l is e,
-            subst (λ xs. IsFirstFault system z edge.from xs check.against fault) b h,
+            subst₂ (λ xs cs. IsFirstFault system z edge.from xs cs fault) b g h,
           );
         }
 
-        module _ (fit : AllFit system z edge.from before check.against) where
+        module _ (fit : AllFit system z edge.from before against) where
           fits_here : FitsAt system z check edge k
-          fits_here stands = subst (λ xs. AllFit system z edge.from xs check.against) b fit
+          fits_here stands = subst₂ (λ xs cs. AllFit system z edge.from xs cs) b g fit
 
           -- the check, where no case is open
-          pub on_proved : NoneOpen system z edge.from before check.against (length check.against) → IsJudgedOn edge (k + 1)
+          pub on_proved : NoneOpen system z edge.from before against (length against) → IsJudgedOn edge (k + 1)
           on_proved none =
               passed_more (NoneAt system z check edge) (FitsAt system z check edge) k judged fits_here
-              (λ stands. subst (λ xs. NoneOpen system z edge.from xs check.against (length check.against)) b none)
+              (λ stands. subst₂ (λ xs (cs : List (List Form)). NoneOpen system z edge.from xs cs (length cs)) b g none)
 
-          module _ (x : RationalState) (says : IsOpen system z edge.from before check.against x) where
+          module _ (x : RationalState) (says : IsOpen system z edge.from before against x) where
+            open_at : OpenAt system z check edge k x
+            open_at = (stands_here edge check k action l is e, subst₂ (λ xs cs. IsOpen system z edge.from xs cs x) b g says)
+
             -- the check, where a case is open
             pub on_open : OpenOn system z check edge x
-            on_open = record {
-              number = k;
-              within = l;
-              before = judged.none_below;
-              here = (
-                stands_here edge check k action l is e,
-                subst (λ xs. IsOpen system z edge.from xs check.against x) b says,
-              );
-            }
+            on_open = record { number = k; within = l; before = judged.none_below; here = open_at }
 
-            -- an open verdict isn't `Proved`, and some state breaks the check on the edge
+            -- so not all of the edge's cases are closed
             pub on_unproved : (Open x ≡ Proved) ↔ NoneOn system z check edge
             on_unproved = ((λ f. absurd (open_apart x f)), (λ none. absurd (on_apart x on_open none)))
 
-            -- no operation is wide up to the place that is open
+            -- and up to it no operation is wide
             pub on_fits : FitsOn system z check edge
             on_fits =
                 found_fits (NoneAt system z check edge) (FitsAt system z check edge) k judged fits_here (length edge.actions)
-                (λ none. open_at_apart k x on_open.here none)
+                (λ none. open_at_apart k x open_at none)
 
   -- ---- all edges
   -- no case is open on any of the first e edges, and no operation there is wide
@@ -109,16 +115,23 @@ module _ (system : Equations) (z : Vector) (check : CheckCases) where
       (none_lower (λ i. NoneOn system z check (edge_of system i)) e (length system.edges) judged.none_below l) in
       record { proved = ((λ f. none), (λ f. refl)); state = tt }
 
-  module _ (e : ℕ) (judged : IsJudgedBefore e) (edge : Edge) (l : e < length system.edges) (is : edge ≡ get_or system.edges e edge) where
+  module _ (e : ℕ) (judged : IsJudgedBefore e) (edges : List Edge) (same : edges ≡ system.edges) (edge : Edge) (there : e < length edges)
+      (read : edge ≡ get_or edges e edge) where
+    inside : e < length system.edges
+    inside = subst (λ (xs : List Edge). e < length xs) same there
+
+    is_read : edge ≡ get_or system.edges e edge
+    is_read = read ∙ ap (λ (xs : List Edge). get_or xs e edge) same
+
     here : edge ≡ edge_of system e
-    here = is ∙ get_or_default system.edges e edge (record { from = 0; to = 0; actions = [] }) l
+    here = is_read ∙ get_or_default system.edges e edge (record { from = 0; to = 0; actions = [] }) inside
 
     -- the first wide operation on the next edge
     pub edge_refused : (named case : ℕ) (part : Part) (wide : Wide ℚ) → named ≡ capped e
         → FaultOn system z check edge (WideVerdict case part wide) → IsCheckFault system z check (WideCheck named case part wide)
     edge_refused named case part wide f h = record {
       number = e;
-      within = l;
+      within = inside;
       before = judged.none_below;
       fit = judged.fit;
       here = (f, subst (λ x. FaultOn system z check x (WideVerdict case part wide)) here h);
@@ -139,7 +152,7 @@ module _ (system : Equations) (z : Vector) (check : CheckCases) where
         open_here = subst (λ y. OpenOn system z check y x) here says
 
         first_here : SaysOpen system z check (Open x)
-        first_here = record { number = e; within = l; before = judged.none_below; here = open_here }
+        first_here = record { number = e; within = inside; before = judged.none_below; here = open_here }
 
         -- an edge on which one is
         pub edge_open : IsCheckVerdict system z check (Open x)
@@ -151,7 +164,7 @@ module _ (system : Equations) (z : Vector) (check : CheckCases) where
           state = first_here;
         }
 
-        -- no operation is wide up to the edge on which the check is open
+        -- and up to it no operation is wide
         pub edge_open_fits : CheckFits system z check
         edge_open_fits =
             found_fits (λ i. NoneOn system z check (edge_of system i)) (λ i. FitsOn system z check (edge_of system i)) e judged edge_fits
