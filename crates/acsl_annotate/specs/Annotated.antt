@@ -18,10 +18,12 @@ use Rattle.acsl_anchors.specs.Laws.{anchored, point_of}
 use Rattle.acsl_notes.specs.Laws.{SaysTruth}
 use Rattle.acsl_notes.specs.Texts.{annotated, comments_from}
 use Rattle.ask_files.specs.Files.{Request}
+use Rattle.ask_words.specs.declared.request.Analysis.{Analysis}
 use Rattle.ask_words.specs.declared.request.Domain.{Domain}
 use Rattle.ask_words.specs.declared.request.Purpose.TheVariants.{Report}
 use Rattle.ask_words.specs.declared.request.Request.TheVariants.{Analyse}
-use Rattle.top_answer.specs.Commands.{Commands, command_of}
+use Rattle.top_answer.specs.Commands.{Commands, command_of, done_writes}
+use Rattle.top_status.specs.declared.status.Status.{Status}
 use Rattle.top_texts.specs.Meanings.{Meanings}
 use Rattle.top_texts.specs.Texts.{IsReady, IsSolvable}
 
@@ -59,11 +61,16 @@ pub record IsAnnotatedOf (text : List ℕ) (rows : Domain (List ℕ)) (bytes : L
   pub least : Least (equations_of_program (length names) body template) vector
   pub annotated : IsTextWith text names body template vector bytes
 
--- what is written for a request by a program whose `solve` writes the text with the annotations of the least vector in place of its report
-abbrev pub writes_noted : Meanings → Request → List ℕ → Type 0
-writes_noted m (Analyse Report a) bytes = IsSolvable a.program a.domain a.policy a.improvements × IsAnnotatedOf a.program a.domain bytes
-writes_noted m asked bytes = (command_of m asked).writes bytes
+-- the texts of an analysis have least bounds, and the bytes are the text with the annotations of these
+abbrev pub IsNoted : Analysis (List ℕ) → List ℕ → Type 0
+IsNoted a bytes = IsSolvable a.program a.domain a.policy a.improvements × IsAnnotatedOf a.program a.domain bytes
+
+-- what is written for a request, at an ending, by a program whose `solve` writes the text with the annotations of the least vector in place
+-- of its report
+abbrev pub writes_noted : Meanings → Request → Status → List ℕ → Type 0
+writes_noted m (Analyse Report a) status bytes = done_writes (λ made. IsNoted a made) status bytes
+writes_noted m asked status bytes = (command_of m asked).writes status bytes
 
 -- the commands of that program: their endings, and what may exceed exact work, are those of the commands of `tmpl`
 abbrev pub annotating : Meanings → Commands
-annotating m asked = record (command_of m asked) { writes = λ bytes. writes_noted m asked bytes }
+annotating m asked = record (command_of m asked) { writes = λ status bytes. writes_noted m asked status bytes }

@@ -1,4 +1,3 @@
-pub mod judging
 pub mod laws
 pub mod Rests
 pub mod grammar

@@ -1,4 +1,3 @@
 pub mod Claims
-pub mod SameBounds
 pub mod Lists
 pub mod Refusals

@@ -1,5 +1,5 @@
 -- Laws: what a proved claim says of runs, what an open one says, and that verdicts and refusals are determined.
-use Rattle.std.specs.Prelude.{◌≡◌, ◌≢◌, ℕ, ℤ, List, Some, false, length, slice_get, Contains}
+use Rattle.std.specs.Prelude.{◌≡◌, ◌≢◌, ℕ, ℤ, List, [], Some, false, length, slice_get, Contains}
 use Rattle.lang_tree.specs.Tree.{Condition, Statements}
 use Rattle.lang_tree.specs.Cases.{cases_of}
 use Rattle.lang_tree.specs.View.{condition_of}
@@ -9,12 +9,12 @@ use Rattle.flow_systems.specs.Equations.{Equations, Vector, PostSolution}
 use Rattle.flow_systems.specs.Solutions.{equations_of_program}
 use Rattle.flow_systems.specs.SolutionLaws.{IsSame}
 use Rattle.ask_claims.specs.declared.claim.Claim.{Claim}
-use Rattle.ask_claims.specs.declared.outcome.Verdict.{Verdict}
-use Rattle.ask_claims.specs.declared.outcome.Verdict.TheVariants.{Proved, Open}
+use Rattle.ask_verdicts.specs.declared.outcome.Verdict.{Verdict}
+use Rattle.ask_verdicts.specs.declared.outcome.Verdict.TheVariants.{Proved, Open}
 use Rattle.ask_claims.specs.declared.outcome.ClaimsFault.{ClaimsFault}
 use Rattle.ask_claims.specs.declared.outcome.ClaimsFault.TheVariants.{NoMemory}
-use Rattle.ask_claims.specs.AllVerdicts.{AreVerdicts, ClaimsFit, IsClaimsFault}
-use Rattle.ask_claims.specs.Breaking.{BreaksSome, NoneOpen}
+use Rattle.ask_verdicts.specs.Breaking.{NoneOpen}
+use Rattle.ask_claims.specs.AllVerdicts.{AreVerdicts, BreaksAgainst, ClaimsFit, IsClaimsFault}
 use Rattle.ask_claims.specs.Claims.{AreAtPoints}
 use Rattle.ask_claims.specs.Truth.{IsTrueAt}
 
@@ -23,7 +23,7 @@ use Rattle.ask_claims.specs.Truth.{IsTrueAt}
 abbrev pub ProvedClaimsHold : Type 0
 ProvedClaimsHold = (variables : ℕ) (body : Statements) (template : List (List ℤ)) (v : Vector) (p : ℕ) (c : Condition) →
     PostSolution (equations_of_program variables body template) v →
-    NoneOpen (equations_of_program variables body template) v p (cases_of false c) (length (cases_of false c)) →
+    NoneOpen (equations_of_program variables body template) v p [] (cases_of false c) (length (cases_of false c)) →
     (run : List Configuration) (now : Configuration) → IsRun variables body run → Contains run now → IsAt now p → IsTrueAt c now.state
 
 -- the state of an open claim fits the vector at the claim's point, and passes all guards of one of the cases against it
@@ -31,7 +31,7 @@ abbrev pub OpenStatesBreak : Type 0
 OpenStatesBreak = (system : Equations) (z : Vector) (claims : List Claim) (verdicts : List Verdict) (k : ℕ) (claim : Claim)
     (x : RationalState) →
     AreVerdicts system z claims verdicts → slice_get claims k ≡ Some claim → slice_get verdicts k ≡ Some (Open x) →
-    BreaksSome system z claim.point claim.against x
+    BreaksAgainst system z claim x
 
 -- vectors with the same bounds give claims at a system's points one list of verdicts
 abbrev pub VerdictsAreOne : Type 0

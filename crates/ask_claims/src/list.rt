@@ -6,8 +6,8 @@ ghost use Rattle.ask_claims.specs.AllVerdicts.{AreVerdicts, ClaimsFit, IsClaimsF
 ghost use Rattle.ask_claims.specs.Claims.{IsClaimOf};
 
 use crate::claim::Claim;
-use crate::judge::{capped, verdict};
-use crate::outcome::{ClaimsFault, Verdict, VerdictFault};
+use crate::outcome::ClaimsFault;
+use ask_verdicts::{Verdict, VerdictFault, capped, verdict};
 use flow_systems::{Bounds, System};
 use std::alloc::Global;
 
@@ -31,7 +31,14 @@ pub fn verdicts(
 {
     let mut list = Vec::new(alloc);
     for (number, claim) in claims.iter().enumerate() {
-        match verdict(alloc, system, bounds, claim) {
+        match verdict(
+            alloc,
+            system,
+            bounds,
+            claim.point,
+            &[],
+            claim.against.as_slice(),
+        ) {
             Ok(verdict) => list.push(verdict)?,
             Err(VerdictFault::Wide { case, part, wide }) => {
                 return Err(ClaimsFault::Wide {

@@ -1,31 +1,8 @@
-//! Verdicts.
+//! Why there are no verdicts on claims.
 
 use base_fractions::{Frac, Wide};
-use flow_systems::{Fracs, Part};
+use flow_systems::Part;
 use std::alloc::AllocFailed;
-
-/// What bounds say of a claim.
-#[derive(Drop)]
-pub enum Verdict {
-    /// No rational state that fits the bounds at the point passes a case against the claim.
-    Proved,
-    /// This one does: it has one fraction for each variable, in order of declaration.
-    Open { state: Fracs },
-}
-
-/// Why there is no verdict.
-#[derive(Clone, Copy, Debug, PartialEq, Eq, Drop)]
-pub enum VerdictFault {
-    /// An operation was too wide, in this part of the problem of this case. Cases are counted from 0, and a number above
-    /// 4,294,967,295 is given as this greatest one.
-    Wide {
-        case: u32,
-        part: Part,
-        wide: Wide<Frac>,
-    },
-    /// There was no memory.
-    NoMemory,
-}
 
 /// Why there are no verdicts on a list of claims.
 #[derive(Clone, Copy, Debug, PartialEq, Eq, Drop)]

@@ -100,6 +100,7 @@ pub fn request_files<'a>(
         Request::Transitions { analysis } => analysis_files(alloc, Which::System, analysis),
         Request::Equations { file, .. } => Ok(vec![in alloc; named(Which::Equations, file)]?),
         Request::Points { program } => Ok(vec![in alloc; named(Which::Program, program)]?),
+        Request::Verify { analysis } => analysis_files(alloc, Which::Program, analysis),
     }
 }
 
@@ -231,6 +232,9 @@ pub fn with_texts<'a>(request: Request<&str>, contents: &[&'a [u8]]) -> Request<
         },
         Request::Points { .. } => Request::Points {
             program: text_at(contents, 0),
+        },
+        Request::Verify { analysis } => Request::Verify {
+            analysis: analysis_with(analysis, contents),
         },
     }
 }

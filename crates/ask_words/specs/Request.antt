@@ -1,4 +1,4 @@
--- The commands: what `clap` is given, one simple command with nine subcommands; and what a list of words asks for.
+-- The commands: what `clap` is given, one simple command with ten subcommands; and what a list of words asks for.
 use Rattle.std.specs.Prelude.{◌++◌, ℕ, List, [], ◌∷◌, Option, Some, None, true, codes, option_and_then, option_map, unwrap_or}
 use Rattle.std.specs.Prelude.{if◌then◌else◌}
 use Rattle.std.specs.Str.{bytes_eq}
@@ -14,6 +14,7 @@ use Rattle.ask_words.specs.declared.request.Request.{Request}
 use Rattle.ask_words.specs.declared.request.Policy.{Policy}
 use Rattle.ask_words.specs.declared.request.Policy.TheVariants.{Best, First}
 use Rattle.ask_words.specs.declared.request.Request.TheVariants.{Analyse, Check, Bench, Upgrade, Prove, Transitions, Equations, Points}
+use Rattle.ask_words.specs.declared.request.Request.TheVariants.{Verify}
 use Rattle.ask_words.specs.declared.request.Purpose.{Purpose}
 use Rattle.ask_words.specs.declared.request.Purpose.TheVariants.{Report, Certificate}
 
@@ -24,7 +25,7 @@ abbrev pub usage_text : Text
 usage_text = codes "usage: tmpl solve PROGRAM [--domain D] [--rows FILE] [--improvements N] [--policy P] | certify (the same)"
     ++ codes " | check PROGRAM CERT | bench --seed N --loops K | upgrade CERT"
     ++ codes " | prove PROGRAM CLAIMS (the options of solve) | transitions FILE (the options of solve)"
-    ++ codes " | equations FILE [--improvements N] [--policy P] | points PROGRAM\n"
+    ++ codes " | equations FILE [--improvements N] [--policy P] | points PROGRAM | verify PROGRAM (the options of solve)\n"
 
 -- ---- the command line, as `clap` sees it
 
@@ -36,7 +37,7 @@ word_rule id = record (new_rule id) { required = true }
 abbrev pub option_rule : Text → Rule
 option_rule id = record (new_rule id) { long = Some id }
 
--- `solve PROGRAM`, `certify PROGRAM` and `transitions PROGRAM`, with four options
+-- `solve PROGRAM`, `certify PROGRAM`, `transitions PROGRAM` and `verify PROGRAM`, with four options
 abbrev pub analysis_app : Text → App
 analysis_app name =
     with_rule (with_rule (with_rule (with_rule (with_rule (new_app name)
@@ -78,8 +79,9 @@ top_app = on_top (λ s. record s { no_binary_name = true; subcommand_required = 
 -- the whole command line
 abbrev pub tmpl_app : App
 tmpl_app = with_subcommand (with_subcommand (with_subcommand (with_subcommand (with_subcommand (with_subcommand (with_subcommand
-    (with_subcommand (with_subcommand top_app (analysis_app (codes "solve")).top) (analysis_app (codes "certify")).top) check_app.top)
-    bench_app.top) upgrade_app.top) prove_app.top) (analysis_app (codes "transitions")).top) equations_app.top) points_app.top
+    (with_subcommand (with_subcommand (with_subcommand top_app (analysis_app (codes "solve")).top) (analysis_app (codes "certify")).top)
+    check_app.top) bench_app.top) upgrade_app.top) prove_app.top) (analysis_app (codes "transitions")).top) equations_app.top)
+    points_app.top) (analysis_app (codes "verify")).top
 
 -- ---- the texts of a request that borrows them
 
@@ -109,6 +111,7 @@ request_text (Prove claims a) = Prove claims.now (analysis_text a)
 request_text (Transitions a) = Transitions (analysis_text a)
 request_text (Equations file improvements policy) = Equations file.now improvements policy
 request_text (Points program) = Points program.now
+request_text (Verify a) = Verify (analysis_text a)
 
 -- ---- commands, by the words and options that were given
 
@@ -176,6 +179,10 @@ equations_in given =
 abbrev pub points_in : List Row → Option (Request Text)
 points_in given = option_map (λ program. Points program) (first_of (codes "program") given)
 
+-- `verify`: an analysis whose program has checks
+abbrev pub verify_in : List Row → Option (Request Text)
+verify_in given = option_map (λ a. Verify a) (analysis_in given)
+
 -- the request of a command by its name
 abbrev pub command_in : Text × List Row → Option (Request Text)
 command_in (name, given) = if bytes_eq name (codes "solve") then analyse_in Report given
@@ -186,7 +193,8 @@ command_in (name, given) = if bytes_eq name (codes "solve") then analyse_in Repo
     else (if bytes_eq name (codes "prove") then prove_in given
     else (if bytes_eq name (codes "transitions") then transitions_in given
     else (if bytes_eq name (codes "equations") then equations_in given
-    else (if bytes_eq name (codes "points") then points_in given else None))))))))
+    else (if bytes_eq name (codes "points") then points_in given
+    else (if bytes_eq name (codes "verify") then verify_in given else None)))))))))
 
 -- what is asked, where `clap` finds no fault
 abbrev pub unless_fault : Kinds → Option (Request Text) → Option (Request Text)
@@ -220,4 +228,6 @@ examples =
     ∷ (codes "equations" ∷ codes "e" ∷ codes "--policy=first" ∷ [], Equations (codes "e") 1000 First)
     -- the program alone has its points written
     ∷ (codes "points" ∷ codes "p" ∷ [], Points (codes "p"))
+    -- the checks of a program are judged by the bounds of its analysis
+    ∷ (codes "verify" ∷ codes "p" ∷ codes "--domain=octagons" ∷ [], Verify (plain_analysis (codes "p") Octagons))
     ∷ []

@@ -6,7 +6,7 @@ ghost use Rattle.clap.specs.declared.Command.TheViews.{out-Command};
 ghost use Rattle.ask_words.specs.Request.{analyse_in, analysis_app, analysis_in, analysis_text, bench_app, bench_in, check_app, check_in};
 ghost use Rattle.ask_words.specs.Request.{command_in, equations_app, equations_in, improvements_in, option_rule, points_app, points_in};
 ghost use Rattle.ask_words.specs.Request.{policy_in, prove_app, prove_in, request_text, tmpl_app, top_app, transitions_in, upgrade_app};
-ghost use Rattle.ask_words.specs.Request.{upgrade_in, usage_text, word_rule};
+ghost use Rattle.ask_words.specs.Request.{upgrade_in, usage_text, verify_in, word_rule};
 
 use crate::values::{domain, number, policy};
 use base_limits::MOST_IMPROVEMENTS;
@@ -92,6 +92,10 @@ pub enum Request<T> {
     Points {
         program: T,
     },
+    /// Analyse a program, and say of each of its checks whether the least bounds prove it.
+    Verify {
+        analysis: Analysis<T>,
+    },
 }
 
 /// The line, with its line feed, that says which words make a command.
@@ -101,7 +105,7 @@ pub fn usage_line() -> &'static [u8]
     b"usage: tmpl solve PROGRAM [--domain D] [--rows FILE] [--improvements N] [--policy P] | certify (the same) \
       | check PROGRAM CERT | bench --seed N --loops K | upgrade CERT \
       | prove PROGRAM CLAIMS (the options of solve) | transitions FILE (the options of solve) \
-      | equations FILE [--improvements N] [--policy P] | points PROGRAM\n"
+      | equations FILE [--improvements N] [--policy P] | points PROGRAM | verify PROGRAM (the options of solve)\n"
 }
 
 /// The whole command line.
@@ -116,7 +120,8 @@ pub(crate) fn command_line<'a>(alloc: Global) -> Result<Command<'a>, AllocError>
     let prove = upgrade.subcommand(prove_command(alloc)?)?;
     let transitions = prove.subcommand(analysis_command(alloc, "transitions")?)?;
     let equations = transitions.subcommand(equations_command(alloc)?)?;
-    Ok(equations.subcommand(points_command(alloc)?)?)
+    let points = equations.subcommand(points_command(alloc)?)?;
+    Ok(points.subcommand(analysis_command(alloc, "verify")?)?)
 }
 
 // The program, whose own name isn't among the words; one of the commands has to be.
@@ -128,7 +133,7 @@ fn top_command<'a>(alloc: Global) -> Command<'a>
         .subcommand_required(true)
 }
 
-// `solve`, `certify` or `transitions`.
+// `solve`, `certify`, `transitions` or `verify`.
 fn analysis_command<'a>(alloc: Global, name: &'a str) -> Result<Command<'a>, AllocError>
     ensures app { IfOk result (λ command. app_of command ≡ analysis_app name.entry.now) }
     ensures local { IfOk result (λ command. (out-Command command).has_globals ≡ false) }
@@ -233,6 +238,8 @@ fn command<'a>(name: &str, given: &ArgMatches<'a>) -> Option<Request<&'a str>>
         equations(given)
     } else if name == "points" {
         points(given)
+    } else if name == "verify" {
+        verify(given)
     } else {
         None
     }
@@ -321,6 +328,13 @@ fn points<'a>(given: &ArgMatches<'a>) -> Option<Request<&'a str>>
 {
     let program = value(given, "program")?;
     Some(Request::Points { program })
+}
+
+fn verify<'a>(given: &ArgMatches<'a>) -> Option<Request<&'a str>>
+    ensures { option_map request_text result ≡ verify_in (rows_of (found_of given.now)) }
+{
+    let analysis = analysis_in(given)?;
+    Some(Request::Verify { analysis })
 }
 
 // How many improvements are made at most.

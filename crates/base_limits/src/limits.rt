@@ -9,5 +9,5 @@ pub const MOST_CERTIFICATE_BYTES: usize = 16777216;
 /// How many improvements are made at most.
 pub const MOST_IMPROVEMENTS: u32 = 1000000;
 
-/// How many cells the largest joint problem of a system has at most.
+/// How many cells a joint problem has at most that is solved by the simplex method.
 pub const MOST_CELLS: u64 = 134217728;

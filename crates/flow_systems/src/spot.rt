@@ -15,25 +15,57 @@ pub enum Part {
     Reading,
 }
 
-/// What was computed. Edges, rows, unknowns, turns, raises, steps, items, claims and cases are numbered from 0.
+/// What was computed. Edges, rows, unknowns, turns, raises, steps, items, claims, checks and cases are numbered from 0.
 #[derive(Clone, Copy, Debug, PartialEq, Eq, Drop)]
 pub enum Site {
     /// The composed forms of an edge.
-    Compose { edge: u32 },
+    Compose {
+        edge: u32,
+    },
     /// The transformer of an edge and a row, to offer it.
-    Offer { edge: u32, row: u32, part: Part },
+    Offer {
+        edge: u32,
+        row: u32,
+        part: Part,
+    },
     /// The transformer of an edge and a row, to test for a raise.
-    Growth { edge: u32, row: u32, part: Part },
+    Growth {
+        edge: u32,
+        row: u32,
+        part: Part,
+    },
     /// The joint problem of a turn.
-    Joint { turn: u32, part: Part },
+    Joint {
+        turn: u32,
+        part: Part,
+    },
     /// The numbers of a raise.
-    Raise { raise: u32 },
+    Raise {
+        raise: u32,
+    },
     /// An item of a certificate's step.
-    Step { step: u32, item: u32 },
+    Step {
+        step: u32,
+        item: u32,
+    },
     /// What a certificate says of an unknown and an edge.
-    Upper { unknown: u32, edge: u32 },
+    Upper {
+        unknown: u32,
+        edge: u32,
+    },
     /// The problem of a case of a claim's negation.
-    Claim { claim: u32, case: u32, part: Part },
+    Claim {
+        claim: u32,
+        case: u32,
+        part: Part,
+    },
+    /// The problem of a case in which the condition of a check may be false, where the check stands on an edge.
+    Check {
+        check: u32,
+        edge: u32,
+        case: u32,
+        part: Part,
+    },
 }
 
 /// An operation that was too wide, in which round, 0 outside rounds, and at which site.

@@ -89,7 +89,14 @@ fn after_paren(source: &Source, reader: &mut Reader, value: Value) -> Result<Mod
             let cond = tested(place, value)?;
             decided(source, reader, test, place, cond)
         }
-        Some(Frame::Assigns(var, change, sign, place)) => {
+        Some(
+            Frame::Assigns {
+                var,
+                change,
+                sign,
+                place,
+            },
+        ) => {
             let begun = Assigning {
                 var,
                 change,
@@ -114,7 +121,14 @@ fn after_semicolon(source: &Source, reader: &mut Reader, value: Value) -> Result
         (frames_of reader.old.frames, value_of value)) }
 {
     match reader.frames.pop() {
-        Some(Frame::Assigns(var, change, sign, place)) => {
+        Some(
+            Frame::Assigns {
+                var,
+                change,
+                sign,
+                place,
+            },
+        ) => {
             let begun = Assigning {
                 var,
                 change,
@@ -123,14 +137,24 @@ fn after_semicolon(source: &Source, reader: &mut Reader, value: Value) -> Result
             };
             assigns(source, reader, begun, value)
         }
-        Some(Frame::Initial(name, place, sign)) => {
+        Some(Frame::Initial { name, place, sign }) => {
             let form = right_side(sign, value)?;
             let next = reader.frames.next_mode();
             reader.declared(source, &name, place, form, next)
         }
-        Some(Frame::Header(known, place, nodes)) => {
+        Some(
+            Frame::Header {
+                known,
+                place,
+                before: nodes,
+            },
+        ) => {
             let cond = tested(place, value)?;
-            reader.frames.push(Frame::Header(known, place, nodes))?;
+            reader.frames.push(Frame::Header {
+                known,
+                place,
+                before: nodes,
+            })?;
             reader.headed(cond)
         }
         Some(other) => {
@@ -148,7 +172,7 @@ fn after_comma(source: &Source, reader: &mut Reader, value: Value) -> Result<Mod
         (frames_of reader.old.frames, value_of value)) }
 {
     match reader.frames.pop() {
-        Some(Frame::Initial(name, place, sign)) => {
+        Some(Frame::Initial { name, place, sign }) => {
             let form = right_side(sign, value)?;
             reader.declared(source, &name, place, form, Mode::Declares)
         }
@@ -175,7 +199,7 @@ pub fn behind_value(
     match lexeme {
         Lexeme::Plain(Symbol::Infix(op)) => {
             let left = reader.frames.join_tighter(source.alloc, level(op), value)?;
-            reader.frames.push(Frame::Side(left, op, place))?;
+            reader.frames.push(Frame::Side { left, op, place })?;
             Ok(Mode::Wants)
         }
         Lexeme::Plain(Symbol::RightParen) => {

@@ -69,9 +69,11 @@ pub(crate) fn in_mode(
         }
         Mode::Heads(from) => {
             let known = reader.context.known_count();
-            reader
-                .frames
-                .push(Frame::Header(known, from, Vec::new(source.alloc)))?;
+            reader.frames.push(Frame::Header {
+                known,
+                place: from,
+                before: Vec::new(source.alloc),
+            })?;
             Ok(Mode::FirstPart)
         }
         Mode::FirstPart => in_first(source, reader, lexeme, place),

@@ -31,36 +31,68 @@ pub enum Within {
     /// The first branch of an `if`.
     Branch(Cond, u32),
     /// Its second branch, with the first.
-    Other(Cond, Block, u32),
+    Other {
+        cond: Cond,
+        first: Block,
+        place: u32,
+    },
     /// The body of a `while`.
     Loop(Cond, u32),
     /// The body of a `do`.
     Body(u32),
-    /// The body of a `for`: how many names were known before it, its place, the nodes of its first
-    /// part, its condition and its change.
-    For(usize, u32, Vec<Stmt>, Cond, ForChange),
+    /// The body of a `for`: how many names were known before it, its place, and the nodes of its
+    /// first part.
+    For {
+        known: usize,
+        place: u32,
+        before: Vec<Stmt>,
+        cond: Cond,
+        change: ForChange,
+    },
 }
 
 /// What is pending. A place is that of a statement's or a declarator's first token, or of a sign.
 #[derive(Drop)]
 pub enum Frame {
     /// A left side with its sign.
-    Side(Value, Op, u32),
+    Side {
+        left: Value,
+        op: Op,
+        place: u32,
+    },
     /// A sign before.
     Before(Before, u32),
     /// A parenthesis.
     Group(u32),
     /// The condition of a statement.
     Test(Test, u32),
-    /// An assignment: its variable, its sign with the sign's place, and its place.
-    Assigns(u32, Change, u32, u32),
-    /// A declarator with an initialiser, its place and that of its `=`.
-    Initial(Name, u32, u32),
-    /// The head of a `for` behind its `(`: how many names were known before it, its place, and the
-    /// nodes of its first part.
-    Header(usize, u32, Vec<Stmt>),
+    /// An assignment, with the place of its sign.
+    Assigns {
+        var: u32,
+        change: Change,
+        sign: u32,
+        place: u32,
+    },
+    /// A declarator with an initialiser, with the place of its `=`.
+    Initial {
+        name: Name,
+        place: u32,
+        sign: u32,
+    },
+    /// The head of a `for` behind its `(`: how many names were known before it, and the nodes of
+    /// its first part.
+    Header {
+        known: usize,
+        place: u32,
+        before: Vec<Stmt>,
+    },
     /// The same behind its condition.
-    HeaderTested(usize, u32, Vec<Stmt>, Cond),
+    HeaderTested {
+        known: usize,
+        place: u32,
+        before: Vec<Stmt>,
+        cond: Cond,
+    },
     /// Statements, with the nodes so far.
     Under(Within, Vec<Stmt>),
 }

@@ -91,7 +91,7 @@ fn is_body(frame: &Frame) -> bool
 {
     matches!(
         frame,
-        Frame::Under(Within::Loop(..) | Within::Body(_) | Within::For(..), _)
+        Frame::Under(Within::Loop(..) | Within::Body(_) | Within::For { .. }, _)
     )
 }
 
@@ -149,7 +149,11 @@ impl Frames {
         let mut value = value;
         while let Some(frame) = self.pop() {
             match frame {
-                Frame::Side(left, op, at) if level(op) >= next => {
+                Frame::Side {
+                    left,
+                    op,
+                    place: at,
+                } if level(op) >= next => {
                     value = combined(alloc, op, at, left, value)?;
                 }
                 other => {
@@ -170,9 +174,19 @@ impl Frames {
                 let nodes = followed(nodes, one(alloc, stmt)?)?;
                 self.push(Frame::Under(within, nodes))
             }
-            Some(Frame::Header(known, at, nodes)) => {
+            Some(
+                Frame::Header {
+                    known,
+                    place: at,
+                    before: nodes,
+                },
+            ) => {
                 let nodes = followed(nodes, one(alloc, stmt)?)?;
-                self.push(Frame::Header(known, at, nodes))
+                self.push(Frame::Header {
+                    known,
+                    place: at,
+                    before: nodes,
+                })
             }
             Some(other) => self.push(other),
             None => Ok(()),
@@ -198,7 +212,7 @@ impl Frames {
         ensures { mode_of result ≡ next_mode (frames_of self.now) }
     {
         match self.list.last() {
-            Some(Frame::Header(..)) => Mode::TestPart,
+            Some(Frame::Header { .. }) => Mode::TestPart,
             _ => Mode::Stands,
         }
     }

@@ -66,13 +66,36 @@ impl Reader {
             (frames_of self.old.frames) (statements_of nodes.items) ≡ machine_of self.new m) }
     {
         match self.frames.pop() {
-            Some(Frame::Header(known, place, before)) => {
+            Some(
+                Frame::Header {
+                    known,
+                    place,
+                    before,
+                },
+            ) => {
                 let before = followed(before, nodes)?;
-                self.frames.push(Frame::Header(known, place, before))?;
+                self.frames.push(Frame::Header {
+                    known,
+                    place,
+                    before,
+                })?;
                 Ok(Mode::TestPart)
             }
-            Some(Frame::HeaderTested(known, place, before, cond)) => {
-                let within = Within::For(known, place, before, cond, change_in(nodes));
+            Some(
+                Frame::HeaderTested {
+                    known,
+                    place,
+                    before,
+                    cond,
+                },
+            ) => {
+                let within = Within::For {
+                    known,
+                    place,
+                    before,
+                    cond,
+                    change: change_in(nodes),
+                };
                 self.frames.push(Frame::Under(within, Vec::new(alloc)))?;
                 Ok(Mode::Stands)
             }
@@ -89,10 +112,20 @@ impl Reader {
         ensures { Gives (machine_of self.new) result (headed (state_of self.old.context) (frames_of self.old.frames) (condition_of cond)) }
     {
         match self.frames.pop() {
-            Some(Frame::Header(known, place, before)) => {
+            Some(
+                Frame::Header {
+                    known,
+                    place,
+                    before,
+                },
+            ) => {
                 self.context.counted(place)?;
-                self.frames
-                    .push(Frame::HeaderTested(known, place, before, cond))?;
+                self.frames.push(Frame::HeaderTested {
+                    known,
+                    place,
+                    before,
+                    cond,
+                })?;
                 Ok(Mode::LastPart)
             }
             Some(other) => {

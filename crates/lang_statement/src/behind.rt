@@ -43,9 +43,12 @@ pub fn behind_name(
         Lexeme::Plain(Symbol::Change(change)) => {
             let var = reader.context.known_number(&name, from)?;
             reader.context.counted(from)?;
-            reader
-                .frames
-                .push(Frame::Assigns(var, change, place, from))?;
+            reader.frames.push(Frame::Assigns {
+                var,
+                change,
+                sign: place,
+                place: from,
+            })?;
             Ok(Mode::Wants)
         }
         Lexeme::Plain(Symbol::Step(direction)) => {
@@ -132,7 +135,11 @@ pub fn behind_declarator(
 {
     match lexeme {
         Lexeme::Plain(Symbol::Change(_)) => {
-            reader.frames.push(Frame::Initial(name, from, place))?;
+            reader.frames.push(Frame::Initial {
+                name,
+                place: from,
+                sign: place,
+            })?;
             Ok(Mode::Wants)
         }
         Lexeme::Plain(Symbol::Comma) => {

@@ -31,7 +31,11 @@ fn wrapped(source: &Source, within: Within, nodes: Vec<Stmt>) -> Result<Vec<Stmt
                 line: line_of(source.text, at),
             },
         ),
-        Within::Other(cond, first, at) => one(
+        Within::Other {
+            cond,
+            first,
+            place: at,
+        } => one(
             source.alloc,
             Stmt::If {
                 cond,
@@ -49,7 +53,13 @@ fn wrapped(source: &Source, within: Within, nodes: Vec<Stmt>) -> Result<Vec<Stmt
             },
         ),
         Within::Body(_) => Ok(nodes),
-        Within::For(_, at, before, cond, change) => {
+        Within::For {
+            place: at,
+            before,
+            cond,
+            change,
+            ..
+        } => {
             let body = Block::new(nodes);
             let line = line_of(source.text, at);
             followed(
@@ -92,15 +102,39 @@ fn close_one(
                 Within::Branch(cond, at) => {
                     Ok(Some(wrapped(source, Within::Branch(cond, at), all)?))
                 }
-                Within::Other(cond, first, at) => {
-                    Ok(Some(wrapped(source, Within::Other(cond, first, at), all)?))
+                Within::Other {
+                    cond,
+                    first,
+                    place: at,
+                } => {
+                    Ok(Some(wrapped(
+                        source,
+                        Within::Other {
+                            cond,
+                            first,
+                            place: at,
+                        },
+                        all,
+                    )?))
                 }
                 Within::Loop(cond, at) => {
                     Ok(Some(wrapped(source, Within::Loop(cond, at), all)?))
                 }
-                Within::For(known, at, first, cond, change) => {
+                Within::For {
+                    known,
+                    place: at,
+                    before: first,
+                    cond,
+                    change,
+                } => {
                     reader.context.close(known);
-                    let within = Within::For(known, at, first, cond, change);
+                    let within = Within::For {
+                        known,
+                        place: at,
+                        before: first,
+                        cond,
+                        change,
+                    };
                     Ok(Some(wrapped(source, within, all)?))
                 }
             }
@@ -147,21 +181,49 @@ fn attach_one(
                 Within::Items(_) => Ok(None),
                 Within::Body(_) => Ok(None),
                 Within::Branch(cond, at) => {
-                    let within = Within::Other(cond, Block::new(all), at);
+                    let within = Within::Other {
+                        cond,
+                        first: Block::new(all),
+                        place: at,
+                    };
                     reader
                         .frames
                         .push(Frame::Under(within, Vec::new(source.alloc)))?;
                     Ok(None)
                 }
-                Within::Other(cond, first, at) => {
-                    Ok(Some(wrapped(source, Within::Other(cond, first, at), all)?))
+                Within::Other {
+                    cond,
+                    first,
+                    place: at,
+                } => {
+                    Ok(Some(wrapped(
+                        source,
+                        Within::Other {
+                            cond,
+                            first,
+                            place: at,
+                        },
+                        all,
+                    )?))
                 }
                 Within::Loop(cond, at) => {
                     Ok(Some(wrapped(source, Within::Loop(cond, at), all)?))
                 }
-                Within::For(known, at, first, cond, change) => {
+                Within::For {
+                    known,
+                    place: at,
+                    before: first,
+                    cond,
+                    change,
+                } => {
                     reader.context.close(known);
-                    let within = Within::For(known, at, first, cond, change);
+                    let within = Within::For {
+                        known,
+                        place: at,
+                        before: first,
+                        cond,
+                        change,
+                    };
                     Ok(Some(wrapped(source, within, all)?))
                 }
             }

@@ -4,3 +4,4 @@ pub mod Places
 pub mod Ranges
 pub mod operations
 pub mod Alls
+pub mod behind

@@ -1,6 +1,11 @@
 -- The laws of composed forms.
-use Rattle.std.specs.Prelude.{◌≡◌, ◌↔◌, ℕ, ◌++◌, ℤ, List, length, slice_get, map, Some}
+use Rattle.std.specs.Prelude.{◌≡◌, ◌↔◌, ℕ, ◌++◌, ℤ, List, [], length, slice_get, map, Some, None, IsTrue}
+use Rattle.std.specs.List.{list_all}
 use Rattle.base_numbers.specs.Rational.{ℚ}
+use Rattle.base_fractions.specs.Fits.{long_limit}
+use Rattle.base_fractions.specs.Operation.{first_wide}
+use Rattle.lang_tree.specs.declared.form.Form.{Form as ProgramForm}
+use Rattle.lang_tree.specs.Limits.{is_form}
 use Rattle.flow_edges.specs.declared.edge.Action.{Action}
 use Rattle.flow_edges.specs.declared.edge.Edge.{Edge}
 use Rattle.flow_systems.specs.States.{RationalState, dotℚ}
@@ -8,6 +13,7 @@ use Rattle.flow_systems.specs.FreeValues.{Follows}
 use Rattle.flow_systems.specs.Equations.{Equations}
 use Rattle.theory_validity.specs.Words.{Affine as Form, val, free_count, width, AllAtMost}
 use Rattle.solve_composition.specs.declared.affine.Affine.{Affine}
+use Rattle.solve_composition.specs.Behind.{placed_composition}
 use Rattle.solve_composition.specs.Composed.{EdgeForms, AreComposed}
 
 -- two lists of composed forms of one system are the same
@@ -46,3 +52,8 @@ abbrev pub ComposedFormsHaveColumns : Type 0
 ComposedFormsHaveColumns = (system : Equations) (paths : List EdgeForms) → AreComposed system paths →
     (length paths ≡ length system.edges) × ((k : ℕ) (edge : Edge) (forms : EdgeForms) → slice_get system.edges k ≡ Some edge →
     slice_get paths k ≡ Some forms → HaveColumns system edge forms)
+
+-- guards over the variables alone are composed by operations that are never wide
+abbrev pub GuardsAloneFit : Type 0
+GuardsAloneFit = (n : ℕ) (guards : List ProgramForm) → IsTrue (list_all (is_form n) guards)
+    → first_wide long_limit (placed_composition n [] guards) ≡ None

@@ -5,3 +5,4 @@ pub mod Sums
 pub mod Walks
 pub mod ComposedLaws
 pub mod Value
+pub mod Behind

@@ -11,6 +11,7 @@ mod fault;
 mod form;
 mod law;
 mod paths;
+mod placed;
 mod sums;
 mod value;
 mod walk;
@@ -18,6 +19,9 @@ mod walk;
 pub use affine::{Affine, Affines};
 pub use compose::compose_all;
 pub use fault::{FormFault, PathFault};
-pub use law::{composed_forms_have_columns, composed_forms_mean, one_composition};
+pub use law::{
+    composed_forms_have_columns, composed_forms_mean, guards_alone_fit, one_composition,
+};
 pub use paths::{Path, Paths};
+pub use placed::{PlacedForms, compose_placed};
 pub use value::Value;

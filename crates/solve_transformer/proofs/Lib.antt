@@ -1,3 +1,3 @@
 pub mod splits
-pub mod stays
 pub mod values
+pub mod place_laws

@@ -2,4 +2,5 @@ pub mod Values
 pub mod Splits
 pub mod Readings
 pub mod Meanings
-pub mod Stays
+pub mod Places
+pub mod PlaceLaws

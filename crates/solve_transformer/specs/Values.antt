@@ -16,10 +16,10 @@ use Rattle.flow_systems.specs.declared.spot.PartFault.TheVariants.{Wide, NoMemor
 use Rattle.theory_validity.specs.Words.{width, guard_forms, end_form}
 use Rattle.lp_theory.specs.Problem.{Problem, Outcome, best, unbounded, empty}
 use Rattle.lp_theory.specs.Simplex.{lp}
-use Rattle.lp_theory.specs.Free.{split_problem, unsplit}
+use Rattle.lp_theory.specs.Free.{unsplit}
 use Rattle.lp_simplex.specs.Operations.{first_refused, run_operations, capped}
 use Rattle.theory_transformers.specs.Limits.{tabulate}
-use Rattle.theory_transformers.specs.EdgeProblems.{edge_problem, lost}
+use Rattle.theory_transformers.specs.EdgeProblems.{lost, whole_problem}
 use Rattle.theory_transformers.specs.Spread.{spread, skip}
 use Rattle.solve_composition.specs.declared.value.Value.{Value}
 use Rattle.solve_composition.specs.declared.value.Value.TheVariants.{Unreached, Empty, Best, Unbounded}
@@ -67,10 +67,6 @@ abbrev pub reading_operations : ℕ → ℚ → Outcome → List Operation
 reading_operations w c (best x v y) = record { op = Add; left = v; right = c } ∷ entry_operations w x
 reading_operations w c (unbounded x d) = entry_operations w x ++ entry_operations w d
 reading_operations w c (empty y) = []
-
--- the problem of an edge and a row at a vector, over split columns
-abbrev pub whole_problem : Equations → Vector → Edge → List ℤ → Problem
-whole_problem system z edge row = split_problem (edge_problem system z edge row)
 
 -- the last dictionary of the problem, read as a value
 abbrev pub ReadsProblem : Equations → Vector → Edge → List ℤ → Value → Type 0

@@ -8,10 +8,10 @@ ghost use Rattle.flow_systems.specs.Equations.{Equations, Vector};
 ghost use Rattle.flow_edges.specs.declared.edge.Edge.{Edge};
 ghost use Rattle.flow_systems.specs.SystemLimits.{is_over};
 ghost use Rattle.lp_dictionary.specs.Exact.{exact, IsShaped};
-ghost use Rattle.theory_transformers.specs.EdgeProblems.{source_limits, guard_limits};
+ghost use Rattle.theory_transformers.specs.EdgeProblems.{source_limits, guard_limits, whole_problem};
 ghost use Rattle.theory_validity.specs.Words.{Affine as Formal};
 ghost use Rattle.solve_composition.specs.Composed.{dense};
-ghost use Rattle.solve_transformer.specs.Values.{whole_problem, IsLowestLost};
+ghost use Rattle.solve_transformer.specs.Values.{IsLowestLost};
 ghost use Rattle.solve_transformer.specs.Splits.{bounds_at, split_limit, limit_of, source_row, IsSource};
 ghost use Rattle.flow_templates.specs.declared.limits.TheConstants.{MOST_ROWS};
 ghost use Rattle.lang_tree.specs.declared.limits.TheConstants.{MOST_VARIABLES};
@@ -103,7 +103,7 @@ pub fn edge_problem(
 ) -> Result<Problem<Frac>, AllocError>
     requires room { length template.now ≤ length source.now }
     requires few_rows { length template.now ≤ MOST_ROWS }
-    requires few_guards { length guards.now ≤ 256 }
+    requires few_guards { length guards.now ≤ 512 }
     requires few_columns { width ≤ MOST_VARIABLES + 256 }
     ensures { (system : Equations) (z : Vector) (edge : Edge) (row : List ℤ) → IsTrue (is_over system.variables system.template) →
         IsSource system z edge row width template.now source.now guards.now form.now →

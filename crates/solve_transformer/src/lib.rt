@@ -4,12 +4,14 @@
 #![tactic(auto)]
 
 mod build;
+mod law;
+mod place;
 mod read;
 mod split;
-mod stay;
 mod transform;
 
+pub use law::points_are_plain;
+pub use place::{Placed, placed_value};
 pub use solve_composition::{PathFault, Paths, Value, compose_all};
 pub use split::{split_coeffs, split_row};
-pub use stay::guarded_value;
 pub use transform::operator;

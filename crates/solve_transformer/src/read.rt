@@ -32,7 +32,7 @@ pub struct Sizes {
     pub guards: usize,
     pub ghost few_variables: { variables ≤ MOST_VARIABLES },
     pub ghost few_frees: { frees ≤ 256 },
-    pub ghost few_guards: { guards ≤ 256 },
+    pub ghost few_guards: { guards ≤ 512 },
 }
 
 // An entry of a list, 0 behind its end.
@@ -150,7 +150,7 @@ fn guard_multipliers(
     count: usize,
 ) -> Result<Fracs, AllocError>
     requires first { first ≤ MOST_ROWS }
-    requires count { count ≤ 256 }
+    requires count { count ≤ 512 }
     ensures { IfOk result (λ list. list ≡ map (λ k. at multipliers.now (first + k)) (range_with_len 0 count)) }
 {
     let mut list = Vec::with_capacity(alloc, count)?;

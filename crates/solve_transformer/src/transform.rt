@@ -82,7 +82,7 @@ pub(crate) fn solve_forms(
 ) -> Result<Value, PartFault>
     requires room { length system.now.template ≤ length source.now }
     requires few_frees { frees ≤ 256 }
-    requires few_guards { length guards.now ≤ 256 }
+    requires few_guards { length guards.now ≤ 512 }
     requires forms { HasSource (equations_of system.now) (length system.now.flow.names + frees) system.now.template source.now guards.now
         form.now }
     ensures { (z : Vector) (edge : Edge) (row : List ℤ) →

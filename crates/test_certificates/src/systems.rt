@@ -4,10 +4,10 @@ use base_fractions::{Ext, Frac};
 use flow_edges::{Action, Actions, Edge, Edges, Flow, Place, Point, Points};
 use flow_systems::{Bounds, Pick, System};
 use flow_templates::Template;
-use lang_tree::{Check, CheckKind, Coeffs, Form, Name, Names};
+use lang_tree::{Coeffs, Form, Name, Names};
 use std::test::Fail;
 
-// int x; x = 2 * x + 1; assert(x <= 5); x = nondet(); over x and -x.
+// int x; x = 2 * x + 1; assume(x <= 5); x = nondet(); over x and -x.
 #[test]
 fn a_system_of_one_edge(rt: HostRuntime) -> Result<(), Fail> {
     let alloc = rt.alloc();
@@ -30,10 +30,6 @@ fn a_system_of_one_edge(rt: HostRuntime) -> Result<(), Fail> {
             constant: 1,
         },
     })?;
-    actions.push(Action::Check(Check {
-        kind: CheckKind::Assert,
-        at: 22,
-    }))?;
     actions.push(Action::Guard(Form {
         coeffs: Coeffs::new(vec![in alloc; 1]?),
         constant: -5,

@@ -43,11 +43,12 @@ pub(crate) fn run_line(
 }
 
 /// How a run is to end: refused with this code and this message, and no output; or with this report or one that ends so, and
-/// no message.
+/// no message; or so with this whole output, where a check is open.
 #[derive(Clone, Copy)]
 pub(crate) enum Ending<'a> {
     Refused(u8, &'a [u8]),
     Report(&'a [u8]),
+    Open(&'a [u8]),
     End(&'a [u8]),
     Start(&'a [u8]),
 }
@@ -58,6 +59,7 @@ fn has_ending(written: &Written, ending: Ending) -> bool {
     match ending {
         Ending::Refused(code, message) => is_as_wanted(written, code, b"", message),
         Ending::Report(report) => is_as_wanted(written, 0, report, b""),
+        Ending::Open(verdicts) => is_as_wanted(written, 10, verdicts, b""),
         Ending::End(end) => out.ends_with(end) && is_as_wanted(written, 0, out, b""),
         Ending::Start(start) => out.starts_with(start) && is_as_wanted(written, 0, out, b""),
     }

@@ -1,6 +1,7 @@
-//! Runs that are done: reports, certificates that are accepted, verdicts, values.
+//! Runs that have an output: reports, certificates that are accepted, verdicts, values.
 
 mod certified;
+mod checks;
 mod claims;
 mod equations;
 mod generated;

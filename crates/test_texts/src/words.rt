@@ -185,6 +185,17 @@ const OTHERS: &[(&str, Request<&str>)] = &[
     ),
     ("points p", Request::Points { program: "p" }),
     ("points -- -p", Request::Points { program: "-p" }),
+    (
+        "verify --domain octagons p --improvements 7",
+        Request::Verify {
+            analysis: Analysis {
+                program: "p",
+                domain: Domain::Octagons,
+                improvements: 7,
+                policy: Policy::Best,
+            },
+        },
+    ),
 ];
 
 #[test]
@@ -240,6 +251,9 @@ const REFUSED: &[&str] = &[
     "points",
     "points p q",
     "points p --domain zones",
+    "verify",
+    "verify p c",
+    "verify p --domain rows",
     "--help",
     "help",
     "solve p -h",
@@ -255,5 +269,5 @@ fn other_words_ask_for_nothing(rt: HostRuntime) {
 #[test]
 fn usage(rt: HostRuntime) {
     assert!(rt; usage_line().starts_with(b"usage: tmpl solve PROGRAM [--domain D]"));
-    assert!(rt; usage_line().len() == 323);
+    assert!(rt; usage_line().len() == 363);
 }

@@ -10,20 +10,16 @@ use Rattle.theory_validity.specs.Steps.{end_value, Upper}
 use Rattle.theory_validity.specs.Transformers.{Unlimited, Reaches}
 use Rattle.theory_validity.proofs.words.WordLaws.{val-end_form}
 use Rattle.theory_validity.proofs.words.Widths.{end_form_width}
-use Rattle.lp_theory.specs.Problem.{Problem, Outcome, best, unbounded, empty, value_at}
+use Rattle.lp_theory.specs.Problem.{Outcome, best, unbounded, empty, value_at}
 use Rattle.lp_theory.specs.Simplex.{lp}
-use Rattle.lp_theory.specs.Free.{split_problem, unsplit, unsplit_outcome, free_lp, IsFreeOutcome, IsFreeUnbounded}
+use Rattle.lp_theory.specs.Free.{unsplit, unsplit_outcome, free_lp, IsFreeOutcome, IsFreeUnbounded}
 use Rattle.lp_theory.proofs.FreePrograms.{free_lp_is}
 use Rattle.theory_transformers.specs.Limits.{limits_problem, product, tabulate}
-use Rattle.theory_transformers.specs.EdgeProblems.{edge_problem, lost, value_of, transformer, NoneLost}
+use Rattle.theory_transformers.specs.EdgeProblems.{edge_problem, lost, value_of, transformer, NoneLost, whole_problem}
 use Rattle.theory_transformers.proofs.limits.Products.{product_is_sum, product-tabulate}
 use Rattle.theory_transformers.proofs.edge_problems.EdgePoints.{point_runs, direction_falls}
 use Rattle.theory_transformers.proofs.edge_problems.TransformerOf.{none_lost, transformer_upper}
 use Rattle.theory_strategy.specs.Growth.{Evident}
-
--- the problem of an edge and a row at a vector, over split columns
-abbrev pub whole_problem : Equations → Vector → Edge → List ℤ → Problem
-whole_problem system z edge row = split_problem (edge_problem system z edge row)
 
 -- the word of an edge that stands in a point over split columns: each positive column minus the negative one
 abbrev pub word_at : Equations → Edge → (ℕ → ℚ) → Word

@@ -5,9 +5,9 @@ use Rattle.flow_edges.specs.declared.edge.Edge.{Edge}
 use Rattle.flow_systems.specs.Equations.{Equations, Vector}
 use Rattle.theory_validity.specs.Steps.{Item, edge_of}
 use Rattle.lp_theory.specs.Simplex.{lp}
-use Rattle.theory_transformers.specs.EdgeProblems.{lost, transformer}
+use Rattle.theory_transformers.specs.EdgeProblems.{lost, transformer, whole_problem}
 use Rattle.theory_strategy.specs.Growth.{Sizes}
-use Rattle.theory_rounds.specs.Evidence.{whole_problem, exact_evidence}
+use Rattle.theory_rounds.specs.Evidence.{exact_evidence}
 use Rattle.theory_rounds.specs.Raises.{HasWords, raise_read, outcome_at}
 use Rattle.theory_rounds.specs.Rounds.{exact_raise}
 

@@ -11,9 +11,8 @@ use Rattle.theory_validity.specs.Certificates.{Evidence, Bound, Empty, Unreached
 use Rattle.lp_theory.specs.Problem.{Outcome, best, unbounded, empty}
 use Rattle.lp_theory.specs.Simplex.{lp}
 use Rattle.theory_transformers.specs.Limits.{tabulate}
-use Rattle.theory_transformers.specs.EdgeProblems.{is_lost, lost}
+use Rattle.theory_transformers.specs.EdgeProblems.{is_lost, lost, whole_problem}
 use Rattle.theory_transformers.specs.Spread.{spread, skip}
-use Rattle.theory_rounds.specs.Evidence.{whole_problem}
 use Rattle.theory_rounds.specs.Rounds.{Choice, exact_state, exact_steps}
 
 -- the lowest row whose bound is −∞

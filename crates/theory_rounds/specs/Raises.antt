@@ -10,7 +10,8 @@ use Rattle.theory_validity.specs.Transformers.{Reaches}
 use Rattle.lp_theory.specs.Problem.{Outcome, best, unbounded, empty}
 use Rattle.lp_theory.specs.Simplex.{lp}
 use Rattle.theory_strategy.specs.Growth.{split, with_words, raised_to}
-use Rattle.theory_rounds.specs.Evidence.{whole_problem, word_at}
+use Rattle.theory_rounds.specs.Evidence.{word_at}
+use Rattle.theory_transformers.specs.EdgeProblems.{whole_problem}
 
 -- the words of evidence are those of an outcome: of a best one its word, of an unbounded one its word and its direction
 abbrev pub HasWords : (system : Equations) (z : Vector) (edge : Edge) (row : List ℤ) (v : Ext) → Reaches system z edge row v → Outcome

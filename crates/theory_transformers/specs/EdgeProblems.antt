@@ -6,7 +6,7 @@ use Rattle.flow_edges.specs.declared.edge.Edge.{Edge}
 use Rattle.flow_systems.specs.Equations.{Equations, Vector}
 use Rattle.theory_validity.specs.Words.{Affine, width, guard_forms, start_form, end_form}
 use Rattle.lp_theory.specs.Problem.{Problem, Outcome, best, unbounded, empty}
-use Rattle.lp_theory.specs.Free.{free_lp}
+use Rattle.lp_theory.specs.Free.{free_lp, split_problem}
 use Rattle.theory_transformers.specs.Limits.{Limit, limits_problem}
 
 -- the row of a template row with this bound, if the bound is finite, before others
@@ -32,10 +32,14 @@ edge_limits system z edge =
     source_limits (λ r u. u) system.variables (z edge.from) system.template
     ++ guard_limits (λ u. u) (guard_forms system.variables edge.actions)
 
--- the problem over a word's columns, of any sign: `split_problem` of it is the one over split columns
+-- the problem over a word's columns, of any sign
 unfoldable pub edge_problem : Equations → Vector → Edge → List ℤ → Problem
 edge_problem system z edge row = limits_problem (width system.variables edge.actions) (edge_limits system z edge)
     (end_form system.variables edge.actions row).coeffs
+
+-- the same over split columns
+abbrev pub whole_problem : Equations → Vector → Edge → List ℤ → Problem
+whole_problem system z edge row = split_problem (edge_problem system z edge row)
 
 -- whether a bound is −∞
 abbrev pub is_lost : Ext → Bool

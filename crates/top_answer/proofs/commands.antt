@@ -8,4 +8,5 @@ pub mod Plain
 pub mod Claims
 pub mod Transitions
 pub mod Equations
+pub mod Verified
 pub mod Table

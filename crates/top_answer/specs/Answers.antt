@@ -1,13 +1,14 @@
 -- What an answer says of the words and of the contents of the files that they name.
-use Rattle.std.specs.Prelude.{◌≡◌, ℕ, List, [], Some, None}
+use Rattle.std.specs.Prelude.{◌≡◌, ℕ, IsTrue, List, [], Some, None}
 use Rattle.ask_words.specs.Request.{request_of}
 use Rattle.ask_files.specs.Files.{with_texts}
 use Rattle.top_answer.specs.Commands.{Commands, command_of}
 use Rattle.ask_files.specs.Files.{Request, files_of, unread}
 use Rattle.ask_files.specs.declared.which.ReadCause.{ReadCause}
+use Rattle.top_status.specs.Status.{has_output}
 use Rattle.top_status.specs.declared.status.Excess.{Excess}
 use Rattle.top_status.specs.declared.status.Status.{Status}
-use Rattle.top_status.specs.declared.status.Status.TheVariants.{Done, Usage, Read, Exceeded, Spent, Memory}
+use Rattle.top_status.specs.declared.status.Status.TheVariants.{Done, Open, Usage, Read, Exceeded, Spent, Memory}
 use Rattle.top_texts.specs.Meanings.{Meanings}
 
 -- the words ask for this command over these texts: their request, with the contents in place of the names of its files, each of which is
@@ -46,6 +47,7 @@ pub data IsAnswer (commands : Commands) (words contents : List (List ℕ)) (stat
 -- an ending that improvements decide
 pub data IsOfRounds (ending : Status) : Type 0 where
   of_ended : ending ≡ Done → IsOfRounds ending
+  of_open : ending ≡ Open → IsOfRounds ending
   of_spent : (number : ℕ) → ending ≡ Spent number → IsOfRounds ending
 
 -- the ending is answered; or, in its place, want of memory, or for an ending that improvements decide what exceeds exact work
@@ -57,16 +59,16 @@ pub data IsAnsweredBy (commands : Commands) (words contents : List (List ℕ)) (
 
 -- ---- the bytes
 
--- the bytes are what is written of the texts that the words ask about
-pub record IsOutput (commands : Commands) (words contents : List (List ℕ)) (bytes : List ℕ) : Type 0 where
+-- the bytes are what is written of the texts that the words ask about, at this ending
+pub record IsOutput (commands : Commands) (words contents : List (List ℕ)) (ending : Status) (bytes : List ℕ) : Type 0 where
   pub asked : Request
   pub asks : Asks words contents asked
-  pub written : (commands asked).writes bytes
+  pub written : (commands asked).writes ending bytes
 
--- an answer has all of it where it is done, and no bytes else
-pub data Holds (IsIt : List ℕ → Type 0) (status : Status) (bytes : List ℕ) : Type 0 where
-  whole : status ≡ Done → IsIt bytes → Holds IsIt status bytes
-  nothing : (status ≡ Done → ⊥) → bytes ≡ [] → Holds IsIt status bytes
+-- an answer has all of it where it is done or a check is open, and no bytes else
+pub data Holds (IsIt : Status → List ℕ → Type 0) (status : Status) (bytes : List ℕ) : Type 0 where
+  whole : IsTrue (has_output status) → IsIt status bytes → Holds IsIt status bytes
+  nothing : (IsTrue (has_output status) → ⊥) → bytes ≡ [] → Holds IsIt status bytes
 
 -- ---- the message
 

@@ -16,6 +16,7 @@ use Rattle.ask_words.specs.declared.request.Policy.TheVariants.{Best}
 use Rattle.ask_words.specs.declared.request.Purpose.{Purpose}
 use Rattle.ask_words.specs.declared.request.Purpose.TheVariants.{Report, Certificate as AsCertificate}
 use Rattle.ask_words.specs.declared.request.Request.TheVariants.{Analyse, Check, Bench, Upgrade, Prove, Transitions, Equations, Points}
+use Rattle.ask_words.specs.declared.request.Request.TheVariants.{Verify}
 use Rattle.cert_text.specs.declared.fault.FormFault.{FormFault}
 use Rattle.cert_text.specs.declared.fault.FormFault.TheVariants.{Expanded}
 use Rattle.ask_files.specs.Files.{Request}
@@ -27,12 +28,13 @@ use Rattle.top_status.specs.declared.status.Status.{Status}
 use Rattle.top_status.specs.declared.status.Status.TheVariants.{Done, Certificate, Text, Exceeded}
 use Rattle.top_status.specs.declared.status.TextCause.{TextCause}
 use Rattle.top_status.specs.declared.status.TextCause.TheVariants.{Claims}
+use Rattle.top_texts.specs.CheckTexts.{AreCheckVerdictsOf, IsJudged}
 use Rattle.top_texts.specs.ClaimTexts.{AreVerdictsOf}
 use Rattle.top_texts.specs.EquationTexts.{AreValuesOf}
 use Rattle.top_texts.specs.LeastReports.{ArePointsOf, IsLeastReport, IsReportOf}
 use Rattle.top_texts.specs.Meanings.{Meanings}
-use Rattle.top_texts.specs.Questions.{IsExcessIn, Question, QuestionEnds, analysis_question, bench_question, claims_question}
-use Rattle.top_texts.specs.Questions.{equations_question, transitions_question}
+use Rattle.top_texts.specs.Questions.{IsExcessIn, Question, QuestionEnds, analysis_question, bench_question, checks_question}
+use Rattle.top_texts.specs.Questions.{claims_question, equations_question, transitions_question}
 use Rattle.top_texts.specs.Rounds.{HasRounds}
 use Rattle.top_texts.specs.Short.{HasShortRows, IsShort}
 use Rattle.top_texts.specs.Texts.{IsAnalysed, IsReady, IsRefusedProgram, IsSolvedSystem}
@@ -60,6 +62,13 @@ pub data UpgradeEnds (m : Meanings) (bytes : List ℕ) (ending : Status) : Type 
 pub data PointsEnd (text : List ℕ) (ending : Status) : Type 0 where
   text_refused : (cause : TextCause) → ending ≡ Text cause → IsRefusedProgram text cause → PointsEnd text ending
   listed : (names : List (List ℕ)) (body : Statements) → ending ≡ Done → IsAnalysed text names body → PointsEnd text ending
+
+-- the texts of a program and its rows are refused, or improvements are spent, as the question about its checks ends without success; or the
+-- checks decide where improvements end: each is proved, or one is open
+pub data VerifyEnds (m : Meanings) (a : Analysis (List ℕ)) (ending : Status) : Type 0 where
+  unjudged : QuestionEnds (checks_question m a.program a.domain a.policy a.improvements) ending → (ending ≡ Done → ⊥)
+      → VerifyEnds m a ending
+  judged : IsJudged a.program a.domain a.policy a.improvements ending → VerifyEnds m a ending
 
 -- ---- what is written
 
@@ -121,13 +130,13 @@ text_of_proof program claims _ = program
 -- ---- the commands
 
 -- what a command does with its texts: the endings that they have where there is memory and nothing exceeds exact work; what may exceed it
--- instead; and the bytes that are written where it is done. For its message: the text in which that of an ending names a
--- line, and how many rows each point has, by which it numbers an unknown. And the limits that its words and its loads keep: of its
--- numbers, and of these and its texts
+-- instead; and the bytes that are written at an ending, where it is done or a check is open. For its message: the text in which that of an
+-- ending names a line, and how many rows each point has, by which it numbers an unknown. And the limits that its words and its loads keep:
+-- of its numbers, and of these and its texts
 pub record Command : Type 1 where
   pub ends : Status → Type 0
   pub exceeds : Excess → Type 0
-  pub writes : List ℕ → Type 0
+  pub writes : Status → List ℕ → Type 0
   pub named : Status → List ℕ
   pub has_rows : ℕ → Type 0
   pub in_range : Type 0
@@ -137,13 +146,18 @@ pub record Command : Type 1 where
 abbrev pub Commands : Type 1
 Commands = Request → Command
 
--- a command that decides about its texts, where nothing may come in place of its endings: its messages name no line and no unknown, and it
--- has no number and no text that needs a limit, unless it says otherwise
+-- bytes that are written where a command is done, and at no other ending
+abbrev pub done_writes : (List ℕ → Type 0) → Status → List ℕ → Type 0
+done_writes writes Done bytes = writes bytes
+done_writes writes _ bytes = ⊥
+
+-- a command that decides about its texts, where nothing may come in place of its endings, and which writes where it is done alone: its
+-- messages name no line and no unknown, and it has no number and no text that needs a limit, unless it says otherwise
 abbrev pub deciding : (Status → Type 0) → (List ℕ → Type 0) → Command
 deciding ends writes = record {
   ends = ends;
   exceeds = λ excess. ⊥;
-  writes = writes;
+  writes = λ status bytes. done_writes writes status bytes;
   named = λ status. [];
   has_rows = λ count. ⊥;
   in_range = Unit {0};
@@ -198,4 +212,11 @@ command_of m (Equations text limit policy) =
 command_of m (Points text) = record (deciding (λ status. PointsEnd text status) (λ bytes. ArePointsOf text bytes)) {
   named = λ status. text;
   in_limits = IsShort text;
+}
+command_of m (Verify a) = record (deciding (λ status. VerifyEnds m a status) (λ bytes. ⊥)) {
+  exceeds = λ excess. IsExcessIn (checks_question m a.program a.domain a.policy a.improvements) excess;
+  writes = λ status bytes. AreCheckVerdictsOf m a.program a.domain a.policy a.improvements status bytes;
+  named = λ status. a.program;
+  in_range = a.improvements ≤ MOST_IMPROVEMENTS;
+  in_limits = IsWithin a;
 }

@@ -9,15 +9,18 @@ use Rattle.top_status.specs.CheckMessages.{rows_of}
 use Rattle.top_status.specs.Messages.{line_in, message_of}
 use Rattle.ask_files.specs.declared.which.ReadCause.{ReadCause}
 use Rattle.top_status.specs.declared.status.Status.{Status}
-use Rattle.top_status.specs.declared.status.Status.TheVariants.{Done, Usage, Read, Exceeded, Memory}
+use Rattle.top_status.specs.declared.status.Status.TheVariants.{Done, Open, Usage, Read, Exceeded, Memory}
+use Rattle.top_texts.specs.CheckTexts.{ending_of}
 use Rattle.top_texts.specs.Exact.{exact}
 use Rattle.top_texts.specs.Outcomes.{refused}
 use Rattle.top_texts.specs.declared.refusal.Refusal.{Refusal}
+use Rattle.top_texts.specs.declared.verify.Judged.{Judged}
 
--- a status and bytes say of the texts of a command: the bytes are written where it is done, and there are none else; an ending stands, or
--- what exceeds exact work; want of memory needs no cause
+-- a status and bytes say of the texts of a command: the bytes are written where it is done or a check is open, and there are none else; an
+-- ending stands, or what exceeds exact work; want of memory needs no cause
 abbrev pub Says : Command → Status → List ℕ → Type 0
-Says command Done bytes = command.writes bytes
+Says command Done bytes = command.writes Done bytes
+Says command Open bytes = command.writes Open bytes
 Says command (Exceeded excess) bytes = (command.ends (Exceeded excess) ⊎ command.exceeds excess) × (bytes ≡ [])
 Says command Memory bytes = bytes ≡ []
 Says command status bytes = command.ends status × (bytes ≡ [])
@@ -26,6 +29,11 @@ Says command status bytes = command.ends status × (bytes ≡ [])
 abbrev pub HasOutcome : Result (Vec ℕ Global) Refusal → Status → List ℕ → Type 0
 HasOutcome (Ok made) status bytes = (status ≡ Done) × (bytes ≡ made.items)
 HasOutcome (Err refusal) status bytes = (status ≡ refused refusal) × (bytes ≡ [])
+
+-- those of verdicts on checks: the ending says whether one is open
+abbrev pub HasVerdicts : Result Judged Refusal → Status → List ℕ → Type 0
+HasVerdicts (Ok judged) status bytes = (status ≡ ending_of judged.is_open) × (bytes ≡ judged.bytes.items)
+HasVerdicts (Err refusal) status bytes = (status ≡ refused refusal) × (bytes ≡ [])
 
 -- the message of an ending of the texts of a command names the line in its text, and an unknown by its rows
 pub record NamesPlace (asked : Request) (status : Status) (message : List ℕ) : Type 0 where

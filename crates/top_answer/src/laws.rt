@@ -12,13 +12,17 @@ ghost use Rattle.ask_words.specs.declared.request.Analysis.{Analysis};
 ghost use Rattle.ask_words.specs.declared.request.Domain.{Domain};
 ghost use Rattle.ask_words.specs.declared.request.Policy.{Policy};
 ghost use Rattle.ask_words.specs.declared.request.Purpose.TheVariants.{Certificate};
-ghost use Rattle.ask_words.specs.declared.request.Request.TheVariants.{Analyse};
+ghost use Rattle.ask_words.specs.declared.request.Request.TheVariants.{Analyse, Verify};
+ghost use Rattle.ask_files.specs.Files.{Request};
 ghost use Rattle.top_answer.specs.Answers.{Ends, IsOutput};
 ghost use Rattle.top_answer.specs.Commands.{command_of};
+ghost use Rattle.top_texts.specs.CheckTexts.{AreCheckVerdictsOf, IsJudged};
 ghost use Rattle.top_texts.specs.ClaimTexts.{AreVerdictsOf};
 ghost use Rattle.top_texts.specs.EquationTexts.{AreValuesOf};
 ghost use Rattle.top_texts.specs.Rounds.{RunsOut};
+ghost use Rattle.top_texts.specs.Texts.{IsSolvable};
 ghost use Rattle.top_status.specs.declared.status.Status.{Status};
+ghost use Rattle.top_status.specs.declared.status.Status.TheVariants.{Done, Open};
 
 use crate::meaning::{Exact, Meaning};
 
@@ -36,12 +40,15 @@ pub fn ending_is_one()
 {}
 
 /// Words and contents have one output, for every command but `certify`: what is written is determined by them. Of a certificate it isn't
-/// said.
+/// said. It is written at one ending alone, the one that words and contents have.
 pub fn output_is_one()
-    ensures { (words contents : List (List ℕ)) (one other : List ℕ)
+    ensures bytes { (words contents : List (List ℕ)) (ending another : Status) (one other : List ℕ)
         → ((analysis : Analysis (List ℕ)) → request_of words ≢ Some (Analyse Certificate analysis))
-        → IsOutput (command_of ⟦<Exact as Meaning>⟧.means) words contents one
-        → IsOutput (command_of ⟦<Exact as Meaning>⟧.means) words contents other → one ≡ other }
+        → IsOutput (command_of ⟦<Exact as Meaning>⟧.means) words contents ending one
+        → IsOutput (command_of ⟦<Exact as Meaning>⟧.means) words contents another other → one ≡ other }
+    ensures ending { (words contents : List (List ℕ)) (ending : Status) (bytes : List ℕ)
+        → IsOutput (command_of ⟦<Exact as Meaning>⟧.means) words contents ending bytes
+        → Ends (command_of ⟦<Exact as Meaning>⟧.means) words contents ending }
 {}
 
 /// Bytes have one text as the certificate that they spell.
@@ -61,6 +68,26 @@ pub fn verdicts_are_one()
     ensures { (text : List ℕ) (rows : Domain (List ℕ)) (given : List ℕ) (policy : Policy) (limit : ℕ) (one other : List ℕ)
         → AreVerdictsOf ⟦<Exact as Meaning>⟧.means text rows given policy limit one
         → AreVerdictsOf ⟦<Exact as Meaning>⟧.means text rows given policy limit other → one ≡ other }
+{}
+
+/// The texts of a program and of its rows have one list of verdicts on the program's checks, and one ending by them: `Done` where each is
+/// proved, `Open` where one is open.
+pub fn check_verdicts_are_one()
+    ensures bytes { (text : List ℕ) (rows : Domain (List ℕ)) (policy : Policy) (limit : ℕ) (ending another : Status) (one other : List ℕ)
+        → AreCheckVerdictsOf ⟦<Exact as Meaning>⟧.means text rows policy limit ending one
+        → AreCheckVerdictsOf ⟦<Exact as Meaning>⟧.means text rows policy limit another other → one ≡ other }
+    ensures ending { (text : List ℕ) (rows : Domain (List ℕ)) (policy : Policy) (limit : ℕ) (one other : Status)
+        → IsJudged text rows policy limit one → IsJudged text rows policy limit other → one ≡ other }
+{}
+
+/// `verify` alone ends as `Open`, and only where at the least vector of its texts a state breaks a check of the program. Where the
+/// improvements end within the limit it has one of the endings `Done` and `Open`: it isn't so that it has neither.
+pub fn open_is_of_checks()
+    ensures verify { (asked : Request) → (command_of ⟦<Exact as Meaning>⟧.means asked).ends Open
+        → (a : Analysis (List ℕ)) × (asked ≡ Verify a) × IsJudged a.program a.domain a.policy a.improvements Open }
+    ensures judged { (a : Analysis (List ℕ)) → IsSolvable a.program a.domain a.policy a.improvements
+        → ((command_of ⟦<Exact as Meaning>⟧.means (Verify a)).ends Done → ⊥)
+        → ((command_of ⟦<Exact as Meaning>⟧.means (Verify a)).ends Open → ⊥) → ⊥ }
 {}
 
 /// Improvements that are spent are fewer than the picks of the system: a limit of as many as the picks is never spent.

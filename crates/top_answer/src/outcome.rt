@@ -9,8 +9,9 @@ ghost use Rattle.flow_systems.specs.declared.system.System.{System as SystemValu
 ghost use Rattle.ask_words.specs.Request.{analysis_text, request_text};
 ghost use Rattle.ask_words.specs.declared.request.Request.TheVariants.{Analyse, Check};
 ghost use Rattle.top_answer.specs.Commands.{IsWithin, command_of, text_of_proof};
-ghost use Rattle.top_answer.specs.Outcomes.{HasOutcome, Says};
+ghost use Rattle.top_answer.specs.Outcomes.{HasOutcome, HasVerdicts, Says};
 ghost use Rattle.top_status.specs.CheckMessages.{rows_of};
+ghost use Rattle.top_texts.specs.CheckTexts.{ending_of};
 ghost use Rattle.top_texts.specs.Checks.{HasRowCount, IsSpelt};
 ghost use Rattle.top_texts.specs.Exact.{exact};
 ghost use Rattle.top_texts.specs.Outcomes.{IsHalted, IsOutputOf};
@@ -22,15 +23,16 @@ use flow_systems::System;
 use std::alloc::Global;
 use top_status::{Status, TextCause, answer_rows};
 use top_texts::{
-    Given, Refusal, bench_text, certificate_of, equations_text, points_text, prove_text,
+    Given, Judged, Refusal, bench_text, certificate_of, equations_text, points_text, prove_text,
     read_given, refused, report_by, report_of, system_on, transitions_text, upgrade_text,
+    verify_text,
 };
 
 // What texts come to.
 #[derive(Drop)]
 pub(crate) struct Outcome {
     pub status: Status,
-    /// What is written; nothing where the status isn't done.
+    /// What is written; nothing where the status has no output.
     pub bytes: Vec<u8>,
     /// The number of rows by which the message numbers an unknown; 0 where it names none.
     pub rows: usize,
@@ -69,6 +71,27 @@ fn outcome_from(alloc: Global, made: Result<Vec<u8>, Refusal>, rows: usize) -> O
                 rows,
             }
         }
+    }
+}
+
+// The ending by whether a check is open.
+fn ending_of(is_open: bool) -> Status
+    ensures { result ≡ ending_of is_open }
+{
+    if is_open { Status::Open } else { Status::Done }
+}
+
+// The outcome of verdicts on checks, whose message names no unknown.
+fn outcome_by(alloc: Global, made: Result<Judged, Refusal>) -> Outcome
+    ensures { HasVerdicts made result.status result.bytes.items }
+{
+    match made {
+        Ok(judged) => Outcome {
+            status: ending_of(judged.is_open),
+            bytes: judged.bytes,
+            rows: 0,
+        },
+        Err(refusal) => outcome_from(alloc, Err(refusal), 0),
     }
 }
 
@@ -204,6 +227,17 @@ pub(crate) fn outcome_of<W: Watch>(alloc: Global, asked: Request<&[u8]>, watch: 
             0,
         ),
         Request::Points { program } => outcome_from(alloc, points_text(alloc, program), 0),
+        Request::Verify { analysis } => {
+            let made = verify_text(
+                alloc,
+                analysis.program,
+                analysis.domain,
+                analysis.policy,
+                analysis.improvements,
+                watch,
+            );
+            outcome_by(alloc, made)
+        }
     }
 }
 
@@ -231,5 +265,6 @@ pub(crate) fn named_text<'a>(asked: Request<&'a [u8]>, status: &Status) -> &'a [
         Request::Transitions { analysis } => analysis.program,
         Request::Equations { file, .. } => file,
         Request::Points { program } => program,
+        Request::Verify { analysis } => analysis.program,
     }
 }

@@ -12,9 +12,9 @@ use top_status::{Message, Status, make_message};
 pub struct Answer {
     /// How it ends; its exit code is `status.code()`.
     pub status: Status,
-    /// What is written to standard output: all of it where the status is `Done`, and else nothing.
+    /// What is written to standard output: all of it where the status is `Done` or `Open`, and else nothing.
     pub bytes: Vec<u8>,
-    /// What is written to standard error where the status isn't `Done`: a line with its line feed.
+    /// What is written to standard error at every other status: a line with its line feed.
     pub message: Message,
 }
 

@@ -1,5 +1,5 @@
 -- What the parts of a run say to one another.
-use Rattle.std.specs.Prelude.{◌≡◌, ◌<◌, ◌++◌, ◌⊎◌, ℕ, List, [], Result, Ok, Err, IsErr, length, take}
+use Rattle.std.specs.Prelude.{◌≡◌, ◌<◌, ◌++◌, ◌⊎◌, ℕ, IsTrue, List, [], Result, Ok, Err, IsErr, length, take}
 use Rattle.std.specs.Io.KnownBytes.{Appends}
 use Rattle.std.specs.declared.alloc.AllocError.{AllocError}
 use Rattle.ask_files.specs.Files.{Request, files_of}
@@ -15,6 +15,7 @@ use Rattle.top_run.specs.Loading.{IsLoading}
 use Rattle.top_run.specs.declared.output.Pieces.{Pieces}
 use Rattle.top_status.specs.Messages.{message_of}
 use Rattle.top_run.specs.Seen.{ShelfSeen, SinkSeen}
+use Rattle.top_status.specs.Status.{has_output}
 use Rattle.top_status.specs.declared.status.Status.{Status}
 use Rattle.top_status.specs.declared.status.Status.TheVariants.{Done, Memory, Write}
 use Rattle.top_texts.specs.Meanings.{Meanings}
@@ -53,14 +54,14 @@ pub data IsPutBy (cut : List ℕ → List (List ℕ)) (bytes : List ℕ) (status
   wanting : status ≡ Memory → (n : ℕ) → Appends out.held out_now.held (take n bytes) → out.spare < length bytes
       → out_now.faults ≡ out.faults → IsPutBy cut bytes status out out_now
 
--- the answer that a run ends with: the one given, where it isn't done or its bytes are put; else another one for the put
+-- the answer that a run ends with: the one given, where it has no output or its bytes are put; else another one for the put
 pub data PutsAnswer (pieces : Pieces) (status : Status) (bytes message : List ℕ) (out out_now : SinkSeen) (status_now : Status)
     (message_now : List ℕ) : Type 0 where
-  is_kept : (status ≡ Done → ⊥) → status_now ≡ status → message_now ≡ message → out_now ≡ out
+  is_kept : (IsTrue (has_output status) → ⊥) → status_now ≡ status → message_now ≡ message → out_now ≡ out
       → PutsAnswer pieces status bytes message out out_now status_now message_now
-  is_put : status ≡ Done → status_now ≡ Done → message_now ≡ message → IsPutBy (cut_by pieces) bytes status_now out out_now
+  is_put : IsTrue (has_output status) → status_now ≡ status → message_now ≡ message → IsPutBy (cut_by pieces) bytes Done out out_now
       → PutsAnswer pieces status bytes message out out_now status_now message_now
-  is_not_put : status ≡ Done → (status_now ≡ Done → ⊥) → message_now ≡ message_of 0 0 status_now
+  is_not_put : IsTrue (has_output status) → (status_now ≡ Done → ⊥) → message_now ≡ message_of 0 0 status_now
       → IsPutBy (cut_by pieces) bytes status_now out out_now → PutsAnswer pieces status bytes message out out_now status_now message_now
 
 -- how a put ends

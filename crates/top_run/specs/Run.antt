@@ -1,5 +1,5 @@
 -- What a run promises.
-use Rattle.std.specs.Prelude.{◌≡◌, ◌++◌, List, ℕ}
+use Rattle.std.specs.Prelude.{◌≡◌, ◌++◌, IsTrue, List, ℕ}
 use Rattle.ask_files.specs.Loads.{contents_of}
 use Rattle.ask_files.specs.declared.which.ReadCause.TheVariants.{Failed}
 use Rattle.ask_files.specs.declared.which.Which.{Which}
@@ -10,24 +10,26 @@ use Rattle.top_run.specs.Loading.{HasFailed, IsLoading}
 use Rattle.top_run.specs.Messages.{GetsMessage, IsInOnePiece}
 use Rattle.top_run.specs.Outputs.{OutputGets}
 use Rattle.top_run.specs.Seen.{ShelfSeen, SinkSeen}
+use Rattle.top_status.specs.Status.{has_output}
 use Rattle.top_status.specs.declared.status.Status.{Status}
-use Rattle.top_status.specs.declared.status.Status.TheVariants.{Done, Read, Write}
+use Rattle.top_status.specs.declared.status.Status.TheVariants.{Read, Write}
 use Rattle.top_texts.specs.Meanings.{Meanings}
 
 -- the run ends with an answer to the words over these contents; or a put of its output failed, where there is one
 pub data IsEnding (commands : Commands) (words contents : List (List ℕ)) (status : Status) : Type 0 where
   is_answer : IsAnswer commands words contents status → IsEnding commands words contents status
-  is_unwritten : status ≡ Write → Ends commands words contents Done → IsEnding commands words contents status
+  is_unwritten : (ending : Status) → status ≡ Write → IsTrue (has_output ending) → Ends commands words contents ending
+      → IsEnding commands words contents status
 
--- the ending that stands is given, or an answer in its place; or the output failed where the run would be done
+-- the ending that stands is given, or an answer in its place; or the output failed where there is one
 pub data IsGiven (commands : Commands) (words contents : List (List ℕ)) (ending status : Status) : Type 0 where
   answered : IsAnsweredBy commands words contents ending status → IsGiven commands words contents ending status
-  unwritten : status ≡ Write → ending ≡ Done → IsGiven commands words contents ending status
+  unwritten : status ≡ Write → IsTrue (has_output ending) → IsGiven commands words contents ending status
 
 -- this is so where an ending stands: it is given, and where it is a refusal, the output is as it was
 pub record Gives (commands : Commands) (words contents : List (List ℕ)) (ending status : Status) (out out_now : SinkSeen) : Type 0 where
   pub given : IsGiven commands words contents ending status
-  pub unchanged : (ending ≡ Done → ⊥) → out_now ≡ out
+  pub unchanged : (IsTrue (has_output ending) → ⊥) → out_now ≡ out
 
 -- the stream of messages gets this message of the ending
 pub record IsTold (m : Meanings) (words contents : List (List ℕ)) (status : Status) (err err_now : SinkSeen) : Type 0 where

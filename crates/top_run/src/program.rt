@@ -1,6 +1,6 @@
 //! The top call.
 
-ghost use Rattle.std.specs.Prelude.{◌≡◌, List, ℕ, Some, map, string_bytes};
+ghost use Rattle.std.specs.Prelude.{◌≡◌, IsTrue, List, ℕ, Some, map, string_bytes};
 ghost use Rattle.ask_files.specs.Files.{Request as NamedRequest};
 ghost use Rattle.ask_words.specs.Request.{request_of};
 ghost use Rattle.top_answer.specs.Commands.{command_of};
@@ -8,6 +8,7 @@ ghost use Rattle.top_run.specs.Lines.{pieces_of};
 ghost use Rattle.top_run.specs.Parts.{IsAnswerOver, PutsAnswer};
 ghost use Rattle.top_run.specs.Run.{IsRun};
 ghost use Rattle.top_run.specs.Seen.{shelf_with, sink_with};
+ghost use Rattle.top_status.specs.Status.{has_output};
 
 use crate::interface::{Program, Tmpl};
 use crate::loading::{answer_request, answer_unasked};
@@ -34,7 +35,7 @@ fn answer_words<P: Program, S: Shelf>(alloc: Global, words: &[String], shelf: &m
         (shelf_with (S.files shelf.new) (S.loads shelf.new) (S.faults shelf.new) (S.last_failed shelf.new))
         result.answer.status result.answer.bytes.items result.answer.message }
     ensures pieces { (request : NamedRequest) → request_of (map string_bytes words.now) ≡ Some request
-        → result.answer.status ≡ Status.Done → result.pieces ≡ pieces_of request }
+        → IsTrue (has_output result.answer.status) → result.pieces ≡ pieces_of request }
 {
     match read_words(alloc, words) {
         Ok(request) => Piecewise {
@@ -48,14 +49,14 @@ fn answer_words<P: Program, S: Shelf>(alloc: Global, words: &[String], shelf: &m
     }
 }
 
-// Puts the bytes of an answer that is done, and gives the answer that a run ends with: another one where they aren't put.
+// Puts the bytes of an answer that has an output, and gives the answer that a run ends with: another one where they aren't put.
 fn put_answer<K: Sink>(alloc: Global, given: Piecewise, out: &mut K) -> Answer
     ensures { PutsAnswer given.pieces given.answer.status given.answer.bytes.items given.answer.message
         (sink_with (K.held out.old) (K.taken out.old) (K.faults out.old) (K.spare out.old))
         (sink_with (K.held out.new) (K.taken out.new) (K.faults out.new) (K.spare out.new)) result.status result.message }
 {
     let Piecewise { answer, pieces } = given;
-    if answer.status != Status::Done {
+    if !answer.status.has_output() {
         return answer;
     }
     match put_pieces(pieces, &answer.bytes, out) {
@@ -69,7 +70,7 @@ fn put_answer<K: Sink>(alloc: Global, given: Piecewise, out: &mut K) -> Answer
 /// `out`, and the message of every other ending to `err`.
 ///
 /// The order of causes is that of the answer. `Memory` may come at any time, and takes the place of any other answer; `Write` takes that of
-/// `Done`.
+/// `Done` and of `Open`.
 pub fn run_as<P: Program, S: Shelf, K: Sink, L: Sink>(
     alloc: Global,
     words: &[String],
@@ -117,7 +118,7 @@ pub fn run_without_words<P: Program, S: Shelf, K: Sink, L: Sink>(
 /// goes to `out`, and the message of every other ending to `err` (docs/FORMATS.md, "Messages").
 ///
 /// The order of causes is that of `answer`. `Memory` may come at any time, and takes the place of any other answer; `Write` takes that of
-/// `Done`.
+/// `Done` and of `Open`.
 pub fn run<S: Shelf, K: Sink, L: Sink>(
     alloc: Global,
     words: &[String],

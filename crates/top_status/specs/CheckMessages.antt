@@ -32,6 +32,7 @@ site_has_unknown (site.Raise raise) = false
 site_has_unknown (site.Step step item) = false
 site_has_unknown (site.Upper unknown edge) = true
 site_has_unknown (site.Claim claim case part) = false
+site_has_unknown (site.Check number edge case part) = false
 
 abbrev pub fault_has_unknown : CheckFault → Bool
 fault_has_unknown check.Size = false
@@ -51,6 +52,7 @@ cause_has_unknown (Check fault) = fault_has_unknown fault
 
 abbrev pub has_unknown : Status → Bool
 has_unknown status.Done = false
+has_unknown status.Open = false
 has_unknown (status.Certificate cause) = cause_has_unknown cause
 has_unknown status.Usage = false
 has_unknown (status.Read cause) = false
@@ -111,6 +113,11 @@ part_text Side = codes " side"
 part_text (Pivot number) = numbered (codes " pivot ") number
 part_text Reading = codes " reading"
 
+-- a check on an edge, one of its cases, and a part of solving the problem of this case
+abbrev pub place_text : (number edge case : ℕ) → Part → List ℕ
+place_text number edge case part =
+    numbered (codes "check ") number ++ numbered (codes " edge ") edge ++ numbered (codes " case ") case ++ part_text part
+
 abbrev pub site_text : (rows round : ℕ) → Site → List ℕ
 site_text rows round (site.Compose edge) = numbered (codes "compose edge ") edge
 site_text rows round (site.Offer edge row part) =
@@ -123,6 +130,7 @@ site_text rows round (site.Step step item) = numbered (codes "step ") step ++ nu
 site_text rows round (site.Upper unknown edge) = unknown_text (codes "upper point ") (codes " row ") rows unknown
     ++ numbered (codes " edge ") edge
 site_text rows round (site.Claim claim case part) = numbered (codes "claim ") claim ++ numbered (codes " case ") case ++ part_text part
+site_text rows round (site.Check number edge case part) = place_text number edge case part
 
 -- an operation, its two operands, and the site
 abbrev pub spot_text : ℕ → Spot → List ℕ

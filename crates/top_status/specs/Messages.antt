@@ -26,7 +26,7 @@ use Rattle.top_status.specs.declared.status.Excess.TheVariants.{Wide, Large}
 use Rattle.top_status.specs.declared.status.TextCause.{TextCause}
 use Rattle.top_status.specs.declared.status.TextCause.TheVariants.{Lex, Parse, Flow, Rows, Unknowns, Claims, Equ, Auto}
 use Rattle.top_status.specs.declared.status.Status.{Status}
-use Rattle.top_status.specs.declared.status.Status.TheVariants.{Done, Certificate, Usage, Read, Text, Exceeded, Spent, Memory, Write}
+use Rattle.top_status.specs.declared.status.Status.TheVariants.{Done, Open, Certificate, Usage, Read, Text, Exceeded, Spent, Memory, Write}
 
 -- ---- where a cause stands
 
@@ -105,6 +105,7 @@ line_at_place text (Some at) = line_at text at
 abbrev pub line_in : List ℕ → Status → ℕ
 line_in text (Text cause) = line_at_place text (place_of cause)
 line_in text Done = 0
+line_in text Open = 0
 line_in text (Certificate cause) = 0
 line_in text Usage = 0
 line_in text (Read cause) = 0
@@ -253,6 +254,7 @@ read_words (TooLong which.Equations) = words (codes "too long: the equations")
 -- the words of an ending; another message tells of a refused certificate and of a wide operation
 abbrev pub words_of : ℕ → Status → Words
 words_of line Done = words []
+words_of line Open = words []
 words_of line (Certificate cause) = words []
 words_of line Usage = record { subject = []; before = usage_text; number = None; after = [] }
 words_of line (Read cause) = read_words cause
@@ -274,6 +276,7 @@ line_text w = w.subject ++ w.before ++ number_text w.number ++ w.after
 -- the message of an ending, where this is the line of its cause, and each point has so many rows
 abbrev pub message_of : (line rows : ℕ) → Status → List ℕ
 message_of line rows Done = line_text (words_of line Done)
+message_of line rows Open = line_text (words_of line Open)
 message_of line rows (Certificate cause) = certificate_message rows cause
 message_of line rows Usage = line_text (words_of line Usage)
 message_of line rows (Read cause) = line_text (words_of line (Read cause))

@@ -1,4 +1,4 @@
-//! The line that tells how a run ended, where it isn't done.
+//! The line that tells how a run ended, where it has no output.
 
 ghost use Rattle.std.specs.Prelude.{◌≡◌, ◌≤◌, ◌+◌, ◌++◌, [], None, Some, codes, length};
 ghost use Rattle.top_status.specs.Messages.{auto_words, claim_words, counted, counted_in, equation_words, flow_words, lex_words};
@@ -238,7 +238,8 @@ fn make_parts(line: u32, status: &Status) -> Parts
     ensures { told result ≡ words_of line status.now }
 {
     match status {
-        Status::Done | Status::Certificate(_) | Status::Exceeded(Excess::Wide(_)) => plain(b""),
+        Status::Done | Status::Open | Status::Certificate(_) | Status::Exceeded(Excess::Wide(_)) =>
+            plain(b""),
         Status::Exceeded(Excess::Large(cells)) => counted_in(PROGRAM, b"", *cells, b" cells\n"),
         Status::Usage => Parts {
             subject: b"",

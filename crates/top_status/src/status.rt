@@ -1,7 +1,7 @@
 //! How a run ended, and its exit code.
 
 ghost use Rattle.std.specs.Prelude.{◌≡◌};
-ghost use Rattle.top_status.specs.Status.{code_of};
+ghost use Rattle.top_status.specs.Status.{code_of, has_output};
 
 use ask_claims::ClaimFault;
 use ask_files::ReadCause;
@@ -63,8 +63,10 @@ pub enum Excess {
 /// How a run ended.
 #[derive(Clone, Copy, Debug, PartialEq, Eq)]
 pub enum Status {
-    /// All bytes of the report were put.
+    /// All bytes of the output were put.
     Done,
+    /// All bytes of the output were put, and they say of some check that it is open.
+    Open,
     /// The certificate is refused.
     Certificate(CertCause),
     /// The words are no command.
@@ -84,12 +86,13 @@ pub enum Status {
 }
 
 impl Status {
-    /// The program's exit code, 0 to 8.
+    /// The program's exit code: 0 to 8, or 10 where a check is open.
     pub fn code(&self) -> u8
         ensures { result ≡ code_of self.now }
     {
         match self {
             Status::Done => 0,
+            Status::Open => 10,
             Status::Certificate(_) => 1,
             Status::Usage => 2,
             Status::Read(_) => 3,
@@ -99,6 +102,16 @@ impl Status {
             Status::Spent(_) => 6,
             Status::Memory => 7,
             Status::Write => 8,
+        }
+    }
+
+    /// Whether the whole output is put at this ending, and no message.
+    pub fn has_output(&self) -> bool
+        ensures { result ≡ has_output self.now }
+    {
+        match self {
+            Status::Done | Status::Open => true,
+            _ => false,
         }
     }
 }

@@ -2,6 +2,7 @@ pub mod texts
 pub mod rounds
 pub mod checks
 pub mod claim_texts
+pub mod check_texts
 pub mod equation_texts
 pub mod transition_texts
 pub mod generated

@@ -1,5 +1,5 @@
 -- The least bounds of texts, for other outputs than their report; and the endings that there are else, which are those of the report.
-use Rattle.std.specs.Prelude.{◌≡◌, ◌≤◌, ℕ, List, length}
+use Rattle.std.specs.Prelude.{◌≡◌, ◌≤◌, ℕ, IsTrue, List, length}
 use Rattle.flow_systems.specs.Equations.{Least}
 use Rattle.flow_systems.specs.View.{IsVectorOf, equations_of, vector_at}
 use Rattle.flow_systems.specs.declared.system.System.{System}
@@ -7,6 +7,7 @@ use Rattle.ask_words.specs.declared.request.Domain.{Domain}
 use Rattle.ask_words.specs.declared.request.Policy.{Policy}
 use Rattle.ask_words.specs.declared.request.Purpose.TheVariants.{Report}
 use Rattle.top_status.specs.CheckMessages.{rows_of}
+use Rattle.top_status.specs.Status.{has_output}
 use Rattle.top_texts.specs.Exact.{exact}
 use Rattle.top_status.specs.Messages.{line_in}
 use Rattle.top_texts.specs.Outcomes.{IsAnswerToSystem, QuestionAnswer}
@@ -16,7 +17,7 @@ use Rattle.top_texts.specs.Texts.{IsSolvedSystem}
 use Rattle.top_texts.specs.declared.analyse.least.LeastBounds.{LeastBounds}
 use Rattle.top_status.specs.declared.ending.Ending.{Ending}
 use Rattle.top_status.specs.declared.status.Status.{Status}
-use Rattle.top_status.specs.declared.status.Status.TheVariants.{Done, Write}
+use Rattle.top_status.specs.declared.status.Status.TheVariants.{Write}
 
 -- the least bounds of a system, where the improvements by the policy end within the limit
 pub record IsSolvedBy (system : System) (policy : Policy) (limit : ℕ) (bounds : LeastBounds) : Type 0 where
@@ -36,7 +37,7 @@ pub record IsFoundIn (text : List ℕ) (rows : Domain (List ℕ)) (policy : Poli
 
 -- nothing was put, and nothing was to be put
 pub record IsUnput (status : Status) : Type 0 where
-  pub undone : status ≡ Done → ⊥
+  pub undone : IsTrue (has_output status) → ⊥
   pub unwritten : status ≡ Write → ⊥
 
 -- the ending where the improvements over a system don't end, or something exceeds exact work

@@ -1,5 +1,5 @@
 -- What texts of claims about a program are, and what is written of them.
-use Rattle.std.specs.Prelude.{◌≡◌, ◌≤◌, ◌↔◌, ℕ, ℤ, List, Ok, Err, Some, length, map, slice_get, Contains}
+use Rattle.std.specs.Prelude.{◌≡◌, ◌≤◌, ◌↔◌, ℕ, ℤ, List, [], Ok, Err, Some, length, map, slice_get, Contains}
 use Rattle.std.specs.List.{All}
 use Rattle.lang_tree.specs.Runs.{Configuration, IsAt, IsRun}
 use Rattle.lang_tree.specs.Tree.{Statements}
@@ -10,13 +10,13 @@ use Rattle.flow_systems.specs.declared.system.System.{System}
 use Rattle.flow_systems.specs.Equations.{Equations, Least, Vector}
 use Rattle.flow_systems.specs.Solutions.{equations_of_program}
 use Rattle.flow_systems.specs.States.{RationalState}
-use Rattle.ask_claims.specs.Breaking.{BreaksSome, NoneAgainst}
 use Rattle.ask_claims.specs.Truth.{IsTrueAt}
 use Rattle.ask_claims.specs.Claims.{FileMeans, Stands, Stated, stated_of}
 use Rattle.ask_claims.specs.Lines.{verdicts_text}
 use Rattle.ask_claims.specs.declared.claim.Claim.{Claim}
-use Rattle.ask_claims.specs.declared.outcome.Verdict.{Verdict}
-use Rattle.ask_claims.specs.declared.outcome.Verdict.TheVariants.{Proved, Open}
+use Rattle.ask_verdicts.specs.Breaking.{BreaksSome, NoneOpen}
+use Rattle.ask_verdicts.specs.declared.outcome.Verdict.{Verdict}
+use Rattle.ask_verdicts.specs.declared.outcome.Verdict.TheVariants.{Proved, Open}
 use Rattle.ask_words.specs.declared.request.Domain.{Domain}
 use Rattle.ask_words.specs.declared.request.Policy.{Policy}
 use Rattle.top_texts.specs.Meanings.{Meanings}
@@ -67,12 +67,11 @@ pub record SpeakOfRuns (variables : ℕ) (body : Statements) (system : Equations
     (verdicts : List Verdict) : Type 0 where
   pub one_each : length verdicts ≡ length claims
   pub proved_where : (k : ℕ) (claim : Claim) (verdict : Verdict) → slice_get claims k ≡ Some claim → slice_get verdicts k ≡ Some verdict
-      → (verdict ≡ Proved) ↔ NoneAgainst system vector claim
+      → (verdict ≡ Proved) ↔ NoneOpen system vector claim.point [] claim.against (length claim.against)
   pub proved : (k : ℕ) (claim : Claim) → slice_get claims k ≡ Some claim → slice_get verdicts k ≡ Some Proved
       → IsTrueInRuns variables body claim
   pub open_ones : (k : ℕ) (claim : Claim) (state : RationalState) → slice_get claims k ≡ Some claim
-      → slice_get verdicts k ≡ Some (Open state)
-      → BreaksSome system vector claim.point claim.against state
+      → slice_get verdicts k ≡ Some (Open state) → BreaksSome system vector claim.point [] claim.against state
 
 -- the bytes are the verdicts on claims about a program: those of the least vector over a template
 pub record AreLeastVerdicts (m : Meanings) (names : List (List ℕ)) (body : Statements) (template : List (List ℤ)) (vector : Vector)

@@ -2,6 +2,7 @@
 -- the program.
 use Rattle.std.specs.Prelude.{length}
 use Rattle.ask_claims.specs.AllVerdicts.{AreVerdicts}
+use Rattle.ask_checks.specs.Verdicts.{AreCheckVerdicts}
 use Rattle.out_workload.specs.Summaries.{summary_of}
 use Rattle.out_workload.specs.Texts.{generated_text}
 use Rattle.top_status.specs.CheckMessages.{rows_of}
@@ -10,20 +11,21 @@ use Rattle.top_texts.specs.Generated.{IsGenerated}
 use Rattle.top_texts.specs.MadeCertificates.{IsCertificateOf}
 use Rattle.top_texts.specs.Meanings.{Meanings}
 use Rattle.top_status.specs.Messages.{line_in, message_of}
-use Rattle.top_texts.specs.Spots.{HasExcess, IsClaimSpot}
+use Rattle.top_texts.specs.Spots.{HasExcess, IsCheckedSpot, IsClaimSpot}
 use Rattle.top_texts.specs.Upgrades.{IsUpgradeOf}
 
--- the first operation of the composition, one of the rounds, for a certificate one of its check, and for claims the first of their
--- problems, whose exact result doesn't fit; the joint problem of a turn of the rounds that has too many cells;
+-- the first operation of the composition, one of the rounds, for a certificate one of its check, and for claims and for the checks of a
+-- program the first of their problems, whose exact result doesn't fit; the joint problem of a turn of the rounds that has too many cells;
 -- the certificate of the rounds by the policy; certificates that are valid and in whose check no sum is too wide, and the first cause of
 -- others;
 -- the first fault of the form of bytes, and the text of the certificate that they spell; verdicts by the linear problem of each case
--- against a claim, an open one with the state of the last dictionary of the first problem that isn't empty; programs drawn from a seed,
--- over intervals
+-- against a claim, and against a check at each of its places, an open one with the state of the last dictionary of the first problem that
+-- isn't empty; programs drawn from a seed, over intervals
 abbrev pub exact : Meanings
 exact = record {
   exceeds = λ purpose system policy limit excess. HasExcess purpose system policy limit excess;
   too_wide_for = λ given system policy limit spot. IsClaimSpot given system policy limit spot;
+  too_wide_at = λ text system policy limit spot. IsCheckedSpot text system policy limit spot;
   certifies = λ text rows policy limit bytes. IsCertificateOf text rows policy limit bytes;
   accepts = λ text bytes names body rows vector. IsAcceptedWith text bytes names body rows vector;
   refuses = λ text bytes cause. IsRefusedCertificate text bytes cause;
@@ -32,6 +34,7 @@ exact = record {
   misspells = λ bytes fault. IsFormFault bytes fault;
   upgrades = λ bytes written. IsUpgradeOf bytes written;
   judges = λ system vector claims verdicts. AreVerdicts system vector claims verdicts;
+  verifies = λ system vector checks verdicts. AreCheckVerdicts system vector checks verdicts;
   generates = λ seed loops system. IsGenerated seed loops system;
   summary = λ seed loops system vector rounds. summary_of seed loops (length (generated_text seed loops)) system vector rounds;
   message = λ line rows status. message_of line rows status;

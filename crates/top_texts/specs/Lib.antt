@@ -6,6 +6,7 @@ pub mod Checks
 pub mod Upgrades
 pub mod Meanings
 pub mod ClaimTexts
+pub mod CheckTexts
 pub mod EquationTexts
 pub mod TransitionTexts
 pub mod Generated

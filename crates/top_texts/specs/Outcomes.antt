@@ -1,6 +1,7 @@
 -- What the calls answer, part by part: what is put, or why nothing is.
 use Rattle.std.specs.Prelude.{◌≡◌, ◌≤◌, ◌<◌, ◌⊎◌, ℕ, List, [], IsTrue, Some, length, slice_get}
 use Rattle.lang_tree.specs.Tree.{Statements}
+use Rattle.flow_edges.specs.declared.checked.CheckCases.{CheckCases}
 use Rattle.flow_templates.specs.RowFaults.{faults_of}
 use Rattle.flow_templates.specs.Rows.{is_template}
 use Rattle.base_numbers.specs.Extended.{Ext}
@@ -24,7 +25,7 @@ use Rattle.top_texts.specs.Endings.{CheckEnd, UpgradeEnd}
 use Rattle.top_texts.specs.Questions.{IsExcessIn, Question, QuestionEnds}
 use Rattle.top_texts.specs.Policies.{rule_of}
 use Rattle.top_texts.specs.Rounds.{EndsWithin, HasRounds, RunsOut}
-use Rattle.top_texts.specs.Spots.{HasExcess, IsWideFor}
+use Rattle.top_texts.specs.Spots.{HasExcess, IsWideFor, IsWideOn}
 use Rattle.top_texts.specs.TransitionTexts.{AreNoTransitions}
 use Rattle.top_texts.specs.Texts.{IsRefused, IsRefusedProgram, unknowns}
 use Rattle.ask_words.specs.declared.request.Purpose.{Purpose}
@@ -112,6 +113,12 @@ abbrev pub AreUnjudged : Equations → Vector → List Claim → Refusal → Typ
 AreUnjudged system vector claims (Exceeded (Wide spot)) = IsWideFor system vector claims spot
 AreUnjudged system vector claims NoMemory = Unit {0}
 AreUnjudged system vector claims _ = ⊥
+
+-- why there are no verdicts on checks at a vector; want of memory needs none
+abbrev pub AreUnverified : Equations → Vector → List CheckCases → Refusal → Type 0
+AreUnverified system vector checks (Exceeded (Wide spot)) = IsWideOn system vector checks spot
+AreUnverified system vector checks NoMemory = Unit {0}
+AreUnverified system vector checks _ = ⊥
 
 -- why a system and a certificate aren't accepted
 abbrev pub IsUnaccepted : Equations → TheoryCertificate → Refusal → Type 0

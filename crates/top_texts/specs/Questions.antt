@@ -1,5 +1,5 @@
--- What is asked about equation systems: of the texts of a program and its rows, of a generated program, of claims about a program, of a
--- transition system, and of equations. What is said of each such question, and of its endings, is said here once.
+-- What is asked about equation systems: of the texts of a program and its rows, of a generated program, of claims about a program, of the
+-- checks of a program, of a transition system, and of equations. What is said of each such question, and of its endings, is said here once.
 use Rattle.std.specs.Prelude.{◌≡◌, ◌⊎◌, ℕ, List}
 use Rattle.flow_systems.specs.declared.spot.Spot.{Spot}
 use Rattle.flow_systems.specs.declared.system.System.{System}
@@ -78,6 +78,17 @@ claims_question m text rows given policy limit = record {
   means = λ system. IsClaimedSystem text rows given system;
   exceeds = λ system excess.
       m.exceeds Report system policy limit excess ⊎ IsOnlyWide (λ spot. m.too_wide_for given system policy limit spot) excess;
+  policy = policy;
+  limit = limit;
+}
+
+-- what the least bounds of a program over the rows of a domain say of its checks
+abbrev pub checks_question : Meanings → (text : List ℕ) → Domain (List ℕ) → Policy → ℕ → Question
+checks_question m text rows policy limit = record {
+  is_refused = λ cause. IsRefused text rows cause;
+  means = λ system. IsSolvedSystem text rows system;
+  exceeds = λ system excess.
+      m.exceeds Report system policy limit excess ⊎ IsOnlyWide (λ spot. m.too_wide_at text system policy limit spot) excess;
   policy = policy;
   limit = limit;
 }

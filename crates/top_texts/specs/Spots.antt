@@ -1,8 +1,11 @@
--- What exceeds exact work: an operation of the rounds, of the check of their certificate, or for claims about where they end, that is wide;
--- or a joint problem of the rounds that is too large.
+-- What exceeds exact work: an operation of the rounds, of the check of their certificate, or for claims and checks where they end, that is
+-- wide; or a joint problem of the rounds that is too large.
 use Rattle.std.specs.Prelude.{◌≡◌, ◌⊎◌, ◌≤◌, ℕ, List, Some}
+use Rattle.lang_tree.specs.Tree.{Statements}
+use Rattle.flow_edges.specs.Checks.{checks_of_program}
+use Rattle.flow_edges.specs.declared.checked.CheckCases.{CheckCases}
 use Rattle.flow_systems.specs.declared.spot.Part.{Part}
-use Rattle.flow_systems.specs.declared.spot.Site.TheVariants.{Claim as AtClaim}
+use Rattle.flow_systems.specs.declared.spot.Site.TheVariants.{Check as AtCheck, Claim as AtClaim}
 use Rattle.flow_systems.specs.declared.spot.Spot.{Spot}
 use Rattle.flow_systems.specs.declared.system.System.{System}
 use Rattle.flow_systems.specs.Equations.{Equations, Vector}
@@ -16,6 +19,8 @@ use Rattle.solve_rounds.specs.Solutions.{IsSolved, made_certificate}
 use Rattle.ask_claims.specs.AllVerdicts.{IsClaimsFault}
 use Rattle.ask_claims.specs.declared.claim.Claim.{Claim}
 use Rattle.ask_claims.specs.declared.outcome.ClaimsFault.TheVariants.{Wide as WideFor}
+use Rattle.ask_checks.specs.Verdicts.{IsChecksFault}
+use Rattle.ask_checks.specs.declared.outcome.ChecksFault.TheVariants.{Wide as WideOn}
 use Rattle.ask_words.specs.declared.request.Policy.{Policy}
 use Rattle.ask_words.specs.declared.request.Purpose.{Purpose}
 use Rattle.ask_words.specs.declared.request.Purpose.TheVariants.{Report, Certificate}
@@ -24,6 +29,7 @@ use Rattle.top_status.specs.declared.status.Excess.TheVariants as excess
 use Rattle.top_texts.specs.ClaimTexts.{AreClaimsOf}
 use Rattle.top_texts.specs.Policies.{rule_of}
 use Rattle.top_texts.specs.Rounds.{HasRounds}
+use Rattle.top_texts.specs.Texts.{IsAnalysed}
 
 -- the spot is that of a wide sum of the check of the certificate that the rounds make
 pub record IsCertifySpot (system : System) (policy : Policy) (limit : ℕ) (spot : Spot) : Type 0 where
@@ -59,3 +65,26 @@ pub record IsClaimSpot (given : List ℕ) (system : System) (policy : Policy) (l
   pub claims : List Claim
   pub claims_are : AreClaimsOf given system.flow.names system.flow.points claims
   pub wide : IsWideFor (equations_of system) vector claims spot
+
+-- the spot is that of the first operation for checks that is wide at a vector, in the problem of this case where this check stands on this
+-- edge; it is in no round
+pub record IsWideOn (system : Equations) (vector : Vector) (checks : List CheckCases) (spot : Spot) : Type 0 where
+  pub check : ℕ
+  pub edge : ℕ
+  pub case : ℕ
+  pub part : Part
+  pub round : spot.round ≡ 0
+  pub site : spot.site ≡ AtCheck check edge case part
+  pub wide : IsChecksFault system vector checks (WideOn check edge case part spot.wide)
+
+-- the improvements end within the limit, and the spot is that of a wide operation for the checks of a text's program at the vector where
+-- they end
+pub record IsCheckedSpot (text : List ℕ) (system : System) (policy : Policy) (limit : ℕ) (spot : Spot) : Type 0 where
+  pub rounds : ℕ
+  pub within : rounds ≤ limit
+  pub vector : Vector
+  pub has_rounds : HasRounds system policy rounds vector
+  pub names : List (List ℕ)
+  pub body : Statements
+  pub analysed : IsAnalysed text names body
+  pub wide : IsWideOn (equations_of system) vector (checks_of_program body) spot

@@ -61,6 +61,12 @@ pub record IsSolvedSystem (text : List ℕ) (rows : Domain (List ℕ)) (system :
   pub ready : IsReady text rows names body template
   pub system_for : IsSystemFor names body template system
 
+-- it is that of this program
+pub record IsSystemOn (text : List ℕ) (rows : Domain (List ℕ)) (names : List (List ℕ)) (body : Statements) (system : System) : Type 0 where
+  pub template : List (List ℤ)
+  pub ready : IsReady text rows names body template
+  pub system_for : IsSystemFor names body template system
+
 -- the text of the program is refused by this cause, whatever template it is for
 abbrev pub IsRefusedProgram : List ℕ → TextCause → Type 0
 IsRefusedProgram text (Lex fault) = HasFault text fault

@@ -13,6 +13,7 @@ mod prove;
 mod refusal;
 mod transitions;
 mod upgrade;
+mod verify;
 
 // One call for each command that is asked of texts alone.
 pub use bench::bench_text;
@@ -21,6 +22,7 @@ pub use points::points_text;
 pub use prove::prove_text;
 pub use transitions::transitions_text;
 pub use upgrade::upgrade_text;
+pub use verify::{Judged, verify_text};
 
 // The parts of an analysis and of a check, whose messages name rows.
 pub use analyse::certify::certificate_of;

@@ -3,17 +3,20 @@ use Rattle.std.proofs.Common.{ℕ, List, refl}
 use Rattle.ask_files.specs.Files.{Request}
 use Rattle.ask_words.specs.declared.request.Purpose.TheVariants.{Report}
 use Rattle.ask_words.specs.declared.request.Request.TheVariants.{Analyse}
-use Rattle.top_answer.proofs.commands.Lawful.{IsLawful}
+use Rattle.top_answer.specs.Commands.{command_of}
+use Rattle.top_answer.proofs.commands.Lawful.{IsLawful, done_ends}
 use Rattle.top_answer.proofs.commands.Table.{lawful}
-use Rattle.top_status.specs.declared.status.Status.TheVariants.{Done}
+use Rattle.top_status.specs.declared.status.Status.{Status}
 use Rattle.top_texts.specs.Exact.{exact}
 use Rattle.top_texts.specs.Questions.{rounds_end}
-use Rattle.acsl_annotate.specs.Annotated.{annotating}
+use Rattle.acsl_annotate.specs.Annotated.{IsNoted, annotating}
 
 -- `solve` writes another text than there, all else is written as there
-written_ends : (asked : Request) (bytes : List ℕ) → (annotating exact asked).writes bytes → (annotating exact asked).ends Done
-written_ends (Analyse Report a) bytes h = rounds_end h.0.0 refl h.0.1 h.0.2
-written_ends asked bytes h = (lawful asked).written_ends bytes h
+written_ends : (asked : Request) (s : Status) (bytes : List ℕ) → (annotating exact asked).writes s bytes → (annotating exact asked).ends s
+written_ends (Analyse Report a) =
+    done_ends (λ s. (command_of exact (Analyse Report a)).ends s) (λ bytes. IsNoted a bytes)
+    (λ bytes h. rounds_end h.0.0 refl h.0.1 h.0.2)
+written_ends asked = (lawful asked).written_ends
 
 -- the commands that annotate are lawful
 pub annotating_lawful : IsLawful (annotating exact)

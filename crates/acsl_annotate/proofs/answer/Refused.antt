@@ -11,7 +11,7 @@ use Rattle.top_status.specs.CheckMessages.{rows_of}
 use Rattle.top_status.specs.Messages.{line_in, message_of}
 use Rattle.top_status.specs.declared.ending.Ending.{Ending}
 use Rattle.top_status.specs.declared.status.Status.{Status}
-use Rattle.top_status.specs.declared.status.Status.TheVariants.{Done, Certificate, Usage, Read, Text, Exceeded, Spent, Memory, Write}
+use Rattle.top_status.specs.declared.status.Status.TheVariants.{Done, Open, Certificate, Usage, Read, Text, Exceeded, Spent, Memory, Write}
 use Rattle.top_texts.specs.Analyses.{IsFoundIn, IsRefusedText, IsUnput}
 use Rattle.top_texts.specs.Exact.{exact}
 use Rattle.top_texts.specs.Outcomes.{QuestionAnswer}
@@ -26,6 +26,7 @@ pub refused_says : (a : Analysis (List ℕ)) (s : Status)
     → Says (annotating exact (Analyse Report a)) s []
 refused_says a Done h u = absurd (u.undone refl)
 refused_says a (Certificate c) h u = absurd h
+refused_says a Open h u = absurd h
 refused_says a Usage h u = absurd h
 refused_says a (Read c) h u = absurd h
 refused_says a (Text c) h u = (is_refused c refl h, refl)

@@ -1,26 +1,22 @@
 -- A proved claim is true in every run.
-use Rattle.std.proofs.Common.{◌≡◌, ◌∙◌, ◌⊎◌, inl, inr, ⊎_elim, ℕ, zero, suc, ◌<◌, true, false, List, [], ◌∷◌, length, get_or, refl, sym}
-use Rattle.std.proofs.Common.{subst, true≢false, arith}
+use Rattle.std.proofs.Common.{◌≡◌, ◌∙◌, ◌⊎◌, inl, inr, ⊎_elim, zero, suc, true, false, [], refl, sym}
+use Rattle.std.proofs.Common.{true≢false, arith}
 use Rattle.std.specs.Prelude.{ℤ, pos, negsuc, ◌<ℤ◌, IsTrue}
 use Rattle.std.proofs.lemmas.Bool.{and_parts}
 use Rattle.std.proofs.lemmas.Int.{ints}
 use Rattle.std.proofs.lemmas.List.{length-map}
-use Rattle.base_numbers.specs.Rational.{whole, zero_ℚ, ◌≤ℚ◌}
-use Rattle.base_numbers.proofs.rational.Laws.{whole-zero, whole_le}
-use Rattle.lang_tree.specs.declared.form.Form.{Form}
+use Rattle.base_numbers.specs.Rational.{whole}
 use Rattle.lang_tree.specs.declared.cond.Rel.{Rel}
 use Rattle.lang_tree.specs.declared.cond.Rel.TheVariants.{Eq, Ne, Lt, Le, Gt, Ge}
 use Rattle.lang_tree.specs.Tree.{Condition, free, compare, negation, both, either}
 use Rattle.lang_tree.specs.Meaning.{State, value, Relates, MayBe}
-use Rattle.lang_tree.specs.Cases.{cases_of, HoldAll, HoldSome}
-use Rattle.lang_tree.proofs.cases.CaseLaw.{cases_law}
 use Rattle.flow_systems.specs.States.{rational}
-use Rattle.flow_systems.proofs.states.RationalStates.{value_rational}
+use Rattle.flow_systems.specs.Solutions.{equations_of_program}
+use Rattle.flow_systems.proofs.states.Sizes.{run_size}
 use Rattle.flow_systems.proofs.states.Soundness.{program_soundness}
-use Rattle.ask_claims.specs.Breaking.{PassesAll}
+use Rattle.ask_verdicts.proofs.laws.Held.{places_hold}
 use Rattle.ask_claims.specs.Laws.{ProvedClaimsHold}
 use Rattle.ask_claims.specs.Truth.{is_decided}
-use Rattle.flow_systems.proofs.states.Sizes.{run_size}
 
 -- ---- a condition without choices is true or false
 sign : (z : ℤ) → (z <ℤ pos 0) ⊎ ((z ≡ pos 0) ⊎ (pos 0 <ℤ z))
@@ -56,37 +52,13 @@ decided (either a b) x d =
     let p = and_parts (is_decided a) (is_decided b) d in
     ⊎_elim (λ t. inl (inl t)) (λ f. ⊎_elim (λ t. inl (inr t)) (λ g. inr (f, g)) (decided b x p.1)) (decided a x p.0)
 
--- ---- an integer state that passes a case
-passes_rational : (case : List Form) (x : State) → HoldAll x case → PassesAll case (rational x)
-passes_rational [] x h = tt
-passes_rational (g ∷ gs) x h =
-    let at_most : whole (value g x) ≤ℚ zero_ℚ = subst (λ q. whole (value g x) ≤ℚ q) whole-zero (whole_le (value g x) (pos 0) h.0) in
-    (subst (λ q. q ≤ℚ zero_ℚ) (sym (value_rational g x)) at_most, passes_rational gs x h.1)
-
--- the case whose guards hold
-record Held (x : State) (cases : List (List Form)) : Type 0 where
-  number : ℕ
-  within : number < length cases
-  holds : HoldAll x (get_or cases number [])
-
-held : (x : State) (cases : List (List Form)) → HoldSome x cases → Held x cases
-held x [] h = absurd h
-held x (c ∷ cs) h =
-    ⊎_elim (λ here. record { number = 0; within = omega arith; holds = here })
-    (λ later. let r = held x cs later in let l = r.within in record { number = suc r.number; within = omega (arith, l); holds = r.holds }) h
-
+-- ---- runs
 -- a condition none of whose opposite cases a state breaks is true at its point in every run
 pub claims_hold : ProvedClaimsHold
 claims_hold variables body template v p c post none run now is_run is_in is_at =
+    let system = equations_of_program variables body template in
     let x = now.state in
     let size = run_size variables body run now is_run is_in in
     let fits = program_soundness variables body template v post run now p is_run is_in is_at in
-    let never : ¬ (MayBe false c x) = λ f.
-    let h = held x (cases_of false c) ((cases_law false c x).0 f) in
-    none h.number h.within (rational x) (record {
-      size = length-map x whole ∙ size;
-      fits = fits;
-      passes =
-          passes_rational (get_or (cases_of false c) h.number []) x h.holds;
-    }) in
+    let never = places_hold system v p [] c none (rational x) x (length-map x whole ∙ size) fits refl in
     record { never_false = never; is_true = λ d. ⊎_elim (λ t. t) (λ f. absurd (never f)) (decided c x d) }

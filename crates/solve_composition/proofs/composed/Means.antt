@@ -76,7 +76,7 @@ dot-first (suc w) (x ∷ xs) [] e = absurd (omega (arith, e))
 dot-first (suc w) (x ∷ xs) (y ∷ word) e = ap (λ s. (x *ℚ y) +ℚ s) (dot-first w xs word (omega (arith, e)))
 
 -- a form with all its columns has the form's value at a word of that width
-val-dense : (w : ℕ) (f : Form) (word : Word) → length word ≡ w → val (form_of (dense w f)) word ≡ val f word
+pub val-dense : (w : ℕ) (f : Form) (word : Word) → length word ≡ w → val (form_of (dense w f)) word ≡ val f word
 unfolding val
 val-dense w f word e = ap (λ s. s +ℚ f.constant) (dot-first w f.coeffs word e)
 

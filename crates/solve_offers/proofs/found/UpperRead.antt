@@ -11,8 +11,7 @@ use Rattle.theory_validity.specs.Certificates.{Evidence}
 use Rattle.theory_validity.specs.Words.{guard_forms}
 use Rattle.lp_theory.specs.Problem.{Outcome, best, unbounded, empty}
 use Rattle.lp_theory.specs.Simplex.{lp}
-use Rattle.theory_transformers.specs.EdgeProblems.{is_lost, lost}
-use Rattle.theory_rounds.specs.Evidence.{whole_problem}
+use Rattle.theory_transformers.specs.EdgeProblems.{is_lost, lost, whole_problem}
 use Rattle.theory_rounds.specs.Made.{lowest_lost, outcome_upper, exact_upper}
 use Rattle.solve_composition.specs.declared.value.Value.{Value}
 use Rattle.solve_composition.specs.declared.value.Value.TheVariants.{Unreached, Empty, Best, Unbounded}

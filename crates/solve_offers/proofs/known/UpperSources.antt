@@ -12,10 +12,9 @@ use Rattle.lp_theory.specs.Problem.{Outcome, best, unbounded, empty}
 use Rattle.lp_theory.specs.Simplex.{lp}
 use Rattle.lp_theory.specs.Free.{split_problem}
 use Rattle.theory_transformers.specs.Limits.{limits_problem, tabulate}
-use Rattle.theory_transformers.specs.EdgeProblems.{guard_limits, edge_limits, edge_problem, is_lost, lost}
+use Rattle.theory_transformers.specs.EdgeProblems.{guard_limits, edge_limits, edge_problem, is_lost, lost, whole_problem}
 use Rattle.theory_transformers.specs.Spread.{spread_one, spread, skip_one, skip}
 use Rattle.theory_rounds.specs.Agreement.{Agree}
-use Rattle.theory_rounds.specs.Evidence.{whole_problem}
 use Rattle.theory_rounds.specs.Made.{lowest_lost, outcome_upper, exact_upper}
 use Rattle.theory_rounds.proofs.raises.ProblemsAgree.{same_sources, lost_agrees}
 

@@ -12,11 +12,11 @@ use Rattle.cert_types.specs.Certificates.{pieces_of}
 use Rattle.lp_theory.specs.Problem.{Outcome, best, unbounded, empty}
 use Rattle.lp_theory.specs.Simplex.{lp}
 use Rattle.lp_theory.specs.Free.{unsplit}
-use Rattle.theory_transformers.specs.EdgeProblems.{transformer}
+use Rattle.theory_transformers.specs.EdgeProblems.{transformer, whole_problem}
 use Rattle.theory_transformers.proofs.limits.Products.{length-tabulate}
 use Rattle.theory_strategy.specs.Picks.{value_at}
 use Rattle.theory_strategy.specs.Growth.{raise_at}
-use Rattle.theory_rounds.specs.Evidence.{whole_problem, exact_evidence}
+use Rattle.theory_rounds.specs.Evidence.{exact_evidence}
 use Rattle.theory_rounds.specs.Raises.{HasWords as HasExactWords}
 use Rattle.theory_rounds.specs.Rounds.{exact_raise}
 use Rattle.theory_rounds.proofs.evidence.EvidenceWords.{evidence_words}

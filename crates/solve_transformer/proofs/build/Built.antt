@@ -14,13 +14,12 @@ use Rattle.lp_dictionary.specs.declared.problem.Row.{Row}
 use Rattle.lp_dictionary.specs.declared.problem.Problem.{Problem}
 use Rattle.lp_dictionary.specs.Exact.{exact, IsShaped}
 use Rattle.theory_transformers.specs.Limits.{Limit, AllWithin, limits_problem}
-use Rattle.theory_transformers.specs.EdgeProblems.{source_limits, guard_limits, edge_limits, edge_problem}
+use Rattle.theory_transformers.specs.EdgeProblems.{source_limits, guard_limits, edge_limits, edge_problem, whole_problem}
 use Rattle.theory_transformers.proofs.limits.LimitLaws.{within_both}
 use Rattle.theory_transformers.proofs.limits.SourceLimits.{source_within, guards_within}
 use Rattle.theory_transformers.proofs.edge_problems.EdgePoints.{wider}
 use Rattle.solve_composition.specs.declared.affine.Affine.{Affine}
 use Rattle.solve_composition.specs.Composed.{first_entries, dense}
-use Rattle.solve_transformer.specs.Values.{whole_problem}
 use Rattle.solve_transformer.specs.Splits.{bounds_at, pairs, split_limit, limit_of, IsSource}
 use Rattle.solve_transformer.specs.Readings.{HasSizes}
 use Rattle.solve_composition.proofs.composed.Dense.{length-first_entries}
@@ -101,7 +100,7 @@ module _ (system : Equations) (z : Vector) (edge : Edge) (row : List ℤ) (w : �
         ∙ ap (λ n. n + n) (length-first_entries w (end_form system.variables edge.actions row).coeffs)
 
     -- and it is shaped
-    pub built_shaped : length template ≤ MOST_ROWS → length guards ≤ 256 → w ≤ MOST_VARIABLES + 256 → IsShaped p
+    pub built_shaped : length template ≤ MOST_ROWS → length guards ≤ 512 → w ≤ MOST_VARIABLES + 256 → IsShaped p
     built_shaped t b c =
         let count = ap (λ (xs : List Limit). length xs) h ∙ length-append
         (map (split_limit w) (source_limits (λ r u. u) system.variables (bounds_at source) template))

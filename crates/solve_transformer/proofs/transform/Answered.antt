@@ -11,7 +11,7 @@ use Rattle.flow_systems.specs.declared.spot.PartFault.{PartFault}
 use Rattle.lp_theory.specs.Problem as lp
 use Rattle.lp_theory.specs.Simplex.{lp as solved}
 use Rattle.lp_simplex.specs.Operations.{first_refused, run_operations}
-use Rattle.theory_transformers.specs.EdgeProblems.{lost, transformer}
+use Rattle.theory_transformers.specs.EdgeProblems.{lost, transformer, whole_problem}
 use Rattle.solve_composition.specs.Value.{number_of}
 use Rattle.solve_composition.specs.declared.affine.Affine.{Affine}
 use Rattle.solve_composition.specs.declared.value.Value.{Value}
@@ -19,7 +19,7 @@ use Rattle.solve_composition.specs.declared.value.Value.TheVariants.{Unreached}
 use Rattle.solve_transformer.specs.Meanings.{HasEvidence, Operates}
 use Rattle.solve_transformer.specs.Splits.{bounds_at, IsSource}
 use Rattle.solve_transformer.specs.Readings.{IsProblemFault}
-use Rattle.solve_transformer.specs.Values.{IsLowestLost, IsValue, ReadsOutcome, reading_operations, whole_problem}
+use Rattle.solve_transformer.specs.Values.{IsLowestLost, IsValue, ReadsOutcome, reading_operations}
 use Rattle.solve_transformer.proofs.values.Evident.{is_transformer, has_evidence}
 use Rattle.solve_transformer.proofs.transform.Operated.{lost_at, value_of, none_of, fault_of}
 

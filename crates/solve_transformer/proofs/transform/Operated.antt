@@ -26,13 +26,13 @@ use Rattle.theory_validity.specs.Words.{columns, free_count, width, guard_forms,
 use Rattle.lp_theory.specs.Problem as lp
 use Rattle.lp_theory.specs.Simplex.{lp as solved}
 use Rattle.lp_simplex.specs.Operations.{first_refused, run_operations}
-use Rattle.theory_transformers.specs.EdgeProblems.{is_lost, lost}
+use Rattle.theory_transformers.specs.EdgeProblems.{is_lost, lost, whole_problem}
 use Rattle.std.proofs.lemmas.List.{length-map}
 use Rattle.solve_composition.specs.declared.affine.Affine.{Affine}
 use Rattle.solve_composition.specs.declared.value.Value.{Value}
 use Rattle.solve_composition.specs.declared.value.Value.TheVariants.{Unreached, Empty, Best, Unbounded}
 use Rattle.solve_composition.specs.Composed.{EdgeForms, dense, edge_forms, AreComposed}
-use Rattle.solve_transformer.specs.Values.{ReadsOutcome, reading_operations, whole_problem, IsValue, NoneWide, IsOperatorFault}
+use Rattle.solve_transformer.specs.Values.{ReadsOutcome, reading_operations, IsValue, NoneWide, IsOperatorFault}
 use Rattle.solve_transformer.specs.Values.{problem_reading}
 use Rattle.solve_transformer.specs.Splits.{bounds_at, IsSource}
 use Rattle.solve_transformer.specs.Readings.{IsProblemFault}
@@ -88,7 +88,8 @@ none_at B (row ∷ rows) h = ap₂ (λ a b. a || b) (above_is (B 0) (h 0 (omega 
 pub template_over : (s : System) → IsTrue (is_over (length s.flow.names) s.template)
 template_over s = (both (is_over (length s.flow.names) s.template) _ s.within_limits).0
 
-frees_few : (actions : List Action) → free_count actions ≤ length actions
+-- there are at most as many free values as actions
+pub frees_few : (actions : List Action) → free_count actions ≤ length actions
 unfolding free_count
 frees_few [] = omega arith
 frees_few (Guard form ∷ actions) = let h = frees_few actions in omega (arith, h)
@@ -96,7 +97,8 @@ frees_few (Assign var form ∷ actions) = let h = frees_few actions in omega (ar
 frees_few (Havoc var ∷ actions) = let h = frees_few actions in omega (arith, h)
 frees_few (Check about ∷ actions) = let h = frees_few actions in omega (arith, h)
 
-forms_few : (n : ℕ) (actions : List Action) → length (guard_forms n actions) ≤ length actions
+-- and at most as many guards
+pub forms_few : (n : ℕ) (actions : List Action) → length (guard_forms n actions) ≤ length actions
 unfolding guard_forms
 forms_few n actions = guards_few n (columns n) actions
 

@@ -29,7 +29,8 @@ use Rattle.theory_transformers.proofs.spread.Spreads.{column_sum_is, side_sum_is
 use Rattle.theory_transformers.proofs.spread.Spreads.{source_columns, source_sides, source_nonneg, spread_length, spread_zero}
 use Rattle.solve_composition.specs.declared.value.Value.{Value}
 use Rattle.solve_composition.specs.declared.value.Value.TheVariants.{Unreached, Empty, Best, Unbounded}
-use Rattle.solve_transformer.specs.Values.{ReadsOutcome, whole_problem, IsValue}
+use Rattle.solve_transformer.specs.Values.{ReadsOutcome, IsValue}
+use Rattle.theory_transformers.specs.EdgeProblems.{whole_problem}
 use Rattle.solve_composition.specs.Value.{number_of, word_of}
 use Rattle.solve_transformer.specs.Meanings.{IsUnboundedEvidence, HasEvidence}
 use Rattle.solve_transformer.proofs.transform.Operated.{lost_at}

@@ -9,7 +9,7 @@ pub(crate) const USAGE: &[u8] =
     b"usage: tmpl solve PROGRAM [--domain D] [--rows FILE] [--improvements N] [--policy P] | certify (the same) \
       | check PROGRAM CERT | bench --seed N --loops K | upgrade CERT \
       | prove PROGRAM CLAIMS (the options of solve) | transitions FILE (the options of solve) \
-      | equations FILE [--improvements N] [--policy P] | points PROGRAM\n";
+      | equations FILE [--improvements N] [--policy P] | points PROGRAM | verify PROGRAM (the options of solve)\n";
 
 // Lines of words that ask for nothing.
 const NO_REQUESTS: &[&str] = &[
@@ -26,6 +26,8 @@ const NO_REQUESTS: &[&str] = &[
     "solve p --improvements 1000001",
     "solve",
     "transitions",
+    "verify p f",
+    "verify",
 ];
 
 #[test]
@@ -46,6 +48,8 @@ const UNREAD: &[(&str, &str)] = &[
     ("transitions p --domain rows --rows q", "rows"),
     ("equations q", "equations"),
     ("points q", "program"),
+    ("verify q", "program"),
+    ("verify p --domain rows --rows q", "rows"),
     ("certify q", "program"),
     ("check q q", "program"),
     ("solve q --policy first", "program"),

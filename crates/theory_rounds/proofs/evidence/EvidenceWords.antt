@@ -11,13 +11,13 @@ use Rattle.theory_validity.specs.Transformers.{Reaches, Unlimited}
 use Rattle.lp_theory.specs.Problem.{Outcome, best, unbounded, empty}
 use Rattle.lp_theory.specs.Simplex.{lp}
 use Rattle.lp_theory.specs.Free.{unsplit, unsplit_outcome, free_lp, IsFreeOutcome}
-use Rattle.theory_transformers.specs.EdgeProblems.{edge_problem, lost, value_of, transformer, NoneLost}
+use Rattle.theory_transformers.specs.EdgeProblems.{edge_problem, lost, value_of, transformer, NoneLost, whole_problem}
 use Rattle.theory_transformers.proofs.limits.Products.{length-tabulate}
 use Rattle.theory_transformers.proofs.edge_problems.SplitProblems.{transformer_by_lp}
 use Rattle.theory_transformers.proofs.edge_problems.TransformerOf.{none_lost, transformer_upper}
 use Rattle.theory_strategy.specs.Picks.{value_at}
 use Rattle.theory_strategy.specs.Growth.{Sizes, split, with_words, raised_to, ray_low, raise, raise_at}
-use Rattle.theory_rounds.specs.Evidence.{whole_problem, word_at, unlimited_evidence, outcome_evidence, outcome_is, evidence_by}
+use Rattle.theory_rounds.specs.Evidence.{word_at, unlimited_evidence, outcome_evidence, outcome_is, evidence_by}
 use Rattle.theory_rounds.specs.Evidence.{exact_evidence}
 use Rattle.theory_rounds.specs.Raises.{HasWords, low_word, raise_read, outcome_at}
 use Rattle.theory_rounds.specs.Rounds.{exact_raise}

@@ -21,7 +21,8 @@ use Rattle.theory_transformers.specs.Spread.{skip}
 use Rattle.theory_transformers.proofs.limits.Products.{length-tabulate}
 use Rattle.theory_transformers.proofs.spread.Spreads.{column_sum_is, side_sum_is, nonneg_for, guard_columns, guard_sides, guard_nonneg}
 use Rattle.theory_transformers.proofs.spread.Spreads.{source_columns, source_sides, source_nonneg, spread_length, spread_zero}
-use Rattle.theory_rounds.specs.Evidence.{whole_problem, outcome_is}
+use Rattle.theory_rounds.specs.Evidence.{outcome_is}
+use Rattle.theory_transformers.specs.EdgeProblems.{whole_problem}
 use Rattle.theory_rounds.specs.Made.{lowest_lost, row_multipliers, guard_multipliers, outcome_upper, exact_upper}
 
 -- ---- the lowest row at −∞

@@ -13,8 +13,9 @@ use Rattle.top_status.specs.CheckMessages.{rows_of}
 use Rattle.top_status.specs.Messages.{line_in, message_of}
 use Rattle.ask_files.specs.declared.which.ReadCause.{ReadCause}
 use Rattle.top_status.specs.declared.status.Status.{Status}
-use Rattle.top_status.specs.declared.status.Status.TheVariants.{Done, Certificate, Usage, Read, Text, Exceeded, Spent, Memory, Write}
+use Rattle.top_status.specs.declared.status.Status.TheVariants.{Done, Open, Certificate, Usage, Read, Text, Exceeded, Spent, Memory, Write}
 use Rattle.top_texts.specs.Exact.{exact}
+use Rattle.top_texts.proofs.analyses.Found.{no_output}
 use Rattle.top_answer.proofs.commands.Lawful.{IsLawful}
 
 -- words ask for one request
@@ -52,10 +53,7 @@ module _ (commands : Commands) (law : IsLawful commands) (words contents : List 
     unread_answer = public.is_ending (public.not_read request cause is is_unread e)
 
     unread_holds : Holds (IsOutput commands words contents) status bytes
-    unread_holds = public.nothing (λ d. undone (sym e ∙ d)) empty
-      where
-        undone : Read cause ≡ Done → ⊥
-        undone d = cc
+    unread_holds = public.nothing (no_output status (Read cause) e refl) empty
 
     unread_complete : (ending : Status) → Ends commands words contents ending → IsAnsweredBy commands words contents ending status
     unread_complete ending (public.unasked n u) = absurd (no_request (request_of words) request n is)
@@ -83,7 +81,9 @@ module _ (commands : Commands) (law : IsLawful commands) (words contents : List 
     texts_answer : (status : Status) (bytes : List ℕ) → Says (commands (with_texts request contents)) status bytes
         → IsAnswer commands words contents status
     texts_answer Done bytes h =
-        public.is_ending (public.decided (with_texts request contents) asks ((law (with_texts request contents)).written_ends bytes h))
+        public.is_ending (public.decided (with_texts request contents) asks ((law (with_texts request contents)).written_ends Done bytes h))
+    texts_answer Open bytes h =
+        public.is_ending (public.decided (with_texts request contents) asks ((law (with_texts request contents)).written_ends Open bytes h))
     texts_answer (Certificate c) bytes h = public.is_ending (public.decided (with_texts request contents) asks h.0)
     texts_answer Usage bytes h = public.is_ending (public.decided (with_texts request contents) asks h.0)
     texts_answer (Read c) bytes h = public.is_ending (public.decided (with_texts request contents) asks h.0)
@@ -98,6 +98,7 @@ module _ (commands : Commands) (law : IsLawful commands) (words contents : List 
     texts_hold : (status : Status) (bytes : List ℕ) → Says (commands (with_texts request contents)) status bytes
         → Holds (IsOutput commands words contents) status bytes
     texts_hold Done bytes h = public.whole refl (record { asked = with_texts request contents; asks = asks; written = h })
+    texts_hold Open bytes h = public.whole refl (record { asked = with_texts request contents; asks = asks; written = h })
     texts_hold (Certificate c) bytes h = public.nothing (λ e. cc) h.1
     texts_hold Usage bytes h = public.nothing (λ e. cc) h.1
     texts_hold (Read c) bytes h = public.nothing (λ e. cc) h.1
@@ -111,7 +112,10 @@ module _ (commands : Commands) (law : IsLawful commands) (words contents : List 
         → (commands (with_texts request contents)).ends ending → IsAnsweredBy commands words contents ending status
     decided_once Done bytes ending h k =
         public.given ((law (with_texts request contents)).ends_once Done ending
-        ((law (with_texts request contents)).written_ends bytes h) k)
+        ((law (with_texts request contents)).written_ends Done bytes h) k)
+    decided_once Open bytes ending h k =
+        public.given ((law (with_texts request contents)).ends_once Open ending
+        ((law (with_texts request contents)).written_ends Open bytes h) k)
     decided_once (Certificate c) bytes ending h k =
         public.given ((law (with_texts request contents)).ends_once (Certificate c) ending h.0 k)
     decided_once Usage bytes ending h k = public.given ((law (with_texts request contents)).ends_once Usage ending h.0 k)
@@ -150,10 +154,7 @@ module _ (commands : Commands) (words contents : List (List ℕ)) (status : Stat
     (empty : bytes ≡ [])
     (plain : message ≡ message_of 0 0 status) where
   memory_holds : Holds (IsOutput commands words contents) status bytes
-  memory_holds = public.nothing (λ d. undone (sym e ∙ d)) empty
-    where
-      undone : Memory ≡ Done → ⊥
-      undone d = cc
+  memory_holds = public.nothing (no_output status Memory e refl) empty
 
   memory_message : IsMessage exact words contents status message
   memory_message = record {
@@ -187,10 +188,7 @@ module _ (commands : Commands) (law : IsLawful commands) where
       texts_hold commands law words contents r is all status bytes h
   holds words contents status bytes message (parted.asked r is (parted.wants_memory e b m)) =
       memory_holds commands words contents status bytes message e b m
-  holds words contents status bytes message (parted.unasked n e b m) = public.nothing (λ d. undone (sym e ∙ d)) b
-    where
-      undone : Usage ≡ Done → ⊥
-      undone d = cc
+  holds words contents status bytes message (parted.unasked n e b m) = public.nothing (no_output status Usage e refl) b
   holds words contents status bytes message (parted.no_memory e b m) = memory_holds commands words contents status bytes message e b m
 
   -- the ending that stands is answered

@@ -19,7 +19,7 @@ use Rattle.ask_words.specs.declared.request.Policy.{Policy}
 use Rattle.ask_words.specs.declared.request.Purpose.{Purpose}
 use Rattle.ask_words.specs.declared.request.Purpose.TheVariants.{Report, Certificate as AsCertificate}
 use Rattle.ask_words.specs.declared.request.Request.TheVariants.{Analyse}
-use Rattle.top_answer.specs.Commands.{IsCertificate, IsPut, command_of}
+use Rattle.top_answer.specs.Commands.{IsCertificate, IsPut, command_of, done_writes}
 use Rattle.top_answer.specs.Outcomes.{HasOutcome, Says}
 use Rattle.top_status.specs.declared.status.Status.{Status}
 use Rattle.top_status.specs.declared.status.Status.TheVariants.{Done}
@@ -36,7 +36,7 @@ use Rattle.top_texts.proofs.checks.Accepted.{bounds_are}
 use Rattle.top_texts.proofs.questions.OneMeaning.{analysis_once}
 use Rattle.top_texts.proofs.rounds.OneChain.{solved_ends}
 use Rattle.top_answer.proofs.commands.Asking.{lawful}
-use Rattle.top_answer.proofs.commands.Lawful.{IsCommand, IsForNone, IsInRange}
+use Rattle.top_answer.proofs.commands.Lawful.{IsCommand, IsForNone, IsInRange, done_once}
 use Rattle.top_answer.proofs.commands.Results.{answered, err_map, ok_map, question_says}
 use Rattle.top_answer.proofs.outputs.Reports.{report_once}
 use Rattle.top_answer.proofs.requests.Limits.{within}
@@ -95,10 +95,12 @@ written_ends AsCertificate a bytes c = rounds_end c.made.system refl
 one_report : (a : Analysis (List ℕ)) (one other : List ℕ) → IsPut exact Report a one → IsPut exact Report a other → one ≡ other
 one_report a one other h k = report_once a.program a.domain a.policy a.improvements one other h k
 
-writes_once : (purpose : Purpose) (a : Analysis (List ℕ)) → IsForNone (Analyse purpose a) → (contents : List (List ℕ)) (one other : List ℕ)
-    → IsPut exact purpose (analysis_with a contents) one → IsPut exact purpose (analysis_with a contents) other → one ≡ other
-writes_once Report a none contents one other h k = one_report (analysis_with a contents) one other h k
-writes_once AsCertificate a none contents one other h k = absurd (none a refl)
+writes_once : (purpose : Purpose) (a : Analysis (List ℕ)) → IsForNone (Analyse purpose a) → (contents : List (List ℕ)) (s t : Status)
+    (one other : List ℕ) → done_writes (λ bytes. IsPut exact purpose (analysis_with a contents) bytes) s one
+    → done_writes (λ bytes. IsPut exact purpose (analysis_with a contents) bytes) t other → one ≡ other
+writes_once Report a none contents s t one other h k =
+    done_once (λ bytes. IsPut exact Report (analysis_with a contents) bytes) (one_report (analysis_with a contents)) s t one other h k
+writes_once AsCertificate a none contents s t one other h k = absurd (none a refl)
 
 -- an analysis is a command of the program
 pub analyses : (purpose : Purpose) (a : Analysis (List ℕ)) → IsCommand (Analyse purpose a)

@@ -14,7 +14,7 @@ use Rattle.top_answer.specs.Commands.{CheckEnds, IsChecked, command_of}
 use Rattle.top_answer.specs.Outcomes.{HasOutcome, Says}
 use Rattle.top_status.specs.declared.status.Excess.TheVariants.{Wide, Large}
 use Rattle.top_status.specs.declared.status.Status.{Status}
-use Rattle.top_status.specs.declared.status.Status.TheVariants.{Done, Certificate as Refused, Usage, Read, Text, Exceeded}
+use Rattle.top_status.specs.declared.status.Status.TheVariants.{Done, Open, Certificate as Refused, Usage, Read, Text, Exceeded}
 use Rattle.top_status.specs.declared.status.Status.TheVariants.{Spent, Memory, Write}
 use Rattle.top_texts.specs.Checks.{IsSpelt, system_with}
 use Rattle.top_texts.specs.Endings.{CheckEnd}
@@ -25,7 +25,7 @@ use Rattle.top_texts.specs.declared.refusal.Refusal.{Refusal}
 use Rattle.top_texts.specs.declared.refusal.Refusal.TheVariants as refusal
 use Rattle.top_texts.proofs.checks.CheckOnce.{check_ends_once, check_staged}
 use Rattle.top_texts.proofs.checks.Refused.{unreported_answers, unspelt_answers}
-use Rattle.top_answer.proofs.commands.Lawful.{IsCommand, IsInRange}
+use Rattle.top_answer.proofs.commands.Lawful.{IsCommand, IsInRange, done_ends, done_once}
 use Rattle.top_answer.proofs.commands.Results.{outcome_says}
 use Rattle.top_answer.proofs.outputs.Reports.{checked_once}
 use Rattle.top_answer.proofs.requests.Limits.{first_short}
@@ -39,6 +39,7 @@ check_end text bytes Done (names, body, cert, valid, narrow) =
     commands.accepted names body cert.rows (bounds_vector (system_with names body cert) cert.bounds) refl
     (record { cert = cert; rows_are = refl; vector_is = refl; valid = valid; narrow = narrow })
 check_end text bytes (Refused cause) h = commands.certificate_refused cause refl h
+check_end text bytes Open h = absurd h
 check_end text bytes Usage h = absurd h
 check_end text bytes (Read cause) h = absurd h
 check_end text bytes (Text cause) h = commands.program_refused cause refl h
@@ -75,11 +76,13 @@ checks text given = record {
     ends_once = λ s t h k. check_ends_once text given s t (check_staged text given s (check_end_back text given s h))
         (check_staged text given t (check_end_back text given t k));
     exceeded_ends = λ excess s w h. absurd w;
-    written_ends = λ bytes r. commands.accepted r.names r.body r.rows r.vector refl r.accepted;
+    written_ends = done_ends (λ s. CheckEnds exact text given s) (λ bytes. IsChecked exact text given bytes)
+        (λ bytes r. commands.accepted r.names r.body r.rows r.vector refl r.accepted);
     never_unread = λ cause h. check_end_back text given (Read cause) h;
     never_unwritten = λ h. check_end_back text given Write h;
   };
-  writes_once = λ none contents one other h k. checked_once (text_at contents 0) (text_at contents 1) one other h k;
+  writes_once = λ none contents. done_once (λ bytes. IsChecked exact (text_at contents 0) (text_at contents 1) bytes)
+      (checked_once (text_at contents 0) (text_at contents 1));
   limits = λ contents range e. first_short (which.Program, text) ((which.Certificate, given) ∷ []) contents refl e;
 }
 

@@ -8,7 +8,7 @@ use Rattle.ask_files.specs.declared.which.Which.TheVariants as which
 use Rattle.ask_words.specs.Request.{analysis_in, prove_in}
 use Rattle.ask_words.specs.declared.request.Analysis.{Analysis}
 use Rattle.ask_words.specs.declared.request.Request.TheVariants.{Prove}
-use Rattle.top_answer.specs.Commands.{command_of}
+use Rattle.top_answer.specs.Commands.{command_of, done_writes}
 use Rattle.top_texts.specs.ClaimTexts.{AreVerdictsOf}
 use Rattle.top_texts.specs.Exact.{exact}
 use Rattle.top_texts.specs.Questions.{claims_question}
@@ -22,13 +22,18 @@ use Rattle.top_texts.specs.Outcomes.{IsUnanswered}
 use Rattle.top_texts.specs.declared.refusal.Refusal.{Refusal}
 use Rattle.top_answer.proofs.commands.Results.{answered}
 use Rattle.top_answer.proofs.commands.Asking.{lawful}
-use Rattle.top_answer.proofs.commands.Lawful.{IsCommand, IsInRange}
+use Rattle.top_answer.proofs.commands.Lawful.{IsCommand, IsInRange, done_once}
 use Rattle.top_answer.proofs.requests.Limits.{claims_short, read_first, within}
 use Rattle.top_answer.proofs.requests.Numbers.{analysis_bounds, and_then_some, map_some}
 
 one_list : (a : Analysis (List ℕ)) (given one other : List ℕ) → AreVerdictsOf exact a.program a.domain given a.policy a.improvements one
     → AreVerdictsOf exact a.program a.domain given a.policy a.improvements other → one ≡ other
 one_list a given one other h k = verdicts_once a.program a.domain given a.policy a.improvements one other h k
+
+one_list_at : (a : Analysis (List ℕ)) (given : List ℕ) (s t : Status) (one other : List ℕ)
+    → done_writes (λ bytes. AreVerdictsOf exact a.program a.domain given a.policy a.improvements bytes) s one
+    → done_writes (λ bytes. AreVerdictsOf exact a.program a.domain given a.policy a.improvements bytes) t other → one ≡ other
+one_list_at a given = done_once (λ bytes. AreVerdictsOf exact a.program a.domain given a.policy a.improvements bytes) (one_list a given)
 
 limits : (given : List ℕ) (a : Analysis (List ℕ)) (contents : List (List ℕ)) → IsInRange (Prove given a)
     → unread (files_of (Prove given a)) contents ≡ None → (command_of exact (with_texts (Prove given a) contents)).in_limits
@@ -45,8 +50,7 @@ claims given a = record {
       (claims_once a.program a.domain given a.policy a.improvements)
       (λ bytes. AreVerdictsOf exact a.program a.domain given a.policy a.improvements bytes)
       (verdicts_end a.program a.domain given a.policy a.improvements);
-  writes_once = λ none contents one other h k.
-      one_list (analysis_with a contents) (text_at contents (1 + rows_files a.domain)) one other h k;
+  writes_once = λ none contents. one_list_at (analysis_with a contents) (text_at contents (1 + rows_files a.domain));
   limits = limits given a;
 }
 

@@ -21,7 +21,7 @@ use Rattle.top_texts.specs.Outcomes.{IsUnanswered}
 use Rattle.top_texts.specs.declared.refusal.Refusal.{Refusal}
 use Rattle.top_answer.proofs.commands.Results.{answered}
 use Rattle.top_answer.proofs.commands.Asking.{lawful}
-use Rattle.top_answer.proofs.commands.Lawful.{IsCommand, IsInRange}
+use Rattle.top_answer.proofs.commands.Lawful.{IsCommand, IsInRange, done_once}
 use Rattle.top_answer.proofs.requests.Limits.{first_short}
 use Rattle.top_answer.proofs.requests.Numbers.{and_then_some, improvements_bound, map_some}
 
@@ -37,7 +37,8 @@ pub equations : (text : List ℕ) (limit : ℕ) (policy : Policy) → IsCommand 
 equations text limit policy = record {
   lawful = lawful (equations_question exact text policy limit) (solution_once text policy limit)
       (λ bytes. AreValuesOf text policy limit bytes) (written_ends text policy limit);
-  writes_once = λ none contents one other h k. values_once (text_at contents 0) policy limit one other h k;
+  writes_once = λ none contents. done_once (λ bytes. AreValuesOf (text_at contents 0) policy limit bytes)
+      (values_once (text_at contents 0) policy limit);
   limits = λ contents range e. (first_short (which.Equations, text) [] contents refl e, range);
 }
 

@@ -21,7 +21,7 @@ use Rattle.top_texts.specs.declared.refusal.Refusal.{Refusal}
 use Rattle.top_texts.proofs.questions.OneMeaning.{bench_once}
 use Rattle.top_texts.proofs.texts.Once.{equations_are}
 use Rattle.top_answer.proofs.commands.Asking.{lawful}
-use Rattle.top_answer.proofs.commands.Lawful.{IsCommand, IsInRange}
+use Rattle.top_answer.proofs.commands.Lawful.{IsCommand, IsInRange, done_once}
 use Rattle.top_answer.proofs.commands.Results.{answered, ok_map}
 use Rattle.top_answer.proofs.outputs.Summaries.{summary_once}
 use Rattle.top_answer.proofs.requests.Numbers.{and_then_some, map_some, number_bounds}
@@ -45,7 +45,7 @@ pub benches : (seed loops : ℕ) → IsCommand (Bench seed loops)
 benches seed loops = record {
   lawful = lawful (bench_question exact seed loops) (bench_once seed loops) (λ bytes. IsSummary exact seed loops bytes)
       (λ bytes r. rounds_end r.system refl r.generated (r.rounds, r.within, r.vector, r.has_rounds));
-  writes_once = λ none contents one other h k. summary_once seed loops one other h k;
+  writes_once = λ none contents. done_once (λ bytes. IsSummary exact seed loops bytes) (summary_once seed loops);
   limits = λ contents range e. range;
 }
 

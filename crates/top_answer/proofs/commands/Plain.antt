@@ -26,7 +26,7 @@ use Rattle.top_texts.specs.declared.refusal.Refusal.TheVariants as refusal
 use Rattle.top_texts.proofs.checks.CheckOnce.{cert_ends_once, upgrade_staged}
 use Rattle.top_texts.proofs.texts.Once.{analysed_unrefused, program_refused_once}
 use Rattle.top_texts.proofs.texts.Readings.{program_once}
-use Rattle.top_answer.proofs.commands.Lawful.{IsCommand, IsInRange}
+use Rattle.top_answer.proofs.commands.Lawful.{IsCommand, IsInRange, done_ends, done_once}
 use Rattle.top_answer.proofs.commands.Results.{err_map, outcome_says}
 use Rattle.top_answer.proofs.laws.Lawful.{one_upgrade}
 use Rattle.top_answer.proofs.requests.Limits.{first_short}
@@ -46,11 +46,11 @@ upgrades given = record {
     ends_once = λ s t h k. cert_ends_once given (λ cert. Done) s t (upgrade_staged given s (upgrade_end_back given s h))
         (upgrade_staged given t (upgrade_end_back given t k));
     exceeded_ends = λ excess s w h. absurd w;
-    written_ends = λ bytes u. rewritten bytes refl u;
+    written_ends = done_ends (λ s. UpgradeEnds exact given s) (λ bytes. exact.upgrades given bytes) (λ bytes u. rewritten bytes refl u);
     never_unread = λ cause h. upgrade_end_back given (Read cause) h;
     never_unwritten = λ h. upgrade_end_back given Write h;
   };
-  writes_once = λ none contents one other h k. one_upgrade (text_at contents 0) one other h k;
+  writes_once = λ none contents. done_once (λ bytes. exact.upgrades (text_at contents 0) bytes) (one_upgrade (text_at contents 0));
   limits = λ contents range e. tt;
 }
 
@@ -105,11 +105,11 @@ points text = record {
   lawful = record {
     ends_once = points_end_once text;
     exceeded_ends = λ excess s w h. absurd w;
-    written_ends = λ bytes p. listed p.names p.body refl p.analysed;
+    written_ends = done_ends (λ s. PointsEnd text s) (λ bytes. ArePointsOf text bytes) (λ bytes p. listed p.names p.body refl p.analysed);
     never_unread = points_never_unread text;
     never_unwritten = points_never_unwritten text;
   };
-  writes_once = λ none contents one other h k. points_once (text_at contents 0) one other h k;
+  writes_once = λ none contents. done_once (λ bytes. ArePointsOf (text_at contents 0) bytes) (points_once (text_at contents 0));
   limits = λ contents range e. first_short (which.Program, text) [] contents refl e;
 }
 

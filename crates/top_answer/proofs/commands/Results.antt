@@ -5,14 +5,15 @@ use Rattle.std.specs.declared.alloc.Global.{Global}
 use Rattle.top_answer.specs.Commands.{Command, asking}
 use Rattle.top_answer.specs.Outcomes.{HasOutcome, Says}
 use Rattle.top_status.specs.declared.status.Status.{Status}
+use Rattle.top_status.specs.declared.status.Status.TheVariants.{Done}
 use Rattle.top_texts.specs.Outcomes.{IsUnanswered, refused}
 use Rattle.top_texts.specs.Questions.{Question, is_refused}
 use Rattle.top_texts.specs.declared.refusal.Refusal.{Refusal}
 use Rattle.top_texts.specs.declared.refusal.Refusal.TheVariants as refusal
 
 -- bytes that are written, and a refusal that says why there are none, say it of the command
-pub outcome_says : (c : Command) (r : Result (Vec ℕ Global) Refusal) (s : Status) (bytes : List ℕ) → IfOk r (λ made. c.writes made.items)
-    → IfErr r (λ x. Says c (refused x) []) → HasOutcome r s bytes → Says c s bytes
+pub outcome_says : (c : Command) (r : Result (Vec ℕ Global) Refusal) (s : Status) (bytes : List ℕ)
+    → IfOk r (λ made. c.writes Done made.items) → IfErr r (λ x. Says c (refused x) []) → HasOutcome r s bytes → Says c s bytes
 outcome_says c (Ok made) s bytes ok err (e, i) = subst₂ (λ x b. Says c x b) (sym e) (sym i) ok
 outcome_says c (Err x) s bytes ok err (e, i) = subst₂ (λ x b. Says c x b) (sym e) (sym i) err
 

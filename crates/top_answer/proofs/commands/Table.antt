@@ -5,9 +5,10 @@ use Rattle.std.specs.Str.{bytes_eq}
 use Rattle.clap.specs.Words.{Row, Text}
 use Rattle.ask_files.specs.Files.{Request, files_of, unread, with_texts}
 use Rattle.ask_words.specs.Request.{analyse_in, bench_in, check_in, command_in, equations_in, points_in, prove_in, transitions_in}
-use Rattle.ask_words.specs.Request.{upgrade_in}
+use Rattle.ask_words.specs.Request.{upgrade_in, verify_in}
 use Rattle.ask_words.specs.declared.request.Purpose.TheVariants.{Report, Certificate}
 use Rattle.ask_words.specs.declared.request.Request.TheVariants.{Analyse, Check, Bench, Upgrade, Prove, Transitions, Equations, Points}
+use Rattle.ask_words.specs.declared.request.Request.TheVariants.{Verify}
 use Rattle.top_answer.specs.Commands.{command_of}
 use Rattle.top_texts.specs.Exact.{exact}
 use Rattle.top_answer.proofs.commands.Analyses.{analyses, analysis_range}
@@ -18,6 +19,7 @@ use Rattle.top_answer.proofs.commands.Generated.{bench_range, benches}
 use Rattle.top_answer.proofs.commands.Lawful.{IsCommand, IsInRange, IsLawful}
 use Rattle.top_answer.proofs.commands.Plain.{points, points_range, upgrade_range, upgrades}
 use Rattle.top_answer.proofs.commands.Transitions.{transitions, transitions_range}
+use Rattle.top_answer.proofs.commands.Verified.{verifies, verify_range}
 use Rattle.top_answer.proofs.requests.Numbers.{none_some}
 
 -- each request is for a command of the program
@@ -30,6 +32,7 @@ table (Prove given a) = claims given a
 table (Transitions a) = transitions a
 table (Equations text limit policy) = equations text limit policy
 table (Points text) = points text
+table (Verify a) = verifies a
 
 -- the commands of the program are lawful
 pub lawful : IsLawful (command_of exact)
@@ -58,5 +61,6 @@ named_range (name, given) r e =
     (if_range (bytes_eq name (codes "prove")) (prove_in given) _ r (claims_range given r)
     (if_range (bytes_eq name (codes "transitions")) (transitions_in given) _ r (transitions_range given r)
     (if_range (bytes_eq name (codes "equations")) (equations_in given) _ r (equations_range given r)
-    (if_range (bytes_eq name (codes "points")) (points_in given) None r (points_range given r) (λ h. absurd (none_some r h))))))))))
+    (if_range (bytes_eq name (codes "points")) (points_in given) _ r (points_range given r)
+    (if_range (bytes_eq name (codes "verify")) (verify_in given) None r (verify_range given r) (λ h. absurd (none_some r h)))))))))))
     e

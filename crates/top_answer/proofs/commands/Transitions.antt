@@ -12,14 +12,14 @@ use Rattle.top_texts.specs.Exact.{exact}
 use Rattle.top_texts.specs.Questions.{rounds_end, transitions_question}
 use Rattle.top_texts.specs.TransitionTexts.{IsAutoReport}
 use Rattle.top_texts.proofs.questions.OneMeaning.{transitions_once}
-use Rattle.top_answer.specs.Commands.{command_of}
+use Rattle.top_answer.specs.Commands.{command_of, done_writes}
 use Rattle.top_answer.specs.Outcomes.{HasOutcome, Says}
 use Rattle.top_status.specs.declared.status.Status.{Status}
 use Rattle.top_texts.specs.Outcomes.{IsUnanswered}
 use Rattle.top_texts.specs.declared.refusal.Refusal.{Refusal}
 use Rattle.top_answer.proofs.commands.Results.{answered}
 use Rattle.top_answer.proofs.commands.Asking.{lawful}
-use Rattle.top_answer.proofs.commands.Lawful.{IsCommand, IsInRange}
+use Rattle.top_answer.proofs.commands.Lawful.{IsCommand, IsInRange, done_once}
 use Rattle.top_answer.proofs.outputs.Reports.{auto_report_once}
 use Rattle.top_answer.proofs.requests.Limits.{within}
 use Rattle.top_answer.proofs.requests.Numbers.{analysis_bounds, map_some}
@@ -28,6 +28,11 @@ one_report : (a : Analysis (List ℕ)) (one other : List ℕ) → IsAutoReport a
     → IsAutoReport a.program a.domain a.policy a.improvements other → one ≡ other
 one_report a one other h k = auto_report_once a.program a.domain a.policy a.improvements one other h k
 
+one_report_at : (a : Analysis (List ℕ)) (s t : Status) (one other : List ℕ)
+    → done_writes (λ bytes. IsAutoReport a.program a.domain a.policy a.improvements bytes) s one
+    → done_writes (λ bytes. IsAutoReport a.program a.domain a.policy a.improvements bytes) t other → one ≡ other
+one_report_at a = done_once (λ bytes. IsAutoReport a.program a.domain a.policy a.improvements bytes) (one_report a)
+
 -- it is a command of the program
 pub transitions : (a : Analysis (List ℕ)) → IsCommand (Transitions a)
 transitions a = record {
@@ -35,7 +40,7 @@ transitions a = record {
       (transitions_once a.program a.domain a.policy a.improvements)
       (λ bytes. IsAutoReport a.program a.domain a.policy a.improvements bytes)
       (λ bytes r. rounds_end r.system refl r.meant (r.rounds, r.within, r.vector, r.has_rounds));
-  writes_once = λ none contents one other h k. one_report (analysis_with a contents) one other h k;
+  writes_once = λ none contents. one_report_at (analysis_with a contents);
   limits = λ contents range e. within (which.System, a.program) a [] contents refl range e;
 }
 

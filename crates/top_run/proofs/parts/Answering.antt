@@ -1,14 +1,17 @@
 -- Answers for want of memory, and answers over contents by another name.
 use Rattle.std.proofs.Common.{◌≡◌, ◌∙◌, ℕ, List, [], refl, sym, subst}
+use Rattle.std.specs.Prelude.{IsTrue}
 use Rattle.top_answer.specs.Answers as answers
 use Rattle.top_answer.specs.Answers.{IsAnsweredBy, Ends, Holds, IsAnswer, IsMessage, IsOutput}
 use Rattle.top_answer.specs.Commands.{Commands, command_of}
 use Rattle.top_run.specs.Parts.{IsAnswerTo}
 use Rattle.top_run.specs.Programs.{NamesNoPlace}
 use Rattle.top_status.specs.Messages.{message_of}
+use Rattle.top_status.specs.Status.{has_output}
 use Rattle.top_status.specs.declared.status.Status.{Status}
-use Rattle.top_status.specs.declared.status.Status.TheVariants.{Done, Memory}
+use Rattle.top_status.specs.declared.status.Status.TheVariants.{Memory}
 use Rattle.top_texts.specs.Meanings.{Meanings}
+use Rattle.top_texts.proofs.analyses.Found.{no_output}
 
 -- a message that names no place
 pub placeless : (m : Meanings) (words contents : List (List ℕ)) (status : Status) (message : List ℕ) → NamesNoPlace m status
@@ -21,15 +24,15 @@ placeless m words contents status message plain is = record {
   rows_are = λ asked count asks has. plain.rows count;
 }
 
--- want of memory is no success
-pub memory_not_done : Memory ≡ Done → ⊥
-memory_not_done e = cc
+-- want of memory has no output
+pub memory_without : (s : Status) → s ≡ Memory → IsTrue (has_output s) → ⊥
+memory_without s e = no_output s Memory e refl
 
 memory_itself : (commands : Commands) (m : Meanings) → NamesNoPlace m Memory → (words contents : List (List ℕ)) (bytes message : List ℕ)
     → bytes ≡ [] → message ≡ message_of 0 0 Memory → IsAnswerTo commands m words contents Memory bytes message
 memory_itself commands m plain words contents bytes message none is = record {
   answer = answers.is_memory refl;
-  output = answers.nothing memory_not_done none;
+  output = answers.nothing (memory_without Memory refl) none;
   complete = λ ending h. answers.no_memory refl;
   names = placeless m words contents Memory message plain is;
 }

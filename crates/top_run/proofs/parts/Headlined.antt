@@ -1,6 +1,6 @@
 -- The headline, from what a run promises.
-use Rattle.std.proofs.Common.{◌≡◌, ◌∙◌, ◌⊎◌, inl, inr, ℕ, List, [], refl, ap, subst}
-use Rattle.std.specs.Prelude.{Some, None, Option, Result, IsErr}
+use Rattle.std.proofs.Common.{◌≡◌, ◌∙◌, ◌⊎◌, inl, inr, ℕ, List, [], refl, ap, subst, sym}
+use Rattle.std.specs.Prelude.{Some, None, Option, Result, IsErr, IsTrue}
 use Rattle.std.specs.declared.alloc.AllocError.{AllocError}
 use Rattle.ask_files.proofs.loads.Unread.{unread_failed, unread_long, unread_none}
 use Rattle.ask_files.specs.Files.{analysis_with, with_texts}
@@ -26,11 +26,13 @@ use Rattle.top_run.specs.Outputs.{OutputGets}
 use Rattle.top_run.specs.Run as run
 use Rattle.top_run.specs.Run.{IsRun}
 use Rattle.top_run.specs.Seen.{ShelfSeen, SinkSeen}
+use Rattle.top_status.specs.Status.{has_output}
 use Rattle.top_status.specs.declared.status.Excess.{Excess}
 use Rattle.top_status.specs.declared.status.Status.{Status}
 use Rattle.top_status.specs.declared.status.Status.TheVariants.{Done, Memory, Read, Write}
 use Rattle.top_texts.specs.LeastReports.{IsReportOf}
 use Rattle.top_texts.specs.Meanings.{Meanings}
+use Rattle.top_texts.proofs.analyses.Found.{no_output}
 use Rattle.top_texts.specs.Questions.{rounds_end}
 
 none_some : {A : Type 0} (o : Option A) (a : A) → o ≡ None → o ≡ Some a → ⊥
@@ -47,10 +49,11 @@ memory_write s h k = cc
 
 read_not_of_rounds : (cause : ReadCause) → IsOfRounds (Read cause) → ⊥
 read_not_of_rounds cause (answers.of_ended e) = cc
+read_not_of_rounds cause (answers.of_open e) = cc
 read_not_of_rounds cause (answers.of_spent number e) = cc
 
-read_not_done : (cause : ReadCause) → Read cause ≡ Done → ⊥
-read_not_done cause e = cc
+done_out : (s : Status) → s ≡ Done → IsTrue (has_output s)
+done_out s e = subst (λ x. IsTrue (has_output x)) (sym e) refl
 
 module _ (m : Meanings) (words : List (List ℕ)) (shelf now : ShelfSeen) (out out_now err err_now : SinkSeen) (status : Status)
     (r : IsRun (command_of m) m words shelf now out out_now err err_now status) (analysis : Analysis (List ℕ))
@@ -71,7 +74,7 @@ module _ (m : Meanings) (words : List (List ℕ)) (shelf now : ShelfSeen) (out o
   given_read cause (run.answered (answers.given e)) = inl e
   given_read cause (run.answered (answers.no_memory e)) = inr e
   given_read cause (run.answered (answers.exceeded excess e w of_rounds)) = absurd (read_not_of_rounds cause of_rounds)
-  given_read cause (run.unwritten w d) = absurd (read_not_done cause d)
+  given_read cause (run.unwritten w d) = absurd (no_output (Read cause) (Read cause) refl refl d)
 
   unread_status : (cause : ReadCause) → unread files contents ≡ Some cause → (status ≡ Read cause) ⊎ (status ≡ Memory)
   unread_status cause un =
@@ -93,23 +96,27 @@ module _ (m : Meanings) (words : List (List ℕ)) (shelf now : ShelfSeen) (out o
         a.asked_is
         ∙ ap (λ q. with_texts q contents) (same_some (request_of words) a.request (Analyse Report analysis) a.request_is asked)
 
-    report_of : (bytes : List ℕ) → IsOutput (command_of m) words contents bytes
+    report_of : (bytes : List ℕ) → IsOutput (command_of m) words contents Done bytes
         → IsReportOf texts.program texts.domain texts.policy texts.improvements bytes
-    report_of bytes o = subst (λ q. (command_of m q).writes bytes) (same_texts o.asked o.asks) o.written
+    report_of bytes o = subst (λ q. (command_of m q).writes Done bytes) (same_texts o.asked o.asks) o.written
 
     excess_at : (excess : Excess) → IsExceeded (command_of m) words contents excess → IsExcessAt m texts excess
     excess_at excess w = subst (λ q. (command_of m q).exceeds excess) (same_texts w.asked w.asks) w.exceeds
 
     prints : OutputGets (IsOutput (command_of m) words contents) words status out out_now → status ≡ Done → Prints texts out out_now
-    prints (outputs.gets_whole bytes d is put) e = record { bytes = bytes; is_report = report_of bytes is; appended = put.appended }
-    prints (outputs.gets_part bytes n w is appended rose) e = absurd (done_write status e w)
-    prints (outputs.gets_fitting bytes n memory is appended long calm) e = let f : ⊥ = cc in absurd f
-    prints (outputs.gets_nothing other written same) e = absurd (other e)
+    prints (outputs.gets_whole bytes d is put) e = record {
+      bytes = bytes;
+      is_report = report_of bytes (subst (λ s. IsOutput (command_of m) words contents s bytes) e is);
+      appended = put.appended;
+    }
+    prints (outputs.gets_part ending bytes n w is appended rose) e = absurd (done_write status e w)
+    prints (outputs.gets_fitting ending bytes n memory is appended long calm) e = let f : ⊥ = cc in absurd f
+    prints (outputs.gets_nothing other written same) e = absurd (other (done_out status e))
 
     rose : OutputGets (IsOutput (command_of m) words contents) words status out out_now → status ≡ Write → Rose out.faults out_now.faults
-    rose (outputs.gets_whole bytes d is put) w = absurd (done_write status d w)
-    rose (outputs.gets_part bytes n e is appended rises) w = rises
-    rose (outputs.gets_fitting bytes n memory is appended long calm) w = absurd (memory_write status memory w)
+    rose (outputs.gets_whole bytes d is put) w = absurd (no_output status Write w refl d)
+    rose (outputs.gets_part ending bytes n e is appended rises) w = rises
+    rose (outputs.gets_fitting ending bytes n memory is appended long calm) w = absurd (memory_write status memory w)
     rose (outputs.gets_nothing other written same) w = absurd (written w)
 
     given_done : run.IsGiven (command_of m) words contents Done status → IsGiven m texts out out_now status

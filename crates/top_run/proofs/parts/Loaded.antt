@@ -3,7 +3,7 @@ use Rattle.std.proofs.Common.{◌≡◌, ◌∙◌, ◌++◌, ⊎_elim, ℕ, Lis
 use Rattle.std.proofs.Common.{append-nil, Option}
 use Rattle.std.proofs.Math.Seq.{drop-append_seam}
 use Rattle.std.proofs.lemmas.List.{take_rest}
-use Rattle.std.specs.Prelude.{Some, None, Result, Ok, IsErr}
+use Rattle.std.specs.Prelude.{Some, None, Result, Ok, IsErr, IsTrue}
 use Rattle.std.specs.declared.alloc.AllocError.{AllocError}
 use Rattle.ask_files.specs.Files.{Request}
 use Rattle.ask_files.specs.Loads.{contents_of}
@@ -16,9 +16,11 @@ use Rattle.top_run.specs.declared.output.Pieces.{Pieces}
 use Rattle.top_run.specs.Loading.{IsLoading, asks_nothing, loads, loads_nothing}
 use Rattle.top_run.specs.Parts.{IsAnswerOver, IsAnswerTo, IsRequestLoaded}
 use Rattle.top_run.specs.Seen.{ShelfSeen}
+use Rattle.top_status.specs.Status.{has_output}
 use Rattle.top_status.specs.declared.status.Status.{Status}
-use Rattle.top_status.specs.declared.status.Status.TheVariants.{Done, Memory}
+use Rattle.top_status.specs.declared.status.Status.TheVariants.{Memory}
 use Rattle.top_texts.specs.Meanings.{Meanings}
+use Rattle.top_texts.proofs.analyses.Found.{no_output}
 
 -- ---- the loads of this run
 
@@ -90,11 +92,8 @@ one_request words read request pieces is e asked = e ∙ ap pieces_of (same_requ
 none_some : (o : Option Request) (a : Request) → o ≡ None → o ≡ Some a → ⊥
 none_some o a h k = cc
 
-memory_done : (s : Status) → s ≡ Memory → s ≡ Done → ⊥
-memory_done s h k = cc
-
--- where there is no request, no run is done
+-- where there is no request, no run has an output
 pub not_done : (words : List (List ℕ)) (status : Status) (request : Request) → (request_of words ≡ None) ⊎ (status ≡ Memory)
-    → request_of words ≡ Some request → status ≡ Done → ⊥
-not_done words status request cause asked done =
-    ⊎_elim (λ none. none_some (request_of words) request none asked) (λ memory. memory_done status memory done) cause
+    → request_of words ≡ Some request → IsTrue (has_output status) → ⊥
+not_done words status request cause asked out =
+    ⊎_elim (λ none. none_some (request_of words) request none asked) (λ memory. no_output status Memory memory refl out) cause

@@ -3,7 +3,7 @@ use Rattle.std.proofs.Common.{◌≡◌, ◌∙◌, ◌⊎◌, inl, inr, ⊎_eli
 use Rattle.std.proofs.Common.{true, false, refl, sym, ap, subst, length, take, min, arith, append-nil, if◌then◌else◌}
 use Rattle.std.proofs.Math.Seq.{take-length}
 use Rattle.std.proofs.lemmas.List.{length-take, take_min}
-use Rattle.std.specs.Prelude.{Some, None, Option, Result, IsErr, nat_lt, option_map}
+use Rattle.std.specs.Prelude.{Some, None, Option, Result, IsErr, IsTrue, nat_lt, option_map}
 use Rattle.std.specs.declared.alloc.AllocError.{AllocError}
 use Rattle.ask_files.proofs.loads.Unread.{unread_failed}
 use Rattle.ask_files.specs.Files.{NamedFile, Request, files_of, most_bytes, unread}
@@ -25,9 +25,11 @@ use Rattle.top_run.specs.Outputs.{OutputGets}
 use Rattle.top_run.specs.Run as run
 use Rattle.top_run.specs.Run.{IsRun}
 use Rattle.top_run.specs.Seen.{ShelfSeen, SinkSeen}
+use Rattle.top_status.specs.Status.{has_output}
 use Rattle.top_status.specs.declared.status.Status.{Status}
-use Rattle.top_status.specs.declared.status.Status.TheVariants.{Done, Memory, Write}
+use Rattle.top_status.specs.declared.status.Status.TheVariants.{Memory, Write}
 use Rattle.top_texts.specs.Meanings.{Meanings}
+use Rattle.top_texts.proofs.analyses.Found.{no_output}
 
 none_some : {A : Type 0} (o : Option A) (a : A) → o ≡ None → o ≡ Some a → ⊥
 none_some o a h k = cc
@@ -137,14 +139,8 @@ absent_in now before files name kept told none =
 pub stays : Rose 0 0 → ⊥
 stays rose = omega arith
 
-done_write : (s : Status) → s ≡ Done → s ≡ Write → ⊥
-done_write s h k = cc
-
 memory_write : (s : Status) → s ≡ Memory → s ≡ Write → ⊥
 memory_write s h k = cc
-
-done_memory : (s : Status) → s ≡ Done → s ≡ Memory → ⊥
-done_memory s h k = cc
 
 module _ (commands : Commands) (m : Meanings) (words : List (List ℕ)) (shelf now : ShelfSeen) (out out_now err err_now : SinkSeen)
     (status : Status) (r : IsRun commands m words shelf now out out_now err err_now status) (files : Contents)
@@ -153,12 +149,12 @@ module _ (commands : Commands) (m : Meanings) (words : List (List ℕ)) (shelf n
   -- what was loaded is what the files are; or memory was wanted before the end, and there is no output
   abbrev Same : List LoadedFile → Type 0
   Same made = (contents_of made ≡ contents_for files words)
-      ⊎ ((status ≡ Memory) × ((bytes : List ℕ) → IsOutput commands words (contents_of made) bytes → ⊥))
+      ⊎ ((status ≡ Memory) × ((ending : Status) (bytes : List ℕ) → IsOutput commands words (contents_of made) ending bytes → ⊥))
 
-  no_output : (made : List LoadedFile) (request : Request) (cause : _) → request_of words ≡ Some request
+  none_written : (made : List LoadedFile) (request : Request) (cause : _) → request_of words ≡ Some request
       → unread (files_of request) (contents_of made) ≡ Some cause
-      → (bytes : List ℕ) → IsOutput commands words (contents_of made) bytes → ⊥
-  no_output made request cause asked un bytes o =
+      → (ending : Status) (bytes : List ℕ) → IsOutput commands words (contents_of made) ending bytes → ⊥
+  none_written made request cause asked un ending bytes o =
       none_some (unread (files_of request) (contents_of made)) cause
       (subst (λ q. unread (files_of q) (contents_of made) ≡ None)
       (same_some (request_of words) o.asks.request request o.asks.request_is asked) o.asks.all_read) un
@@ -177,7 +173,7 @@ module _ (commands : Commands) (m : Meanings) (words : List (List ℕ)) (shelf n
   by_loads made request result asked wanting (loads.too_long before long file left e h is calm ok) =
       inl (ap contents_of e ∙ sym (long_contents files (files_of request) before long file left h is) ∙ asked_contents request asked)
   by_loads made request result asked wanting (loads.wants_memory file left h calm failed) =
-      inr (wanting failed, no_output made request _ asked (unread_failed (Some files) (files_of request) made file left h))
+      inr (wanting failed, none_written made request _ asked (unread_failed (Some files) (files_of request) made file left h))
 
   by_nothing : (o : Option Request) → request_of words ≡ o → status ≡ Memory → Same []
   by_nothing None none wanting = inl (sym (ap (contents_asked files) none))
@@ -185,7 +181,7 @@ module _ (commands : Commands) (m : Meanings) (words : List (List ℕ)) (shelf n
     where
       by_files : (named : List NamedFile) → files_of request ≡ named → Same []
       by_files [] e = inl (sym (ap (contents_in files) e) ∙ asked_contents request asked)
-      by_files (file ∷ left) e = inr (wanting, no_output [] request _ asked (ap (λ fs. unread fs []) e))
+      by_files (file ∷ left) e = inr (wanting, none_written [] request _ asked (ap (λ fs. unread fs []) e))
 
   by_loading : (made : List LoadedFile) → IsLoading words made shelf now status → Same made
   by_loading made (loading.asks_nothing none e calm) = inl (ap contents_of e ∙ sym (ap (contents_asked files) none))
@@ -197,14 +193,14 @@ module _ (commands : Commands) (m : Meanings) (words : List (List ℕ)) (shelf n
   -- ---- what is promised over these contents
 
   written : OutputGets (IsOutput commands words (contents_of r.made)) words status out out_now → status ≡ Write → ⊥
-  written (outputs.gets_whole bytes d is put) w = done_write status d w
-  written (outputs.gets_part bytes n e is appended rises) w = never rises
-  written (outputs.gets_fitting bytes n e is appended long calm) w = memory_write status e w
+  written (outputs.gets_whole bytes d is put) w = no_output status Write w refl d
+  written (outputs.gets_part ending bytes n e is appended rises) w = never rises
+  written (outputs.gets_fitting ending bytes n e is appended long calm) w = memory_write status e w
   written (outputs.gets_nothing other no_write same) w = no_write w
 
   is_answer : run.IsEnding commands words (contents_of r.made) status → IsAnswer commands words (contents_of r.made) status
   is_answer (run.is_answer a) = a
-  is_answer (run.is_unwritten w h) = absurd (written r.output w)
+  is_answer (run.is_unwritten ending w d h) = absurd (written r.output w)
 
   -- what is answered is so of the words and of these files
   pub answer : IsAnswer commands words (contents_for files words) status
@@ -225,21 +221,22 @@ module _ (commands : Commands) (m : Meanings) (words : List (List ℕ)) (shelf n
       answers_given ending (r.complete ending back).given))
       (λ wanting. answers.no_memory wanting.0) (by_loading r.made r.loads)
 
-  gets : ((bytes : List ℕ) → IsOutput commands words (contents_of r.made) bytes → status ≡ Memory
-      → IsOutput commands words (contents_for files words) bytes)
-      → ((bytes : List ℕ) → IsOutput commands words (contents_of r.made) bytes → status ≡ Done
-      → IsOutput commands words (contents_for files words) bytes)
+  gets : ((ending : Status) (bytes : List ℕ) → IsOutput commands words (contents_of r.made) ending bytes → status ≡ Memory
+      → IsOutput commands words (contents_for files words) ending bytes)
+      → ((bytes : List ℕ) → IsOutput commands words (contents_of r.made) status bytes → IsTrue (has_output status)
+      → IsOutput commands words (contents_for files words) status bytes)
       → OutputGets (IsOutput commands words (contents_of r.made)) words status out out_now
       → InMemory (IsOutput commands words (contents_for files words)) status out.held out_now.held
   gets f g (outputs.gets_whole bytes d is put) = memory.gets_whole bytes d (g bytes is d) put.appended
-  gets f g (outputs.gets_part bytes n w is appended rises) = absurd (never rises)
-  gets f g (outputs.gets_fitting bytes n e is appended long calm) = memory.gets_part bytes n e (f bytes is e) appended
+  gets f g (outputs.gets_part ending bytes n w is appended rises) = absurd (never rises)
+  gets f g (outputs.gets_fitting ending bytes n e is appended long calm) = memory.gets_part ending bytes n e (f ending bytes is e) appended
   gets f g (outputs.gets_nothing other written same) = memory.gets_nothing other (ap (λ (sink : SinkSeen). sink.held) same)
 
   -- the output gets what the words ask for over these files
   pub output : InMemory (IsOutput commands words (contents_for files words)) status out.held out_now.held
   output = ⊎_elim
-      (λ same. gets (λ bytes is e. subst (λ texts. IsOutput commands words texts bytes) same is)
-      (λ bytes is d. subst (λ texts. IsOutput commands words texts bytes) same is) r.output)
-      (λ wanting. gets (λ bytes is e. absurd (wanting.1 bytes is)) (λ bytes is d. absurd (done_memory status d wanting.0)) r.output)
+      (λ same. gets (λ ending bytes is e. subst (λ texts. IsOutput commands words texts ending bytes) same is)
+      (λ bytes is d. subst (λ texts. IsOutput commands words texts status bytes) same is) r.output)
+      (λ wanting. gets (λ ending bytes is e. absurd (wanting.1 ending bytes is))
+      (λ bytes is d. absurd (no_output status Memory wanting.0 refl d)) r.output)
       (by_loading r.made r.loads)

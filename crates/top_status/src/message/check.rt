@@ -3,7 +3,7 @@
 ghost use Rattle.std.specs.Prelude.{◌≡◌, ◌≤◌, ◌+◌, ◌++◌, ◌/◌, ◌%◌, codes, decimal, length};
 ghost use Rattle.base_fractions.specs.Texts.{frac_text};
 ghost use Rattle.top_status.specs.CheckMessages.{cause_text, certificate_message, check_text, field_text, form_text, item_text, numbered};
-ghost use Rattle.top_status.specs.CheckMessages.{op_text, part_text, site_text, spot_text, unknown_text, wide_message};
+ghost use Rattle.top_status.specs.CheckMessages.{op_text, part_text, place_text, site_text, spot_text, unknown_text, wide_message};
 
 use crate::message::Message;
 use crate::status::CertCause;
@@ -138,7 +138,7 @@ fn push_form(message: &mut Message, fault: FormFault)
 
 // Adds a part of solving a linear problem.
 fn push_part(message: &mut Message, part: Part)
-    requires room { length message.old ≤ 350 }
+    requires room { length message.old ≤ 400 }
     ensures text { message.new ≡ message.old ++ part_text part }
     ensures growth { length message.new ≤ length message.old + 64 }
 {
@@ -158,6 +158,18 @@ fn push_transformer(message: &mut Message, words: &[u8], edge: u32, row: u32, pa
 {
     push_numbered(message, words, edge as u64);
     push_numbered(message, b" row ", row as u64);
+    push_part(message, part);
+}
+
+// Adds a check on an edge, one of its cases, and a part of solving its problem.
+fn push_place(message: &mut Message, check: u32, edge: u32, case: u32, part: Part)
+    requires { length message.old ≤ 200 }
+    ensures text { message.new ≡ message.old ++ place_text check edge case part }
+    ensures growth { length message.new ≤ length message.old + 256 }
+{
+    push_numbered(message, b"check ", check as u64);
+    push_numbered(message, b" edge ", edge as u64);
+    push_numbered(message, b" case ", case as u64);
     push_part(message, part);
 }
 
@@ -199,6 +211,12 @@ fn push_site(message: &mut Message, rows: usize, round: u32, site: Site)
             push_numbered(message, b" case ", case as u64);
             push_part(message, part);
         }
+        Site::Check {
+            check,
+            edge,
+            case,
+            part,
+        } => push_place(message, check, edge, case, part),
     }
 }
 

@@ -8,7 +8,7 @@ use Rattle.flow_edges.specs.declared.graph.Flow.{Flow}
 use Rattle.flow_systems.specs.declared.system.System.{System}
 use Rattle.ask_words.specs.declared.request.Domain.{Domain}
 use Rattle.top_texts.specs.Rounds.{IsSystemFor}
-use Rattle.top_texts.specs.Texts.{HasTemplate, IsAnalysed, IsSolvedSystem, IsSystemOf, unknowns}
+use Rattle.top_texts.specs.Texts.{HasTemplate, IsAnalysed, IsSolvedSystem, IsSystemOf, IsSystemOn, unknowns}
 use Rattle.flow_systems.specs.declared.limits.TheConstants.{MOST_UNKNOWNS}
 
 module _ (text : List ℕ) (rows : Domain (List ℕ)) (names : List (List ℕ)) (body : Statements) (flow : Flow) (template : List (List ℤ))
@@ -32,12 +32,12 @@ module _ (text : List ℕ) (rows : Domain (List ℕ)) (names : List (List ℕ)) 
   few : unknowns body template ≤ MOST_UNKNOWNS
   few = subst (λ ps. length ps * length template ≤ MOST_UNKNOWNS) points_are within
 
-  -- a system with few enough unknowns is the solved system of the texts
-  pub solved_system : IsSolvedSystem text rows s
-  solved_system = record {
-    names = names;
-    body = body;
-    template = template;
-    ready = record { system = system_of; within = few };
-    system_for = system_for;
-  }
+  -- a system with few enough unknowns is the solved system of the program
+  pub system_on : IsSystemOn text rows names body s
+  system_on = record { template = template; ready = record { system = system_of; within = few }; system_for = system_for }
+
+-- it is that of the texts
+pub solved_system : (text : List ℕ) (rows : Domain (List ℕ)) (names : List (List ℕ)) (body : Statements) (s : System)
+    → IsSystemOn text rows names body s → IsSolvedSystem text rows s
+solved_system text rows names body s on =
+    record { names = names; body = body; template = on.template; ready = on.ready; system_for = on.system_for }

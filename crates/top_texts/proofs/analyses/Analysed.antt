@@ -32,7 +32,7 @@ use Rattle.ask_words.specs.declared.request.Purpose.TheVariants.{Report, Certifi
 use Rattle.top_texts.specs.declared.refusal.Refusal.{Refusal}
 use Rattle.top_texts.specs.declared.refusal.Refusal.TheVariants as refusal
 use Rattle.top_status.specs.declared.status.Status.{Status}
-use Rattle.top_status.specs.declared.status.Status.TheVariants.{Done, Certificate, Usage, Read, Text, Exceeded, Spent, Memory, Write}
+use Rattle.top_status.specs.declared.status.Status.TheVariants.{Done, Open, Certificate, Usage, Read, Text, Exceeded, Spent, Memory, Write}
 use Rattle.top_texts.proofs.rounds.OneChain.{solved_ends}
 use Rattle.top_texts.proofs.texts.Once.{equations_are}
 use Rattle.top_texts.proofs.texts.Readings.{program_once, rows_once}
@@ -70,6 +70,7 @@ pub system_texts : (purpose : Purpose) (text : List ℕ) (rows : Domain (List �
     → IsAnswerToSystem purpose system policy limit status → QuestionAnswer (analysis_question exact purpose text rows policy limit) status
 system_texts purpose text rows system policy limit Done is h = rounds_end system refl is h
 system_texts purpose text rows system policy limit (Certificate cause) is h = absurd h
+system_texts purpose text rows system policy limit Open is h = absurd h
 system_texts purpose text rows system policy limit Usage is h = absurd h
 system_texts purpose text rows system policy limit (Read cause) is h = absurd h
 system_texts purpose text rows system policy limit (Text cause) is h = absurd h
@@ -101,6 +102,7 @@ pub system_line : (purpose : Purpose) (text : List ℕ) (system : System) (polic
     → IsAnswerToSystem purpose system policy limit status → 0 ≡ line_in text status
 system_line purpose text system policy limit Done h = refl
 system_line purpose text system policy limit (Certificate cause) h = refl
+system_line purpose text system policy limit Open h = refl
 system_line purpose text system policy limit Usage h = refl
 system_line purpose text system policy limit (Read cause) h = refl
 system_line purpose text system policy limit (Text cause) h = absurd h

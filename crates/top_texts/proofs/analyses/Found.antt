@@ -1,6 +1,6 @@
 -- What an analysis of texts finds, and the endings that it has else.
-use Rattle.std.proofs.Common.{◌≡◌, ◌∙◌, ℕ, List, sym, subst}
-use Rattle.std.specs.Prelude.{IfErr, Result, Ok, Err}
+use Rattle.std.proofs.Common.{◌≡◌, ◌∙◌, ℕ, List, true, false, refl, sym, subst}
+use Rattle.std.specs.Prelude.{IfErr, IsTrue, Result, Ok, Err}
 use Rattle.flow_systems.specs.Equations.{Least}
 use Rattle.flow_systems.specs.View.{IsVectorOf, equations_of, vector_at}
 use Rattle.flow_systems.specs.declared.system.System.{System}
@@ -13,6 +13,7 @@ use Rattle.top_texts.specs.Outcomes.{refused}
 use Rattle.top_texts.specs.Policies.{rule_of}
 use Rattle.top_texts.specs.Texts.{IsSolvedSystem}
 use Rattle.top_texts.specs.declared.analyse.least.LeastBounds.{LeastBounds}
+use Rattle.top_status.specs.Status.{has_output}
 use Rattle.top_status.specs.declared.ending.Ending.{Ending}
 use Rattle.top_texts.specs.declared.refusal.Refusal.{Refusal}
 use Rattle.top_texts.specs.declared.refusal.Refusal.TheVariants as refusal
@@ -20,13 +21,19 @@ use Rattle.top_status.specs.declared.status.Status.{Status}
 use Rattle.top_texts.proofs.analyses.Analysed.{system_line, system_rows, system_texts}
 use Rattle.top_texts.proofs.rounds.OneChain.{solved_rounds}
 
+-- an ending by another name for one that has no output has none
+pub no_output : (s t : Status) → s ≡ t → has_output t ≡ false → IsTrue (has_output s) → ⊥
+no_output s t e none h =
+    let out : has_output t ≡ true = subst (λ x. IsTrue (has_output x)) e h in
+    cc
+
 -- a refusal ends with nothing put
 pub refused_unput : (r : Refusal) (s : Status) → s ≡ refused r → IsUnput s
-refused_unput (refusal.Text cause) s e = record { undone = λ d. cc; unwritten = λ w. cc }
-refused_unput (refusal.Certificate cause) s e = record { undone = λ d. cc; unwritten = λ w. cc }
-refused_unput (refusal.Exceeded excess) s e = record { undone = λ d. cc; unwritten = λ w. cc }
-refused_unput (refusal.Spent number) s e = record { undone = λ d. cc; unwritten = λ w. cc }
-refused_unput refusal.NoMemory s e = record { undone = λ d. cc; unwritten = λ w. cc }
+refused_unput (refusal.Text cause) s e = record { undone = λ d. no_output s _ e refl d; unwritten = λ w. cc }
+refused_unput (refusal.Certificate cause) s e = record { undone = λ d. no_output s _ e refl d; unwritten = λ w. cc }
+refused_unput (refusal.Exceeded excess) s e = record { undone = λ d. no_output s _ e refl d; unwritten = λ w. cc }
+refused_unput (refusal.Spent number) s e = record { undone = λ d. no_output s _ e refl d; unwritten = λ w. cc }
+refused_unput refusal.NoMemory s e = record { undone = λ d. no_output s _ e refl d; unwritten = λ w. cc }
 
 -- rounds that are done have found the least bounds
 pub solved_by : (system : System) (policy : Policy) (limit : ℕ) (least : LeastBounds) → least.system ≡ system

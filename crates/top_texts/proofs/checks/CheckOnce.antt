@@ -31,7 +31,7 @@ use Rattle.top_status.specs.declared.status.TextCause.{TextCause}
 use Rattle.top_status.specs.declared.status.CertCause.TheVariants.{Form, Rows, Unknowns, Check}
 use Rattle.top_status.specs.declared.status.Excess.TheVariants.{Wide, Large}
 use Rattle.top_status.specs.declared.status.Status.{Status}
-use Rattle.top_status.specs.declared.status.Status.TheVariants.{Done, Certificate, Usage, Read, Text, Exceeded, Spent, Memory, Write}
+use Rattle.top_status.specs.declared.status.Status.TheVariants.{Done, Open, Certificate, Usage, Read, Text, Exceeded, Spent, Memory, Write}
 use Rattle.flow_systems.specs.declared.limits.TheConstants.{MOST_UNKNOWNS}
 
 -- ---- a fault of the form is the only one
@@ -215,6 +215,7 @@ check_staged t bytes (Certificate (Check f)) (names, body, cert, y, (fault, e, s
     spelt_ends t bytes names body cert (Certificate (Check f)) y.spelt.analysed y.spelt.spells
     (ap (λ x. Certificate (Check x)) e ∙ sym (fault_stopped fault) ∙ stopped_picked (fault_answer fault) _ _ _ _ _ (sound_rows _ y.rows)
     (within _ y.within) stop.composition stop.stop)
+check_staged t bytes Open h = absurd h
 check_staged t bytes Usage h = absurd h
 check_staged t bytes (Read cause) h = absurd h
 check_staged t bytes (Text cause) h = refused cause h refl
@@ -234,6 +235,7 @@ upgrade_staged bytes (Certificate (Form f)) h = unspelt f h refl
 upgrade_staged bytes (Certificate (Rows f)) h = absurd h
 upgrade_staged bytes (Certificate (Unknowns count)) h = absurd h
 upgrade_staged bytes (Certificate (Check f)) h = absurd h
+upgrade_staged bytes Open h = absurd h
 upgrade_staged bytes Usage h = absurd h
 upgrade_staged bytes (Read cause) h = absurd h
 upgrade_staged bytes (Text cause) h = absurd h

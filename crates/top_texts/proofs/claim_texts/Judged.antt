@@ -13,13 +13,13 @@ use Rattle.flow_systems.specs.View.{equations_of, vector_of}
 use Rattle.flow_systems.specs.declared.system.System.{System}
 use Rattle.solve_rounds.specs.Solutions.{IsSolved}
 use Rattle.solve_rounds.specs.declared.solution.Solved.{Solved}
-use Rattle.ask_claims.specs.AllVerdicts.{AreVerdicts, IsVerdict}
+use Rattle.ask_claims.specs.AllVerdicts.{AreVerdicts, IsClaimVerdict}
 use Rattle.ask_claims.specs.Claims.{IsClaimOf, FileMeans, Stands, stated_of}
 use Rattle.ask_claims.specs.Laws.{OpenStatesBreak, ProvedVerdictsHold}
 use Rattle.ask_claims.specs.Lines.{verdicts_text}
 use Rattle.ask_claims.specs.declared.claim.Claim.{Claim}
 use Rattle.ask_claims.specs.declared.fault.ClaimFault.{ClaimFault}
-use Rattle.ask_claims.specs.declared.outcome.Verdict.{Verdict}
+use Rattle.ask_verdicts.specs.declared.outcome.Verdict.{Verdict}
 use Rattle.ask_claims.proofs.laws.Lists.{verdict_at}
 use Rattle.ask_words.specs.declared.request.Domain.{Domain}
 use Rattle.ask_words.specs.declared.request.Policy.{Policy}
@@ -147,7 +147,7 @@ module _ (text : List ℕ) (rows : Domain (List ℕ)) (given : List ℕ) (policy
                 verdicts = verdicts;
                 verdicts_are = are_verdicts;
                 speak = record {
-                  one_each = AllZip-long (IsVerdict system vector) claims verdicts are_verdicts;
+                  one_each = AllZip-long (IsClaimVerdict system vector) claims verdicts are_verdicts;
                   proved_where = λ k claim verdict e f. (verdict_at system vector claims verdicts k claim verdict are_verdicts e f).proved;
                   proved = λ k claim e f. proved_hold (length is.names) is.body is.template vector claims verdicts k claim
                       lowest.solves.post are_verdicts e f

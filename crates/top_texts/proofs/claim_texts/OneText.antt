@@ -1,6 +1,6 @@
 -- The texts of a program, of its rows and of claims have one list of verdicts.
 use Rattle.std.proofs.Common.{◌≡◌, ◌∙◌, ◌++◌, ◌<◌, ℕ, suc, false, List, [], ◌∷◌, length, get_or, map, refl, sym, ap, ap₂, subst, subst₂}
-use Rattle.std.specs.Prelude.{ℤ, Ok, ◌↔◌, codes, count_by, decimal}
+use Rattle.std.specs.Prelude.{ℤ, Ok, ◌↔◌, codes, decimal}
 use Rattle.std.specs.List.{All}
 use Rattle.std.proofs.lemmas.List.{length-map}
 use Rattle.std.proofs.lemmas.List.Elements.{All-head, All-tail}
@@ -14,14 +14,15 @@ use Rattle.flow_systems.specs.Report.{footer_line, line}
 use Rattle.flow_systems.specs.Solutions.{equations_of_program}
 use Rattle.flow_systems.specs.declared.footer.Footer.TheVariants.{Improvements}
 use Rattle.flow_systems.proofs.equations.Leastness.{at_most_one}
-use Rattle.ask_claims.specs.AllVerdicts.{AreVerdicts, IsVerdict}
-use Rattle.ask_claims.specs.Breaking.{NoneOpen}
+use Rattle.ask_claims.specs.AllVerdicts.{AreVerdicts, IsClaimVerdict}
 use Rattle.ask_claims.specs.Claims.{AreAtPoints, Stands, Stated, stated_of}
-use Rattle.ask_claims.specs.Verdicts.{SaysOpen}
-use Rattle.ask_claims.specs.Lines.{claim_lines, is_proved, verdict_text, verdicts_text}
+use Rattle.ask_claims.specs.Lines.{claim_lines, verdicts_text}
 use Rattle.ask_claims.specs.declared.claim.Claim.{Claim}
-use Rattle.ask_claims.specs.declared.outcome.Verdict.{Verdict}
-use Rattle.ask_claims.specs.declared.outcome.Verdict.TheVariants.{Proved}
+use Rattle.ask_verdicts.specs.Breaking.{NoneOpen}
+use Rattle.ask_verdicts.specs.Lines.{count_line, verdict_text}
+use Rattle.ask_verdicts.specs.Verdicts.{SaysOpen}
+use Rattle.ask_verdicts.specs.declared.outcome.Verdict.{Verdict}
+use Rattle.ask_verdicts.specs.declared.outcome.Verdict.TheVariants.{Proved}
 use Rattle.ask_claims.proofs.laws.Lists.{verdicts_are_one}
 use Rattle.ask_words.specs.declared.request.Domain.{Domain}
 use Rattle.ask_words.specs.declared.request.Policy.{Policy}
@@ -47,13 +48,13 @@ rest_stated c d cs ds e = cc
 -- have the same verdicts
 module _ (names : List (List ℕ)) (points : List Point) (system : Equations) (z : Vector) where
   verdict_moves : (c d : Claim) (v : Verdict) → stated_of c ≡ stated_of d → Stands names points c → Stands names points d
-      → IsVerdict system z d v → IsVerdict system z c v
+      → IsClaimVerdict system z d v → IsClaimVerdict system z c v
   verdict_moves c d v e h k a =
       let point : d.point ≡ c.point = sym (ap (λ (s : Stated). s.point) e) in
       let against : d.against ≡ c.against = k.against ∙ sym (ap (λ (s : Stated). cases_of false s.cond) e) ∙ sym h.against in
       record {
-        proved = subst₂ (λ p cases. (v ≡ Proved) ↔ NoneOpen system z p cases (length cases)) point against a.proved;
-        state = subst₂ (λ p cases. SaysOpen system z p cases v) point against a.state;
+        proved = subst₂ (λ p cases. (v ≡ Proved) ↔ NoneOpen system z p [] cases (length cases)) point against a.proved;
+        state = subst₂ (λ p cases. SaysOpen system z p [] cases v) point against a.state;
       }
 
   verdicts_move : (claims others : List Claim) (verdicts : List Verdict) → SameStated claims others → All (Stands names points) claims
@@ -88,7 +89,7 @@ text_agrees : (names : List (List ℕ)) (claims others : List Claim) (verdicts a
     → verdicts_text names claims verdicts n ≡ verdicts_text names others again m
 text_agrees names claims others verdicts again n m e same rounds =
     ap₂ (λ (vs : List Verdict) k. verdicts_text names claims vs k) same rounds
-    ∙ ap₂ (λ (lines : List ℕ) k. lines ++ line (codes "proved " ++ decimal (count_by is_proved again) ++ codes " of " ++ decimal k)
+    ∙ ap₂ (λ (lines : List ℕ) k. lines ++ count_line k again
     ++ footer_line (Improvements m))
     (lines_agree names 0 claims others again e) (count_agrees claims others e)
 

@@ -9,7 +9,8 @@ use Rattle.ask_words.specs.declared.request.Policy.{Policy}
 use Rattle.ask_words.specs.declared.request.Purpose.{Purpose}
 use Rattle.top_texts.specs.Exact.{exact}
 use Rattle.top_texts.specs.Generated.{IsGenerated}
-use Rattle.top_texts.specs.Questions.{analysis_question, bench_question, claims_question, equations_question, transitions_question}
+use Rattle.top_texts.specs.Questions.{analysis_question, bench_question, checks_question, claims_question, equations_question}
+use Rattle.top_texts.specs.Questions.{transitions_question}
 use Rattle.top_texts.proofs.equation_texts.Once.{causes_once, equations_once, not_equations}
 use Rattle.top_texts.proofs.claim_texts.Once.{apart as refused_apart, causes_once as proofs_refused_once}
 use Rattle.top_texts.proofs.questions.OneEnd.{HasOneMeaning}
@@ -20,6 +21,15 @@ use Rattle.top_texts.proofs.texts.Once.{equations_are, ready_unrefused, refused_
 pub analysis_once : (purpose : Purpose) (text : List ℕ) (rows : Domain (List ℕ)) (policy : Policy) (limit : ℕ)
     → HasOneMeaning (analysis_question exact purpose text rows policy limit)
 analysis_once purpose text rows policy limit = record {
+  cause = refused_once text rows;
+  apart = λ c s h is. ready_unrefused text rows is.names is.body is.template c h is.ready;
+  system = solved_once text rows;
+}
+
+-- so has the question of a program's checks
+pub checks_once : (text : List ℕ) (rows : Domain (List ℕ)) (policy : Policy) (limit : ℕ)
+    → HasOneMeaning (checks_question exact text rows policy limit)
+checks_once text rows policy limit = record {
   cause = refused_once text rows;
   apart = λ c s h is. ready_unrefused text rows is.names is.body is.template c h is.ready;
   system = solved_once text rows;

@@ -10,7 +10,7 @@ ghost use Rattle.top_status.specs.declared.status.TextCause.TheVariants.{Unknown
 ghost use Rattle.top_texts.specs.Short.{HasShortRows};
 ghost use Rattle.ask_words.specs.Request.{domain_text};
 ghost use Rattle.top_texts.specs.Outcomes.{IsRefusedBy};
-ghost use Rattle.top_texts.specs.Texts.{HasTemplate, IsAnalysed, IsSolvedSystem};
+ghost use Rattle.top_texts.specs.Texts.{HasTemplate, IsAnalysed, IsSolvedSystem, IsSystemOn, Reading};
 ghost use Rattle.flow_systems.specs.declared.limits.TheConstants.{MOST_UNKNOWNS};
 
 use super::template::template_of;
@@ -64,6 +64,24 @@ pub(crate) fn system_of(flow: Flow, template: Template) -> Result<System, Refusa
     }
 }
 
+// The system of a program, which a text reads as, and of these rows.
+pub(crate) fn program_system(
+    alloc: Global,
+    rows: Domain<&[u8]>,
+    program: &Program,
+) -> Result<System, Refusal>
+    requires { HasShortRows (domain_text rows) }
+    ensures ok { IfOk result (λ system. (text : List ℕ) → Reading text (Ok (program.now.names, program.now.body))
+        → IsSystemOn text (domain_text rows.entry) program.now.names program.now.body system) }
+    ensures err { IfErr result (λ refusal. (text : List ℕ) → Reading text (Ok (program.now.names, program.now.body))
+        → IsRefusedBy text (domain_text rows.entry) refusal) }
+{
+    let flow = flow_of(alloc, program)?;
+    let template = rows_of(alloc, rows, program)?;
+    let system = system_of(flow, template)?;
+    Ok(system)
+}
+
 /// The system of the program of a text and of these rows.
 ///
 /// # Errors
@@ -76,8 +94,6 @@ pub fn system_on(alloc: Global, text: &[u8], rows: Domain<&[u8]>) -> Result<Syst
     ensures err { IfErr result (λ refusal. IsRefusedBy text.now (domain_text rows.entry) refusal) }
 {
     let program = program_of(alloc, text)?;
-    let flow = flow_of(alloc, &program)?;
-    let template = rows_of(alloc, rows, &program)?;
-    let system = system_of(flow, template)?;
+    let system = program_system(alloc, rows, &program)?;
     Ok(system)
 }

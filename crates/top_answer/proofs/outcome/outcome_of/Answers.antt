@@ -8,6 +8,7 @@ use Rattle.top_answer.proofs.commands.Claims.{proved}
 use Rattle.top_answer.proofs.commands.Equations.{equated}
 use Rattle.top_answer.proofs.commands.Plain.{pointed, upgraded}
 use Rattle.top_answer.proofs.commands.Transitions.{transited}
+use Rattle.top_answer.proofs.commands.Verified.{verified}
 use Rattle.top_answer.proofs.outcome.outcome_of.Goals as goal
 
 pub returns-in-Analyse-clause-rows : goal.returns-in-Analyse-clause-rows
@@ -52,3 +53,9 @@ returns-in-Points-clause-says g c =
     subst (λ r. Says (command_of exact (request_text r)) c.outcome_from-in-Points.result.status c.outcome_from-in-Points.result.bytes.items)
     (sym c.in-Points.is)
     (pointed c.in-Points.program.now _ _ _ c.points_text.ensures.ok c.points_text.ensures.err c.outcome_from-in-Points.ensures.is)
+
+pub returns-in-Verify-clause-says : goal.returns-in-Verify-clause-says
+returns-in-Verify-clause-says g c =
+    subst (λ r. Says (command_of exact (request_text r)) c.outcome_by.result.status c.outcome_by.result.bytes.items) (sym c.in-Verify.is)
+    (verified (analysis_text c.in-Verify.analysis) _ _ _ c.verify_text-made.ensures.ok c.verify_text-made.ensures.err
+    c.outcome_by.ensures)

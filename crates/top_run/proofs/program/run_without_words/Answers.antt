@@ -1,7 +1,7 @@
-use Rattle.std.proofs.Common.{◌∙◌, [], inr, refl, sym}
+use Rattle.std.proofs.Common.{[], inr, refl}
 use Rattle.top_run.specs.Parts.{is_kept}
 use Rattle.top_run.specs.declared.output.Pieces.TheVariants.{Lines}
-use Rattle.top_run.proofs.parts.Answering.{for_memory, memory_not_done}
+use Rattle.top_run.proofs.parts.Answering.{for_memory, memory_without}
 use Rattle.top_run.proofs.parts.Ended.{is_run}
 use Rattle.top_run.proofs.parts.Loaded.{unloaded}
 use Rattle.top_run.proofs.program.run_without_words.Goals as goal
@@ -12,6 +12,6 @@ returns g c = λ words.
     (unloaded _ _ words _ _ _ _ (inr c.plain_answer-answer.ensures.status)
     (for_memory _ _ g.met.P.Program.plain.memory words [] _ _ _ c.plain_answer-answer.ensures.status c.plain_answer-answer.ensures.bytes
     c.plain_answer-answer.ensures.message))
-    (λ request asked d. absurd (memory_not_done (sym c.plain_answer-answer.ensures.status ∙ d)))
-    (is_kept (λ d. memory_not_done (sym c.plain_answer-answer.ensures.status ∙ d)) refl refl refl)
+    (λ request asked d. absurd (memory_without _ c.plain_answer-answer.ensures.status d))
+    (is_kept (memory_without _ c.plain_answer-answer.ensures.status) refl refl refl)
     c.tell.ensures.gets c.tell.ensures.piece

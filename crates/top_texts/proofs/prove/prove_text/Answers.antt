@@ -3,7 +3,7 @@ use Rattle.flow_systems.specs.View.{equations_of, vector_at}
 use Rattle.ask_claims.specs.AllVerdicts.{AreVerdicts}
 use Rattle.ask_claims.specs.Lines.{verdicts_text}
 use Rattle.ask_claims.specs.declared.claim.Claim.{Claim}
-use Rattle.ask_claims.specs.declared.outcome.Verdict.{Verdict}
+use Rattle.ask_verdicts.specs.declared.outcome.Verdict.{Verdict}
 use Rattle.ask_words.specs.declared.request.Purpose.TheVariants.{Report}
 use Rattle.top_texts.specs.Exact.{exact}
 use Rattle.ask_words.specs.Request.{domain_text}

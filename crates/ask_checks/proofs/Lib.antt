@@ -1,0 +1,4 @@
+pub mod places
+pub mod verdicts
+pub mod laws
+pub mod Rests

@@ -1,0 +1,8 @@
+use Rattle.ask_checks.proofs.laws.Determined.{wide_checks_dont_fit, refusals_are_one}
+use Rattle.ask_checks.proofs.law.refusals_are_one.Goals as goal
+
+pub returns-clause-apart : goal.returns-clause-apart
+returns-clause-apart c = wide_checks_dont_fit
+
+pub returns-clause-one : goal.returns-clause-one
+returns-clause-one c = refusals_are_one

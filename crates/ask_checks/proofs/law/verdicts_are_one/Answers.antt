@@ -1,0 +1,5 @@
+use Rattle.ask_checks.proofs.laws.Determined.{verdicts_are_one}
+use Rattle.ask_checks.proofs.law.verdicts_are_one.Goals as goal
+
+pub returns : goal.returns
+returns c = verdicts_are_one

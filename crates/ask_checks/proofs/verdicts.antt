@@ -1,0 +1,4 @@
+pub mod Everywhere
+pub mod Turns
+pub mod Once
+pub mod SameBounds

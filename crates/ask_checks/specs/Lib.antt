@@ -1,0 +1,4 @@
+pub mod Places
+pub mod Verdicts
+pub mod Lines
+pub mod Laws

@@ -1,4 +1,0 @@
-pub mod Words
-pub mod Guards
-pub mod Turns
-pub mod Lists

@@ -1,0 +1,4 @@
+pub mod Words
+pub mod SameBounds
+pub mod Once
+pub mod Turns

@@ -1,0 +1,12 @@
+//! What bounds say of a condition at a place: at a point, or inside an edge.
+#![tactic(auto)]
+
+mod judge;
+mod law;
+mod lines;
+mod outcome;
+
+pub use judge::{capped, verdict};
+pub use law::{open_states_break, proved_places_hold, refusals_are_one, verdicts_are_one};
+pub use lines::{is_proved, push_counts, push_verdict};
+pub use outcome::{Verdict, VerdictFault};

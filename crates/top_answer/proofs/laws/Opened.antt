@@ -1,0 +1,58 @@
+-- Which commands end where a check is open.
+use Rattle.std.proofs.Common.{◌≡◌, ℕ, List, refl}
+use Rattle.ask_files.specs.Files.{Request}
+use Rattle.ask_words.specs.declared.request.Analysis.{Analysis}
+use Rattle.ask_words.specs.declared.request.Request.TheVariants.{Analyse, Check, Bench, Upgrade, Prove, Transitions, Equations, Points}
+use Rattle.ask_words.specs.declared.request.Request.TheVariants.{Verify}
+use Rattle.top_answer.specs.Commands as commands
+use Rattle.top_answer.specs.Commands.{CheckEnds, PointsEnd, UpgradeEnds, VerifyEnds, command_of, form_refused, judged, listed, rewritten}
+use Rattle.top_answer.specs.Commands.{text_refused, unjudged}
+use Rattle.top_status.specs.declared.status.Status.TheVariants.{Done, Open}
+use Rattle.top_texts.specs.CheckTexts.{IsJudged}
+use Rattle.top_texts.specs.Exact.{exact}
+use Rattle.top_texts.specs.Questions.{Question, QuestionEnds, checks_question, is_refused, rounds_end, rounds_spent}
+use Rattle.top_texts.specs.Texts.{IsSolvable}
+use Rattle.top_texts.proofs.check_texts.OneText.{one_judged}
+
+-- no question ends so
+never_asked : (q : Question) → QuestionEnds q Open → ⊥
+never_asked q (is_refused cause e h) = cc
+never_asked q (rounds_end system e is h) = cc
+never_asked q (rounds_spent system e is h) = cc
+
+never_checked : (text bytes : List ℕ) → CheckEnds exact text bytes Open → ⊥
+never_checked text bytes (commands.program_refused cause e h) = cc
+never_checked text bytes (commands.certificate_refused cause e h) = cc
+never_checked text bytes (commands.sum_too_wide spot e h) = cc
+never_checked text bytes (commands.accepted names body rows vector e h) = cc
+
+never_upgraded : (bytes : List ℕ) → UpgradeEnds exact bytes Open → ⊥
+never_upgraded bytes (form_refused fault e h) = cc
+never_upgraded bytes (rewritten written e h) = cc
+
+never_listed : (text : List ℕ) → PointsEnd text Open → ⊥
+never_listed text (text_refused cause e h) = cc
+never_listed text (listed names body e h) = cc
+
+verified : (a : Analysis (List ℕ)) → VerifyEnds exact a Open → IsJudged a.program a.domain a.policy a.improvements Open
+verified a (unjudged h n) = absurd (never_asked (checks_question exact a.program a.domain a.policy a.improvements) h)
+verified a (judged j) = j
+
+-- the command that judges checks alone does
+pub of_checks : (asked : Request) → (command_of exact asked).ends Open
+    → (a : Analysis (List ℕ)) × (asked ≡ Verify a) × IsJudged a.program a.domain a.policy a.improvements Open
+of_checks (Analyse purpose a) h = absurd (never_asked _ h)
+of_checks (Check text given) h = absurd (never_checked text given h)
+of_checks (Bench seed loops) h = absurd (never_asked _ h)
+of_checks (Upgrade given) h = absurd (never_upgraded given h)
+of_checks (Prove given a) h = absurd (never_asked _ h)
+of_checks (Transitions a) h = absurd (never_asked _ h)
+of_checks (Equations text limit policy) h = absurd (never_asked _ h)
+of_checks (Points text) h = absurd (never_listed text h)
+of_checks (Verify a) h = (a, refl, verified a h)
+
+-- where improvements end it has one of its two endings
+pub judged_or_not : (a : Analysis (List ℕ)) → IsSolvable a.program a.domain a.policy a.improvements
+    → ((command_of exact (Verify a)).ends Done → ⊥) → ((command_of exact (Verify a)).ends Open → ⊥) → ⊥
+judged_or_not a solvable done other =
+    one_judged a.program a.domain a.policy a.improvements solvable (λ j. done (judged j)) (λ j. other (judged j))

@@ -1,0 +1,10 @@
+use Rattle.ask_checks.proofs.laws.Determined.{verdicts_are_one}
+use Rattle.top_texts.proofs.check_texts.OneText.{check_verdicts_once, judged_once}
+use Rattle.top_answer.proofs.laws.check_verdicts_are_one.Goals as goal
+
+pub returns : goal.returns
+returns c = record {
+  bytes = λ text rows policy limit ending another one other h k.
+      check_verdicts_once text rows policy limit verdicts_are_one ending another one other h k;
+  ending = judged_once;
+}

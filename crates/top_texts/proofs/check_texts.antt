@@ -1,0 +1,4 @@
+pub mod Listed
+pub mod Judged
+pub mod OneText
+pub mod Cased
