@@ -36,7 +36,7 @@ fn shown(
     match known.take(at.system, edge, row) {
         Some(found) => Ok(found.upper),
         None => {
-            let found = solve_offer(alloc, at.system, at.paths, at.bounds, edge, row, at.round)?;
+            let found = solve_offer(alloc, at, edge, row)?;
             Ok(found.upper)
         }
     }
