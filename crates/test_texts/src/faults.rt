@@ -273,23 +273,39 @@ const UNKNOWN_ASKED: Option<ParseFault> = Some(ParseFault::UnknownName { at: 257
 
 const ASSERTS: &[u8] = b"int main() { int x; __VERIFIER_assert(x";
 
-const SHAPES: &[(&[u8], &[u8], usize, &[u8], Option<ParseFault>)] = &[
+// How often `x++; ` stands behind the declaration of `x`, what stands behind that, and the fault of the text.
+impl Case for (usize, &[u8], Option<ParseFault>) {
+    fn is_right(&self, alloc: Global) -> bool {
+        (START, b"x++; ".as_slice(), self.0, self.1, self.2).is_right(alloc)
+    }
+}
+
+const COUNTED: &[(usize, &[u8], Option<ParseFault>)] = &[
     // The declaration is a node too: the 513th begins at 20 + 511 * 5.
-    (START, b"x++; ", 511, b"}", None),
-    (START, b"x++; ", 512, b"}", STATEMENTS),
-    (START, b"++x; ", 512, b"}", STATEMENTS),
-    (START, b"x++; ", 511, b"y = 1; }", UNKNOWN),
-    (START, b"x++; ", 511, b"++y; }", STATEMENTS),
-    (START, b"x++; ", 511, b"if (y) ; }", UNKNOWN_LATER),
-    (START, b"x++; ", 511, b"assume(y); }", STATEMENTS),
-    (START, b"x++; ", 10_000, b"}", STATEMENTS),
+    (511, b"}", None),
+    (512, b"}", STATEMENTS),
+    (511, b"y = 1; }", UNKNOWN),
+    (511, b"++y; }", STATEMENTS),
+    (511, b"if (y) ; }", UNKNOWN_LATER),
+    (511, b"assume(y); }", STATEMENTS),
+    (10_000, b"}", STATEMENTS),
     // Loops and jumps count where they stand; a `for` after its condition, before its change.
-    (START, b"x++; ", 510, b"do ; while (x); }", None),
-    (START, b"x++; ", 511, b"do y = 1; while (z); }", STATEMENTS),
-    (START, b"x++; ", 511, b"for (; y; ) ; }", UNKNOWN_CONDITION),
-    (START, b"x++; ", 511, b"for (;; y = 1) ; }", STATEMENTS),
-    (START, b"x++; ", 510, b"for (;; x = 1) ; }", CHANGE),
-    (START, b"x++; ", 511, b"break; }", OUTSIDE),
+    (510, b"do ; while (x); }", None),
+    (511, b"do y = 1; while (z); }", STATEMENTS),
+    (511, b"for (; y; ) ; }", UNKNOWN_CONDITION),
+    (511, b"for (;; y = 1) ; }", STATEMENTS),
+    (510, b"for (;; x = 1) ; }", CHANGE),
+    (511, b"break; }", OUTSIDE),
+    // An `assert` is two nodes, both counted before its condition is read; the declaration is one.
+    (509, b"assert(x); }", None),
+    (509, b"assert(y); }", UNKNOWN_ASKED),
+    (510, b"assert(x); }", SECOND_NODE),
+    (510, b"assert(y); }", SECOND_NODE),
+    (511, b"assert(y); }", STATEMENTS),
+];
+
+const SHAPES: &[(&[u8], &[u8], usize, &[u8], Option<ParseFault>)] = &[
+    (START, b"++x; ", 512, b"}", STATEMENTS),
     (START, b"for (;;) ", 64, b"break; }", None),
     (
         START,
@@ -323,12 +339,6 @@ const SHAPES: &[(&[u8], &[u8], usize, &[u8], Option<ParseFault>)] = &[
     (ASKS, b"&&x", 20_000, b"); }", LEAVES),
     (b"int main() { int x = 1", b"+ 1", 20_000, b"; }", None),
     (b"int main() { int x; x = ", b"-+", 32, b"x; }", None),
-    // An `assert` is two nodes, both counted before its condition is read; the declaration is one.
-    (START, b"x++; ", 509, b"assert(x); }", None),
-    (START, b"x++; ", 509, b"assert(y); }", UNKNOWN_ASKED),
-    (START, b"x++; ", 510, b"assert(x); }", SECOND_NODE),
-    (START, b"x++; ", 510, b"assert(y); }", SECOND_NODE),
-    (START, b"x++; ", 511, b"assert(y); }", STATEMENTS),
     (START, b"assert(x);     ", 255, b"}", None),
     (START, b"assert(x);     ", 255, b"x++; }", None),
     (ASSERTS, b"||x", 63, b"); }", None),
@@ -338,5 +348,6 @@ const SHAPES: &[(&[u8], &[u8], usize, &[u8], Option<ParseFault>)] = &[
 
 #[test]
 fn limits_are_kept(rt: HostRuntime) {
+    assert_eq!(rt; first_wrong(rt.alloc(), COUNTED), None);
     assert_eq!(rt; first_wrong(rt.alloc(), SHAPES), None);
 }
