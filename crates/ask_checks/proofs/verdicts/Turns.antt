@@ -32,10 +32,13 @@ module _ (system : Equations) (z : Vector) (check : CheckCases) where
   abbrev pub IsJudgedOn : Edge → ℕ → Type 0
   IsJudgedOn edge k = IsPassed (NoneAt system z check edge) (FitsAt system z check edge) k
 
-  -- an edge has the check where it is open at a state, so that not all of its cases are closed; and up to it no operation is wide
+  -- an edge has the check where it is open at a state
   pub record IsOpened (edge : Edge) (x : RationalState) : Type 0 where
+    -- so not all of the edge's cases are closed
     pub unproved : (Open x ≡ Proved) ↔ NoneOn system z check edge
+    -- a case is open at the state
     pub opened : OpenOn system z check edge x
+    -- and up to it no operation is wide
     pub fits : FitsOn system z check edge
 
   module _ (edge : Edge) where
