@@ -1,12 +1,14 @@
--- The commands: what `clap` is given, one simple command with ten subcommands; and what a list of words asks for.
-use Rattle.std.specs.Prelude.{◌++◌, ℕ, List, [], ◌∷◌, Option, Some, None, true, codes, option_and_then, option_map, unwrap_or}
+-- The commands: what `clap` is given, one simple command with eleven subcommands; and what a list of words asks for.
+use Rattle.std.specs.Prelude.{ℕ, List, [], ◌∷◌, Option, Some, None, true, codes, option_and_then, option_map, unwrap_or}
 use Rattle.std.specs.Prelude.{if◌then◌else◌}
 use Rattle.std.specs.Str.{bytes_eq}
 use Rattle.std.specs.Borrow.{Bor}
 use Rattle.base_limits.specs.declared.limits.TheConstants.{MOST_IMPROVEMENTS}
 use Rattle.clap.specs.Words.{App, Kinds, Row, Rule, Text, fault_of, first_of, new_app, new_rule, subcommand_of, with_rule, with_subcommand}
 use Rattle.clap.specs.Simple.{on_top}
+use Rattle.ask_words.specs.Help.{topic_in}
 use Rattle.ask_words.specs.Values.{domain_in, meaning_in, number_in, policies}
+use Rattle.ask_words.specs.declared.help.Topic.TheVariants as page
 use Rattle.ask_words.specs.declared.request.Analysis.{Analysis}
 use Rattle.ask_words.specs.declared.request.Domain.{Domain}
 use Rattle.ask_words.specs.declared.request.Domain.TheVariants.{Intervals, Zones, Octagons, Rows}
@@ -14,24 +16,19 @@ use Rattle.ask_words.specs.declared.request.Request.{Request}
 use Rattle.ask_words.specs.declared.request.Policy.{Policy}
 use Rattle.ask_words.specs.declared.request.Policy.TheVariants.{Best, First}
 use Rattle.ask_words.specs.declared.request.Request.TheVariants.{Analyse, Check, Bench, Upgrade, Prove, Transitions, Equations, Points}
-use Rattle.ask_words.specs.declared.request.Request.TheVariants.{Verify}
+use Rattle.ask_words.specs.declared.request.Request.TheVariants.{Verify, Help}
 use Rattle.ask_words.specs.declared.request.Purpose.{Purpose}
 use Rattle.ask_words.specs.declared.request.Purpose.TheVariants.{Report, Certificate}
-
--- ---- the line that a refusal of the words prints
-
--- the commands and their options, on one line
-abbrev pub usage_text : Text
-usage_text = codes "usage: tmpl solve PROGRAM [--domain D] [--rows FILE] [--improvements N] [--policy P] | certify (the same)"
-    ++ codes " | check PROGRAM CERT | bench --seed N --loops K | upgrade CERT"
-    ++ codes " | prove PROGRAM CLAIMS (the options of solve) | transitions FILE (the options of solve)"
-    ++ codes " | equations FILE [--improvements N] [--policy P] | points PROGRAM | verify PROGRAM (the options of solve)\n"
 
 -- ---- the command line, as `clap` sees it
 
 -- a positional word that has to be there
 abbrev pub word_rule : Text → Rule
 word_rule id = record (new_rule id) { required = true }
+
+-- a positional word that may be left out
+abbrev pub optional_rule : Text → Rule
+optional_rule id = new_rule id
 
 -- an option of one value, which is given at most once
 abbrev pub option_rule : Text → Rule
@@ -71,17 +68,21 @@ equations_app = with_rule (with_rule (with_rule (new_app (codes "equations")) (w
 abbrev pub points_app : App
 points_app = with_rule (new_app (codes "points")) (word_rule (codes "program"))
 
--- the program's own name isn't among the words, and one of the commands has to be
+-- `help [COMMAND]`
+abbrev pub help_app : App
+help_app = with_rule (new_app (codes "help")) (optional_rule (codes "command"))
+
+-- the program's own name isn't among the words, and one of the commands has to be; `help` is one of these, and not that of `clap`
 abbrev pub top_app : App
-top_app = on_top (λ s. record s { no_binary_name = true; subcommand_required = true })
+top_app = on_top (λ s. record s { no_binary_name = true; subcommand_required = true; disable_help_subcommand = true })
     (new_app (codes "tmpl"))
 
 -- the whole command line
 abbrev pub tmpl_app : App
 tmpl_app = with_subcommand (with_subcommand (with_subcommand (with_subcommand (with_subcommand (with_subcommand (with_subcommand
-    (with_subcommand (with_subcommand (with_subcommand top_app (analysis_app (codes "solve")).top) (analysis_app (codes "certify")).top)
-    check_app.top) bench_app.top) upgrade_app.top) prove_app.top) (analysis_app (codes "transitions")).top) equations_app.top)
-    points_app.top) (analysis_app (codes "verify")).top
+    (with_subcommand (with_subcommand (with_subcommand (with_subcommand top_app (analysis_app (codes "solve")).top)
+    (analysis_app (codes "certify")).top) check_app.top) bench_app.top) upgrade_app.top) prove_app.top)
+    (analysis_app (codes "transitions")).top) equations_app.top) points_app.top) (analysis_app (codes "verify")).top) help_app.top
 
 -- ---- the texts of a request that borrows them
 
@@ -112,6 +113,7 @@ request_text (Transitions a) = Transitions (analysis_text a)
 request_text (Equations file improvements policy) = Equations file.now improvements policy
 request_text (Points program) = Points program.now
 request_text (Verify a) = Verify (analysis_text a)
+request_text (Help topic) = Help topic
 
 -- ---- commands, by the words and options that were given
 
@@ -183,6 +185,10 @@ points_in given = option_map (λ program. Points program) (first_of (codes "prog
 abbrev pub verify_in : List Row → Option (Request Text)
 verify_in given = option_map (λ a. Verify a) (analysis_in given)
 
+-- `help`: a page
+abbrev pub help_in : List Row → Option (Request Text)
+help_in given = option_map (λ topic. Help topic) (topic_in (first_of (codes "command") given))
+
 -- the request of a command by its name
 abbrev pub command_in : Text × List Row → Option (Request Text)
 command_in (name, given) = if bytes_eq name (codes "solve") then analyse_in Report given
@@ -194,7 +200,8 @@ command_in (name, given) = if bytes_eq name (codes "solve") then analyse_in Repo
     else (if bytes_eq name (codes "transitions") then transitions_in given
     else (if bytes_eq name (codes "equations") then equations_in given
     else (if bytes_eq name (codes "points") then points_in given
-    else (if bytes_eq name (codes "verify") then verify_in given else None)))))))))
+    else (if bytes_eq name (codes "verify") then verify_in given
+    else (if bytes_eq name (codes "help") then help_in given else None))))))))))
 
 -- what is asked, where `clap` finds no fault
 abbrev pub unless_fault : Kinds → Option (Request Text) → Option (Request Text)
@@ -230,4 +237,7 @@ examples =
     ∷ (codes "points" ∷ codes "p" ∷ [], Points (codes "p"))
     -- the checks of a program are judged by the bounds of its analysis
     ∷ (codes "verify" ∷ codes "p" ∷ codes "--domain=octagons" ∷ [], Verify (plain_analysis (codes "p") Octagons))
+    -- help is given on itself, and on a command
+    ∷ (codes "help" ∷ [], Help page.Overview)
+    ∷ (codes "help" ∷ codes "prove" ∷ [], Help page.Prove)
     ∷ []

@@ -2,11 +2,13 @@
 #![tactic(auto)]
 
 mod format;
+mod help;
 pub mod laws;
 mod request;
 mod values;
 mod words;
 
 pub use format::Format;
-pub use request::{Analysis, Domain, Policy, Purpose, Request, usage_line};
+pub use help::{Topic, help_text, usage_line};
+pub use request::{Analysis, Domain, Policy, Purpose, Request};
 pub use words::{WordsFault, read_words};

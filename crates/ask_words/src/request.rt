@@ -3,11 +3,13 @@
 ghost use Rattle.std.specs.Prelude.{◌≡◌, IfOk, false, option_and_then, option_map, unwrap_or};
 ghost use Rattle.clap.specs.Words.{app_of, first_of, found_of, rows_of, rule_of, subcommand_rows_of};
 ghost use Rattle.clap.specs.declared.Command.TheViews.{out-Command};
+ghost use Rattle.ask_words.specs.Help.{topic_in};
 ghost use Rattle.ask_words.specs.Request.{analyse_in, analysis_app, analysis_in, analysis_text, bench_app, bench_in, check_app, check_in};
-ghost use Rattle.ask_words.specs.Request.{command_in, equations_app, equations_in, improvements_in, option_rule, points_app, points_in};
-ghost use Rattle.ask_words.specs.Request.{policy_in, prove_app, prove_in, request_text, tmpl_app, top_app, transitions_in, upgrade_app};
-ghost use Rattle.ask_words.specs.Request.{upgrade_in, usage_text, verify_in, word_rule};
+ghost use Rattle.ask_words.specs.Request.{command_in, equations_app, equations_in, help_app, help_in, improvements_in, option_rule, optional_rule};
+ghost use Rattle.ask_words.specs.Request.{points_app, points_in, policy_in, prove_app, prove_in, request_text, tmpl_app, top_app, transitions_in};
+ghost use Rattle.ask_words.specs.Request.{upgrade_app, upgrade_in, verify_in, word_rule};
 
+use crate::help::{Topic, topic_of};
 use crate::values::{domain, number, policy};
 use base_limits::MOST_IMPROVEMENTS;
 use clap::{Arg, ArgMatches, Command};
@@ -96,16 +98,10 @@ pub enum Request<T> {
     Verify {
         analysis: Analysis<T>,
     },
-}
-
-/// The line, with its line feed, that says which words make a command.
-pub fn usage_line() -> &'static [u8]
-    ensures { result.now ≡ usage_text }
-{
-    b"usage: tmpl solve PROGRAM [--domain D] [--rows FILE] [--improvements N] [--policy P] | certify (the same) \
-      | check PROGRAM CERT | bench --seed N --loops K | upgrade CERT \
-      | prove PROGRAM CLAIMS (the options of solve) | transitions FILE (the options of solve) \
-      | equations FILE [--improvements N] [--policy P] | points PROGRAM | verify PROGRAM (the options of solve)\n"
+    /// Write the page of a command.
+    Help {
+        topic: Topic,
+    },
 }
 
 /// The whole command line.
@@ -121,16 +117,18 @@ pub(crate) fn command_line<'a>(alloc: Global) -> Result<Command<'a>, AllocError>
     let transitions = prove.subcommand(analysis_command(alloc, "transitions")?)?;
     let equations = transitions.subcommand(equations_command(alloc)?)?;
     let points = equations.subcommand(points_command(alloc)?)?;
-    Ok(points.subcommand(analysis_command(alloc, "verify")?)?)
+    let verify = points.subcommand(analysis_command(alloc, "verify")?)?;
+    Ok(verify.subcommand(help_command(alloc)?)?)
 }
 
-// The program, whose own name isn't among the words; one of the commands has to be.
+// The program, whose own name isn't among the words; one of the commands has to be, and `help` is one of them.
 fn top_command<'a>(alloc: Global) -> Command<'a>
     ensures { app_of result ≡ top_app }
 {
     Command::new(alloc, "tmpl")
         .no_binary_name(true)
         .subcommand_required(true)
+        .disable_help_subcommand(true)
 }
 
 // `solve`, `certify`, `transitions` or `verify`.
@@ -191,6 +189,21 @@ fn points_command<'a>(alloc: Global) -> Result<Command<'a>, AllocError>
     Ok(Command::new(alloc, "points").arg(word(alloc, "program"))?)
 }
 
+fn help_command<'a>(alloc: Global) -> Result<Command<'a>, AllocError>
+    ensures app { IfOk result (λ command. app_of command ≡ help_app) }
+    ensures local { IfOk result (λ command. (out-Command command).has_globals ≡ false) }
+{
+    Ok(Command::new(alloc, "help").arg(optional(alloc, "command"))?)
+}
+
+// A positional word that may be left out.
+fn optional<'a>(alloc: Global, name: &'a str) -> Arg<'a>
+    ensures rule { rule_of result ≡ optional_rule name.entry.now }
+    ensures local { result.global ≡ false }
+{
+    Arg::new(alloc, name)
+}
+
 // A positional word that has to be there.
 fn word<'a>(alloc: Global, name: &'a str) -> Arg<'a>
     ensures rule { rule_of result ≡ word_rule name.entry.now }
@@ -240,6 +253,8 @@ fn command<'a>(name: &str, given: &ArgMatches<'a>) -> Option<Request<&'a str>>
         points(given)
     } else if name == "verify" {
         verify(given)
+    } else if name == "help" {
+        help(given)
     } else {
         None
     }
@@ -335,6 +350,13 @@ fn verify<'a>(given: &ArgMatches<'a>) -> Option<Request<&'a str>>
 {
     let analysis = analysis_in(given)?;
     Some(Request::Verify { analysis })
+}
+
+fn help<'a>(given: &ArgMatches<'_>) -> Option<Request<&'a str>>
+    ensures { option_map request_text result ≡ help_in (rows_of (found_of given.now)) }
+{
+    let topic = topic_of(value(given, "command"))?;
+    Some(Request::Help { topic })
 }
 
 // How many improvements are made at most.

@@ -6,6 +6,7 @@ mod claims;
 mod equations;
 mod generated;
 mod loops;
+mod pages;
 pub(crate) mod reports;
 mod transitions;
 mod upgrades;

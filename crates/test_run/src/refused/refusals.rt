@@ -9,7 +9,8 @@ pub(crate) const USAGE: &[u8] =
     b"usage: tmpl solve PROGRAM [--domain D] [--rows FILE] [--improvements N] [--policy P] | certify (the same) \
       | check PROGRAM CERT | bench --seed N --loops K | upgrade CERT \
       | prove PROGRAM CLAIMS (the options of solve) | transitions FILE (the options of solve) \
-      | equations FILE [--improvements N] [--policy P] | points PROGRAM | verify PROGRAM (the options of solve)\n";
+      | equations FILE [--improvements N] [--policy P] | points PROGRAM | verify PROGRAM (the options of solve) \
+      | help [COMMAND]\n";
 
 // Lines of words that ask for nothing.
 const NO_REQUESTS: &[&str] = &[
@@ -17,6 +18,9 @@ const NO_REQUESTS: &[&str] = &[
     "bench --seed 1 --loops 47",
     "equations p --domain zones",
     "equations",
+    "help annotate",
+    "help solve p",
+    "help --domain zones",
     "points p --domain zones",
     "points p f",
     "points",
