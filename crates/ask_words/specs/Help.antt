@@ -30,6 +30,10 @@ analysis_options = codes "[--domain D] [--rows FILE] [--improvements N] [--polic
 abbrev pub equation_options : Text
 equation_options = codes "[--improvements N] [--policy P]"
 
+-- the option of all commands that solve something
+abbrev pub progress_option : Text
+progress_option = codes "[--progress]"
+
 -- a command that has the options of `solve`
 abbrev pub as_solve : Topic → Text
 as_solve topic = head_of topic ++ codes " (the options of solve)"
@@ -40,7 +44,8 @@ usage_text = codes "usage: tmpl " ++ head_of page.Solve ++ codes " " ++ analysis
     ++ codes " | " ++ head_of page.Check ++ codes " | " ++ head_of page.Bench ++ codes " | " ++ head_of page.Upgrade
     ++ codes " | " ++ as_solve page.Prove ++ codes " | " ++ as_solve page.Transitions
     ++ codes " | " ++ head_of page.Equations ++ codes " " ++ equation_options ++ codes " | " ++ head_of page.Points
-    ++ codes " | " ++ as_solve page.Verify ++ codes " | " ++ head_of page.Overview ++ codes "\n"
+    ++ codes " | " ++ as_solve page.Verify ++ codes " | solve, certify, prove, verify, transitions, equations: " ++ progress_option
+    ++ codes " | " ++ head_of page.Overview ++ codes "\n"
 
 -- ---- the pages
 
@@ -85,21 +90,22 @@ on_a_line options = codes "\n         " ++ options
 -- the options of a command, where it has some
 abbrev pub options_of : Topic → Text
 options_of page.Overview = []
-options_of page.Solve = on_a_line analysis_options
-options_of page.Certify = on_a_line analysis_options
+options_of page.Solve = on_a_line analysis_options ++ on_a_line progress_option
+options_of page.Certify = on_a_line analysis_options ++ on_a_line progress_option
 options_of page.Check = []
 options_of page.Bench = []
 options_of page.Upgrade = []
-options_of page.Prove = on_a_line analysis_options
-options_of page.Transitions = on_a_line analysis_options
-options_of page.Equations = on_a_line equation_options
+options_of page.Prove = on_a_line analysis_options ++ on_a_line progress_option
+options_of page.Transitions = on_a_line analysis_options ++ on_a_line progress_option
+options_of page.Equations = on_a_line equation_options ++ codes " " ++ progress_option
 options_of page.Points = []
-options_of page.Verify = on_a_line analysis_options
+options_of page.Verify = on_a_line analysis_options ++ on_a_line progress_option
 
 -- the options of improvements
 abbrev pub about_improvements : Text
 about_improvements = codes "  --improvements N  up to N rounds of improvements, 1000 if absent\n"
     ++ codes "  --policy P        which edge a round picks: best if absent, or first\n"
+    ++ codes "  --progress        tells rounds, turns and pivots on standard error\n"
 
 -- the options of an analysis
 abbrev pub about_analysis : Text

@@ -1,11 +1,13 @@
 -- The commands: what `clap` is given, one simple command with eleven subcommands; and what a list of words asks for.
-use Rattle.std.specs.Prelude.{ℕ, List, [], ◌∷◌, Option, Some, None, true, codes, option_and_then, option_map, unwrap_or}
+use Rattle.std.specs.Prelude.{ℕ, Bool, List, [], ◌∷◌, Option, Some, None, true, false, codes, option_and_then, option_map, unwrap_or}
 use Rattle.std.specs.Prelude.{if◌then◌else◌}
+use Rattle.std.specs.Option.{option_map_or}
 use Rattle.std.specs.Str.{bytes_eq}
 use Rattle.std.specs.Borrow.{Bor}
 use Rattle.base_limits.specs.declared.limits.TheConstants.{MOST_IMPROVEMENTS}
 use Rattle.clap.specs.Words.{App, Kinds, Row, Rule, Text, fault_of, first_of, new_app, new_rule, subcommand_of, with_rule, with_subcommand}
 use Rattle.clap.specs.Simple.{on_top}
+use Rattle.clap.specs.declared.builder.action.ArgAction.TheVariants.{SetTrue}
 use Rattle.ask_words.specs.Help.{topic_in}
 use Rattle.ask_words.specs.Values.{domain_in, meaning_in, number_in, policies}
 use Rattle.ask_words.specs.declared.help.Topic.TheVariants as page
@@ -34,12 +36,16 @@ optional_rule id = new_rule id
 abbrev pub option_rule : Text → Rule
 option_rule id = record (new_rule id) { long = Some id }
 
--- `solve PROGRAM`, `certify PROGRAM`, `transitions PROGRAM` and `verify PROGRAM`, with four options
+-- an option without a value, which is given at most once
+abbrev pub flag_rule : Text → Rule
+flag_rule id = record (new_rule id) { long = Some id; action = Some SetTrue }
+
+-- `solve PROGRAM`, `certify PROGRAM`, `transitions PROGRAM` and `verify PROGRAM`, with five options
 abbrev pub analysis_app : Text → App
 analysis_app name =
-    with_rule (with_rule (with_rule (with_rule (with_rule (new_app name)
+    with_rule (with_rule (with_rule (with_rule (with_rule (with_rule (new_app name)
     (word_rule (codes "program"))) (option_rule (codes "domain"))) (option_rule (codes "rows")))
-    (option_rule (codes "improvements"))) (option_rule (codes "policy"))
+    (option_rule (codes "improvements"))) (option_rule (codes "policy"))) (flag_rule (codes "progress"))
 
 -- `check PROGRAM CERT`
 abbrev pub check_app : App
@@ -59,10 +65,10 @@ upgrade_app = with_rule (new_app (codes "upgrade")) (word_rule (codes "certifica
 abbrev pub prove_app : App
 prove_app = with_rule (analysis_app (codes "prove")) (word_rule (codes "claims"))
 
--- `equations FILE`, with two options
+-- `equations FILE`, with three options
 abbrev pub equations_app : App
-equations_app = with_rule (with_rule (with_rule (new_app (codes "equations")) (word_rule (codes "file")))
-    (option_rule (codes "improvements"))) (option_rule (codes "policy"))
+equations_app = with_rule (with_rule (with_rule (with_rule (new_app (codes "equations")) (word_rule (codes "file")))
+    (option_rule (codes "improvements"))) (option_rule (codes "policy"))) (flag_rule (codes "progress"))
 
 -- `points PROGRAM`
 abbrev pub points_app : App
@@ -212,6 +218,22 @@ unless_fault (kind ∷ kinds) asked = None
 unfoldable pub request_of : List Text → Option (Request Text)
 request_of words = unless_fault (fault_of tmpl_app words)
     (option_and_then command_in (subcommand_of tmpl_app words))
+
+-- ---- progress
+
+-- the option `--progress` is among the words of a command
+abbrev pub has_progress : Text × List Row → Bool
+has_progress (name, given) = option_map_or (λ text. bytes_eq text (codes "true")) (first_of (codes "progress") given) false
+
+-- what is asked of progress, where `clap` finds no fault
+abbrev pub told_unless_fault : Kinds → Bool → Bool
+told_unless_fault [] told = told
+told_unless_fault (kind ∷ kinds) told = false
+
+-- the words ask that rounds, turns and pivots are told; this is no part of their request
+unfoldable pub wants_progress : List Text → Bool
+wants_progress words = told_unless_fault (fault_of tmpl_app words)
+    (option_map_or has_progress (subcommand_of tmpl_app words) false)
 
 -- ---- examples
 

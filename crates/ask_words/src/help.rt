@@ -52,12 +52,14 @@ never exceeds there.
 
 usage: tmpl solve PROGRAM
          [--domain D] [--rows FILE] [--improvements N] [--policy P]
+         [--progress]
 
   PROGRAM           a file in a small subset of C
   --domain D        the rows: intervals if absent, zones, octagons or rows
   --rows FILE       with the domain rows, the file that has them
   --improvements N  up to N rounds of improvements, 1000 if absent
   --policy P        which edge a round picks: best if absent, or first
+  --progress        tells rounds, turns and pivots on standard error
 
 example: tmpl solve examples/sum.c --domain octagons
 
@@ -72,12 +74,14 @@ and why nothing smaller would do. Another program, or check, can follow it.
 
 usage: tmpl certify PROGRAM
          [--domain D] [--rows FILE] [--improvements N] [--policy P]
+         [--progress]
 
   PROGRAM           a file in a small subset of C
   --domain D        the rows: intervals if absent, zones, octagons or rows
   --rows FILE       with the domain rows, the file that has them
   --improvements N  up to N rounds of improvements, 1000 if absent
   --policy P        which edge a round picks: best if absent, or first
+  --progress        tells rounds, turns and pivots on standard error
 
 example: tmpl certify examples/sum.c --domain octagons > sum.cert
 
@@ -132,6 +136,7 @@ program prove it, with a state that they allow where it is open.
 
 usage: tmpl prove PROGRAM CLAIMS
          [--domain D] [--rows FILE] [--improvements N] [--policy P]
+         [--progress]
 
   PROGRAM           a file in a small subset of C
   CLAIMS            a file of claims, as LABEL: x <= 10;
@@ -139,6 +144,7 @@ usage: tmpl prove PROGRAM CLAIMS
   --rows FILE       with the domain rows, the file that has them
   --improvements N  up to N rounds of improvements, 1000 if absent
   --policy P        which edge a round picks: best if absent, or first
+  --progress        tells rounds, turns and pivots on standard error
 
 example: tmpl prove examples/pair.c examples/pair.claims
 
@@ -153,12 +159,14 @@ between them, as another tool may write them down.
 
 usage: tmpl transitions FILE
          [--domain D] [--rows FILE] [--improvements N] [--policy P]
+         [--progress]
 
   FILE              points and edges, instead of a program
   --domain D        the rows: intervals if absent, zones, octagons or rows
   --rows FILE       with the domain rows, the file that has them
   --improvements N  up to N rounds of improvements, 1000 if absent
   --policy P        which edge a round picks: best if absent, or first
+  --progress        tells rounds, turns and pivots on standard error
 
 example: tmpl transitions examples/buffer.tsys
 
@@ -170,11 +178,12 @@ exit codes: 0 written, 2 wrong words, 3 file not read, 4 text refused or too
 const EQUATIONS: &[u8] = b"Prints the least solution of rational equations with maxima and minima.
 
 usage: tmpl equations FILE
-         [--improvements N] [--policy P]
+         [--improvements N] [--policy P] [--progress]
 
   FILE              equations, as x = max(0, 1:2*y + 1);
   --improvements N  up to N rounds of improvements, 1000 if absent
   --policy P        which edge a round picks: best if absent, or first
+  --progress        tells rounds, turns and pivots on standard error
 
 example: tmpl equations examples/fair.equ
 
@@ -201,12 +210,14 @@ state that they allow where it is open.
 
 usage: tmpl verify PROGRAM
          [--domain D] [--rows FILE] [--improvements N] [--policy P]
+         [--progress]
 
   PROGRAM           a file in a small subset of C
   --domain D        the rows: intervals if absent, zones, octagons or rows
   --rows FILE       with the domain rows, the file that has them
   --improvements N  up to N rounds of improvements, 1000 if absent
   --policy P        which edge a round picks: best if absent, or first
+  --progress        tells rounds, turns and pivots on standard error
 
 example: tmpl verify examples/assertions.c --domain octagons
 
@@ -283,5 +294,5 @@ pub fn usage_line() -> &'static [u8]
       | check PROGRAM CERT | bench --seed N --loops K | upgrade CERT \
       | prove PROGRAM CLAIMS (the options of solve) | transitions FILE (the options of solve) \
       | equations FILE [--improvements N] [--policy P] | points PROGRAM | verify PROGRAM (the options of solve) \
-      | help [COMMAND]\n"
+      | solve, certify, prove, verify, transitions, equations: [--progress] | help [COMMAND]\n"
 }

@@ -1,11 +1,11 @@
 //! What the definition of a request says of some lists of words.
 
-ghost use Rattle.std.specs.Prelude.{◌≡◌, ◌≢◌, ◌++◌, ℕ, List, [], ◌∷◌, None, Some, codes, map, true};
+ghost use Rattle.std.specs.Prelude.{◌≡◌, ◌≢◌, ◌++◌, ℕ, List, [], ◌∷◌, None, Some, codes, map, true, false};
 ghost use Rattle.clap.specs.Simple.{Shape};
 ghost use Rattle.clap.specs.Words.{Text};
 ghost use Rattle.ask_words.specs.Help.{head_of, help_text, is_screen, options_of, stands_in, topics};
 ghost use Rattle.ask_words.specs.Laws.{SolveReports};
-ghost use Rattle.ask_words.specs.Request.{examples, plain_analysis, request_of, tmpl_app};
+ghost use Rattle.ask_words.specs.Request.{examples, plain_analysis, request_of, tmpl_app, wants_progress};
 ghost use Rattle.ask_words.specs.declared.help.Topic.{Topic};
 ghost use Rattle.ask_words.specs.declared.help.Topic.TheVariants as page;
 ghost use Rattle.ask_words.specs.declared.request.Domain.TheVariants.{Intervals, Zones};
@@ -41,6 +41,19 @@ pub fn request_laws()
     // A request for help among the options is no command, and there is no help on what is none.
     ensures help { request_of (codes "solve" ∷ codes "p" ∷ codes "--help" ∷ []) ≡ None }
     ensures unknown { request_of (codes "help" ∷ codes "annotate" ∷ []) ≡ None }
+{}
+
+/// What is so of `--progress`.
+pub fn progress_laws()
+    // It changes nothing of what is asked, and is asked for where it stands among the options alone.
+    ensures request { request_of (codes "solve" ∷ codes "--progress" ∷ codes "p" ∷ []) ≡ request_of (codes "solve" ∷ codes "p" ∷ []) }
+    ensures asked { wants_progress (codes "solve" ∷ codes "--progress" ∷ codes "p" ∷ []) ≡ true }
+    ensures equations { wants_progress (codes "equations" ∷ codes "e" ∷ codes "--progress" ∷ []) ≡ true }
+    ensures absent { wants_progress (codes "solve" ∷ codes "p" ∷ []) ≡ false }
+    ensures name { wants_progress (codes "solve" ∷ codes "--" ∷ codes "--progress" ∷ []) ≡ false }
+
+    // A command that solves nothing has none.
+    ensures check { request_of (codes "check" ∷ codes "p" ∷ codes "c" ∷ codes "--progress" ∷ []) ≡ None }
 {}
 
 /// What is so of the pages of `help`.

@@ -11,4 +11,4 @@ mod words;
 pub use format::Format;
 pub use help::{Topic, help_text, usage_line};
 pub use request::{Analysis, Domain, Policy, Purpose, Request};
-pub use words::{WordsFault, read_words};
+pub use words::{WordsFault, read_words, wants_progress};

@@ -1,18 +1,20 @@
 //! What the words ask for: the commands, the words that each takes, as they are built for `clap`, and the request that they make.
 
 ghost use Rattle.std.specs.Prelude.{◌≡◌, IfOk, false, option_and_then, option_map, unwrap_or};
-ghost use Rattle.clap.specs.Words.{app_of, first_of, found_of, rows_of, rule_of, subcommand_rows_of};
+ghost use Rattle.std.specs.Option.{option_map_or};
+ghost use Rattle.clap.specs.Words.{Text, app_of, first_of, found_of, rows_of, rule_of, subcommand_rows_of};
 ghost use Rattle.clap.specs.declared.Command.TheViews.{out-Command};
 ghost use Rattle.ask_words.specs.Help.{topic_in};
 ghost use Rattle.ask_words.specs.Request.{analyse_in, analysis_app, analysis_in, analysis_text, bench_app, bench_in, check_app, check_in};
-ghost use Rattle.ask_words.specs.Request.{command_in, equations_app, equations_in, help_app, help_in, improvements_in, option_rule, optional_rule};
+ghost use Rattle.ask_words.specs.Request.{command_in, equations_app, equations_in, flag_rule, has_progress, help_app, help_in, improvements_in};
+ghost use Rattle.ask_words.specs.Request.{option_rule, optional_rule};
 ghost use Rattle.ask_words.specs.Request.{points_app, points_in, policy_in, prove_app, prove_in, request_text, tmpl_app, top_app, transitions_in};
 ghost use Rattle.ask_words.specs.Request.{upgrade_app, upgrade_in, verify_in, word_rule};
 
 use crate::help::{Topic, topic_of};
 use crate::values::{domain, number, policy};
 use base_limits::MOST_IMPROVEMENTS;
-use clap::{Arg, ArgMatches, Command};
+use clap::{Arg, ArgAction, ArgMatches, Command};
 use std::alloc::{AllocError, Global};
 
 /// By which rule an edge is picked for an unknown whose bound is improved.
@@ -140,7 +142,8 @@ fn analysis_command<'a>(alloc: Global, name: &'a str) -> Result<Command<'a>, All
     let domain = program.arg(option(alloc, "domain"))?;
     let rows = domain.arg(option(alloc, "rows"))?;
     let improvements = rows.arg(option(alloc, "improvements"))?;
-    Ok(improvements.arg(option(alloc, "policy"))?)
+    let policy = improvements.arg(option(alloc, "policy"))?;
+    Ok(policy.arg(flag(alloc, "progress"))?)
 }
 
 fn check_command<'a>(alloc: Global) -> Result<Command<'a>, AllocError>
@@ -179,7 +182,8 @@ fn equations_command<'a>(alloc: Global) -> Result<Command<'a>, AllocError>
 {
     let file = Command::new(alloc, "equations").arg(word(alloc, "file"))?;
     let improvements = file.arg(option(alloc, "improvements"))?;
-    Ok(improvements.arg(option(alloc, "policy"))?)
+    let policy = improvements.arg(option(alloc, "policy"))?;
+    Ok(policy.arg(flag(alloc, "progress"))?)
 }
 
 fn points_command<'a>(alloc: Global) -> Result<Command<'a>, AllocError>
@@ -218,6 +222,34 @@ fn option<'a>(alloc: Global, name: &'a str) -> Arg<'a>
     ensures local { result.global ≡ false }
 {
     Arg::new(alloc, name).long(name)
+}
+
+// An option without a value.
+fn flag<'a>(alloc: Global, name: &'a str) -> Arg<'a>
+    ensures rule { rule_of result ≡ flag_rule name.entry.now }
+    ensures local { result.global ≡ false }
+{
+    Arg::new(alloc, name).long(name).action(ArgAction::SetTrue)
+}
+
+/// Whether progress is asked for in these matches.
+pub(crate) fn progress_in(matches: &ArgMatches<'_>) -> bool
+    ensures { result ≡ option_map_or has_progress (subcommand_rows_of matches.now) false }
+{
+    match matches.subcommand() {
+        Some((_, given)) => is_progress(given),
+        None => false,
+    }
+}
+
+// Whether the option is among the words of a command.
+fn is_progress(given: &ArgMatches<'_>) -> bool
+    ensures { (name : Text) → result ≡ has_progress (name, rows_of (found_of given.now)) }
+{
+    match value(given, "progress") {
+        Some(text) => text == "true",
+        None => false,
+    }
 }
 
 /// The request that these matches make.

@@ -34,12 +34,14 @@ never exceeds there.
 
 usage: tmpl solve PROGRAM
          [--domain D] [--rows FILE] [--improvements N] [--policy P]
+         [--progress]
 
   PROGRAM           a file in a small subset of C
   --domain D        the rows: intervals if absent, zones, octagons or rows
   --rows FILE       with the domain rows, the file that has them
   --improvements N  up to N rounds of improvements, 1000 if absent
   --policy P        which edge a round picks: best if absent, or first
+  --progress        tells rounds, turns and pivots on standard error
 
 example: tmpl solve examples/sum.c --domain octagons
 
@@ -51,11 +53,12 @@ exit codes: 0 written, 2 wrong words, 3 file not read, 4 text refused or too
 const EQUATIONS: &[u8] = b"Prints the least solution of rational equations with maxima and minima.
 
 usage: tmpl equations FILE
-         [--improvements N] [--policy P]
+         [--improvements N] [--policy P] [--progress]
 
   FILE              equations, as x = max(0, 1:2*y + 1);
   --improvements N  up to N rounds of improvements, 1000 if absent
   --policy P        which edge a round picks: best if absent, or first
+  --progress        tells rounds, turns and pivots on standard error
 
 example: tmpl equations examples/fair.equ
 
@@ -70,12 +73,14 @@ state that they allow where it is open.
 
 usage: tmpl verify PROGRAM
          [--domain D] [--rows FILE] [--improvements N] [--policy P]
+         [--progress]
 
   PROGRAM           a file in a small subset of C
   --domain D        the rows: intervals if absent, zones, octagons or rows
   --rows FILE       with the domain rows, the file that has them
   --improvements N  up to N rounds of improvements, 1000 if absent
   --policy P        which edge a round picks: best if absent, or first
+  --progress        tells rounds, turns and pivots on standard error
 
 example: tmpl verify examples/assertions.c --domain octagons
 
