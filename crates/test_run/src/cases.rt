@@ -54,8 +54,8 @@ pub(crate) enum Ending<'a> {
     Start(&'a [u8]),
 }
 
-// Whether a run has this ending.
-fn has_ending(written: &Written, ending: Ending) -> bool {
+/// Whether a run has this ending.
+pub(crate) fn has_ending(written: &Written, ending: Ending) -> bool {
     let out = written.out.bytes();
     match ending {
         Ending::Refused(code, message) => is_as_wanted(written, code, b"", message),

@@ -7,6 +7,7 @@ mod equations;
 mod generated;
 mod loops;
 mod pages;
+mod progress;
 pub(crate) mod reports;
 mod transitions;
 mod upgrades;

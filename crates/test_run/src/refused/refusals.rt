@@ -16,6 +16,7 @@ pub(crate) const USAGE: &[u8] =
 const NO_REQUESTS: &[&str] = &[
     "",
     "bench --seed 1 --loops 47",
+    "check p f --progress",
     "equations p --domain zones",
     "equations",
     "help annotate",
@@ -26,7 +27,10 @@ const NO_REQUESTS: &[&str] = &[
     "points",
     "prove p f f",
     "prove p",
+    "points p --progress",
     "solve p --domain rows",
+    "solve p --progress --progress",
+    "solve p --progress=true",
     "solve p --improvements 1000001",
     "solve",
     "transitions",
