@@ -222,8 +222,12 @@ request_of words = unless_fault (fault_of tmpl_app words)
 -- ---- progress
 
 -- the option `--progress` is among the words of a command
-abbrev pub has_progress : Text × List Row → Bool
-has_progress (name, given) = option_map_or (λ text. bytes_eq text (codes "true")) (first_of (codes "progress") given) false
+abbrev pub has_progress : List Row → Bool
+has_progress given = option_map_or (λ text. bytes_eq text (codes "true")) (first_of (codes "progress") given) false
+
+-- it is among those of a subcommand
+abbrev pub progress_in : Option (Text × List Row) → Bool
+progress_in found = option_map_or has_progress (option_map (λ command. command.1) found) false
 
 -- what is asked of progress, where `clap` finds no fault
 abbrev pub told_unless_fault : Kinds → Bool → Bool
@@ -232,8 +236,7 @@ told_unless_fault (kind ∷ kinds) told = false
 
 -- the words ask that rounds, turns and pivots are told; this is no part of their request
 unfoldable pub wants_progress : List Text → Bool
-wants_progress words = told_unless_fault (fault_of tmpl_app words)
-    (option_map_or has_progress (subcommand_of tmpl_app words) false)
+wants_progress words = told_unless_fault (fault_of tmpl_app words) (progress_in (subcommand_of tmpl_app words))
 
 -- ---- examples
 

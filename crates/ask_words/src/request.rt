@@ -1,14 +1,13 @@
 //! What the words ask for: the commands, the words that each takes, as they are built for `clap`, and the request that they make.
 
 ghost use Rattle.std.specs.Prelude.{◌≡◌, IfOk, false, option_and_then, option_map, unwrap_or};
-ghost use Rattle.std.specs.Option.{option_map_or};
-ghost use Rattle.clap.specs.Words.{Text, app_of, first_of, found_of, rows_of, rule_of, subcommand_rows_of};
+ghost use Rattle.clap.specs.Words.{app_of, first_of, found_of, rows_of, rule_of, subcommand_rows_of};
 ghost use Rattle.clap.specs.declared.Command.TheViews.{out-Command};
 ghost use Rattle.ask_words.specs.Help.{topic_in};
 ghost use Rattle.ask_words.specs.Request.{analyse_in, analysis_app, analysis_in, analysis_text, bench_app, bench_in, check_app, check_in};
 ghost use Rattle.ask_words.specs.Request.{command_in, equations_app, equations_in, flag_rule, has_progress, help_app, help_in};
-ghost use Rattle.ask_words.specs.Request.{improvements_in, option_rule, optional_rule, points_app, points_in, policy_in, prove_app};
-ghost use Rattle.ask_words.specs.Request.{prove_in, request_text, tmpl_app, top_app, transitions_in, upgrade_app, upgrade_in, verify_in};
+ghost use Rattle.ask_words.specs.Request.{improvements_in, option_rule, optional_rule, points_app, points_in, policy_in, progress_in};
+ghost use Rattle.ask_words.specs.Request.{prove_app, prove_in, request_text, tmpl_app, top_app, transitions_in, upgrade_app, upgrade_in, verify_in};
 ghost use Rattle.ask_words.specs.Request.{word_rule};
 
 use crate::help::{Topic, topic_of};
@@ -234,7 +233,7 @@ fn flag<'a>(alloc: Global, name: &'a str) -> Arg<'a>
 
 /// Whether progress is asked for in these matches.
 pub(crate) fn progress_in(matches: &ArgMatches<'_>) -> bool
-    ensures { result ≡ option_map_or has_progress (subcommand_rows_of matches.now) false }
+    ensures { result ≡ progress_in (subcommand_rows_of matches.now) }
 {
     match matches.subcommand() {
         Some((_, given)) => is_progress(given),
@@ -244,7 +243,7 @@ pub(crate) fn progress_in(matches: &ArgMatches<'_>) -> bool
 
 // Whether the option is among the words of a command.
 fn is_progress(given: &ArgMatches<'_>) -> bool
-    ensures { (name : Text) → result ≡ has_progress (name, rows_of (found_of given.now)) }
+    ensures { result ≡ has_progress (rows_of (found_of given.now)) }
 {
     match value(given, "progress") {
         Some(text) => text == "true",

@@ -9,8 +9,7 @@ use Rattle.clap.specs.Words.{IsAmong, Text, fault_of, is_simple, is_simple_and_f
 use Rattle.clap.specs.declared.error.ErrorKind.{ErrorKind}
 use Rattle.clap.proofs.OnLiterals.{clap_on_literals}
 use Rattle.ask_words.specs.Request.{tmpl_app}
-use Rattle.std.specs.Option.{option_map_or}
-use Rattle.ask_words.specs.Request.{command_in, has_progress, request_of, request_text, told_unless_fault, unless_fault, wants_progress}
+use Rattle.ask_words.specs.Request.{command_in, progress_in, request_of, request_text, told_unless_fault, unless_fault, wants_progress}
 
 -- the command line is simple: the words alone give its matches
 pub simple : is_simple tmpl_app ≡ true
@@ -48,10 +47,9 @@ absent None r asked e s is = sym s
 absent (Some x) r asked e s is = let bad : IsErrOf (ok_or (Some x) Usage) Usage = rw e at is in cc
 
 -- where no step fails, progress is asked for by the option
-pub told : (words : List Text) → fault_of tmpl_app words ≡ [] → wants_progress words
-    ≡ option_map_or has_progress (subcommand_of tmpl_app words) false
+pub told : (words : List Text) → fault_of tmpl_app words ≡ [] → wants_progress words ≡ progress_in (subcommand_of tmpl_app words)
 unfolding wants_progress
-told words e = ap (λ kinds. told_unless_fault kinds (option_map_or has_progress (subcommand_of tmpl_app words) false)) e
+told words e = ap (λ kinds. told_unless_fault kinds (progress_in (subcommand_of tmpl_app words))) e
 
 -- where some step fails, it isn't
 pub untold : (words : List Text) (kind : ErrorKind) (kinds : List ErrorKind) → fault_of tmpl_app words ≡ kinds → IsAmong kind kinds
@@ -59,4 +57,4 @@ pub untold : (words : List Text) (kind : ErrorKind) (kinds : List ErrorKind) →
 unfolding wants_progress
 untold words kind [] e among = absurd among
 untold words kind (k ∷ ks) e among =
-    ap (λ kinds. told_unless_fault kinds (option_map_or has_progress (subcommand_of tmpl_app words) false)) e
+    ap (λ kinds. told_unless_fault kinds (progress_in (subcommand_of tmpl_app words))) e
