@@ -7,7 +7,7 @@ use Rattle.ask_words.specs.declared.request.Domain.{Domain}
 use Rattle.ask_words.specs.declared.request.Domain.TheVariants.{Intervals, Zones, Octagons, Rows}
 use Rattle.ask_words.specs.declared.request.Request.{Request as RequestOf}
 use Rattle.ask_words.specs.declared.request.Request.TheVariants.{Analyse, Check, Bench, Upgrade, Prove, Transitions, Equations, Points}
-use Rattle.ask_words.specs.declared.request.Request.TheVariants.{Verify}
+use Rattle.ask_words.specs.declared.request.Request.TheVariants.{Verify, Help}
 use Rattle.ask_files.specs.declared.which.ReadCause.{ReadCause}
 use Rattle.ask_files.specs.declared.which.ReadCause.TheVariants.{Failed, TooLong}
 use Rattle.ask_files.specs.declared.which.Which.{Which}
@@ -39,6 +39,7 @@ files_of (Transitions analysis) = (which.System, analysis.program) ∷ rows_befo
 files_of (Equations file improvements policy) = (which.Equations, file) ∷ []
 files_of (Points program) = (which.Program, program) ∷ []
 files_of (Verify analysis) = (which.Program, analysis.program) ∷ rows_before analysis.domain []
+files_of (Help topic) = []
 
 -- how many bytes a file may have: 65,536, and a certificate 16,777,216
 abbrev pub most_bytes : Which → ℕ
@@ -101,3 +102,4 @@ with_texts (Transitions analysis) contents = Transitions (analysis_with analysis
 with_texts (Equations file improvements policy) contents = Equations (text_at contents 0) improvements policy
 with_texts (Points program) contents = Points (text_at contents 0)
 with_texts (Verify analysis) contents = Verify (analysis_with analysis contents)
+with_texts (Help topic) contents = Help topic

@@ -92,7 +92,7 @@ pub fn request_files<'a>(
             named(Which::Program, program),
             named(Which::Certificate, certificate),
         ]?),
-        Request::Bench { .. } => Ok(Vec::new(alloc)),
+        Request::Bench { .. } | Request::Help { .. } => Ok(Vec::new(alloc)),
         Request::Upgrade { certificate } => Ok(vec![in alloc;
             named(Which::Certificate, certificate),
         ]?),
@@ -236,5 +236,6 @@ pub fn with_texts<'a>(request: Request<&str>, contents: &[&'a [u8]]) -> Request<
         Request::Verify { analysis } => Request::Verify {
             analysis: analysis_with(analysis, contents),
         },
+        Request::Help { topic } => Request::Help { topic },
     }
 }

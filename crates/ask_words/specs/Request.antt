@@ -1,12 +1,16 @@
--- The commands: what `clap` is given, one simple command with ten subcommands; and what a list of words asks for.
-use Rattle.std.specs.Prelude.{◌++◌, ℕ, List, [], ◌∷◌, Option, Some, None, true, codes, option_and_then, option_map, unwrap_or}
+-- The commands: what `clap` is given, one simple command with eleven subcommands; and what a list of words asks for.
+use Rattle.std.specs.Prelude.{ℕ, Bool, List, [], ◌∷◌, Option, Some, None, true, false, codes, option_and_then, option_map, unwrap_or}
 use Rattle.std.specs.Prelude.{if◌then◌else◌}
+use Rattle.std.specs.Option.{option_map_or}
 use Rattle.std.specs.Str.{bytes_eq}
 use Rattle.std.specs.Borrow.{Bor}
 use Rattle.base_limits.specs.declared.limits.TheConstants.{MOST_IMPROVEMENTS}
 use Rattle.clap.specs.Words.{App, Kinds, Row, Rule, Text, fault_of, first_of, new_app, new_rule, subcommand_of, with_rule, with_subcommand}
 use Rattle.clap.specs.Simple.{on_top}
+use Rattle.clap.specs.declared.builder.action.ArgAction.TheVariants.{SetTrue}
+use Rattle.ask_words.specs.Help.{topic_in}
 use Rattle.ask_words.specs.Values.{domain_in, meaning_in, number_in, policies}
+use Rattle.ask_words.specs.declared.help.Topic.TheVariants as page
 use Rattle.ask_words.specs.declared.request.Analysis.{Analysis}
 use Rattle.ask_words.specs.declared.request.Domain.{Domain}
 use Rattle.ask_words.specs.declared.request.Domain.TheVariants.{Intervals, Zones, Octagons, Rows}
@@ -14,18 +18,9 @@ use Rattle.ask_words.specs.declared.request.Request.{Request}
 use Rattle.ask_words.specs.declared.request.Policy.{Policy}
 use Rattle.ask_words.specs.declared.request.Policy.TheVariants.{Best, First}
 use Rattle.ask_words.specs.declared.request.Request.TheVariants.{Analyse, Check, Bench, Upgrade, Prove, Transitions, Equations, Points}
-use Rattle.ask_words.specs.declared.request.Request.TheVariants.{Verify}
+use Rattle.ask_words.specs.declared.request.Request.TheVariants.{Verify, Help}
 use Rattle.ask_words.specs.declared.request.Purpose.{Purpose}
 use Rattle.ask_words.specs.declared.request.Purpose.TheVariants.{Report, Certificate}
-
--- ---- the line that a refusal of the words prints
-
--- the commands and their options, on one line
-abbrev pub usage_text : Text
-usage_text = codes "usage: tmpl solve PROGRAM [--domain D] [--rows FILE] [--improvements N] [--policy P] | certify (the same)"
-    ++ codes " | check PROGRAM CERT | bench --seed N --loops K | upgrade CERT"
-    ++ codes " | prove PROGRAM CLAIMS (the options of solve) | transitions FILE (the options of solve)"
-    ++ codes " | equations FILE [--improvements N] [--policy P] | points PROGRAM | verify PROGRAM (the options of solve)\n"
 
 -- ---- the command line, as `clap` sees it
 
@@ -33,16 +28,24 @@ usage_text = codes "usage: tmpl solve PROGRAM [--domain D] [--rows FILE] [--impr
 abbrev pub word_rule : Text → Rule
 word_rule id = record (new_rule id) { required = true }
 
+-- a positional word that may be left out
+abbrev pub optional_rule : Text → Rule
+optional_rule id = new_rule id
+
 -- an option of one value, which is given at most once
 abbrev pub option_rule : Text → Rule
 option_rule id = record (new_rule id) { long = Some id }
 
--- `solve PROGRAM`, `certify PROGRAM`, `transitions PROGRAM` and `verify PROGRAM`, with four options
+-- an option without a value, which is given at most once
+abbrev pub flag_rule : Text → Rule
+flag_rule id = record (new_rule id) { long = Some id; action = Some SetTrue }
+
+-- `solve PROGRAM`, `certify PROGRAM`, `transitions PROGRAM` and `verify PROGRAM`, with five options
 abbrev pub analysis_app : Text → App
 analysis_app name =
-    with_rule (with_rule (with_rule (with_rule (with_rule (new_app name)
+    with_rule (with_rule (with_rule (with_rule (with_rule (with_rule (new_app name)
     (word_rule (codes "program"))) (option_rule (codes "domain"))) (option_rule (codes "rows")))
-    (option_rule (codes "improvements"))) (option_rule (codes "policy"))
+    (option_rule (codes "improvements"))) (option_rule (codes "policy"))) (flag_rule (codes "progress"))
 
 -- `check PROGRAM CERT`
 abbrev pub check_app : App
@@ -62,26 +65,30 @@ upgrade_app = with_rule (new_app (codes "upgrade")) (word_rule (codes "certifica
 abbrev pub prove_app : App
 prove_app = with_rule (analysis_app (codes "prove")) (word_rule (codes "claims"))
 
--- `equations FILE`, with two options
+-- `equations FILE`, with three options
 abbrev pub equations_app : App
-equations_app = with_rule (with_rule (with_rule (new_app (codes "equations")) (word_rule (codes "file")))
-    (option_rule (codes "improvements"))) (option_rule (codes "policy"))
+equations_app = with_rule (with_rule (with_rule (with_rule (new_app (codes "equations")) (word_rule (codes "file")))
+    (option_rule (codes "improvements"))) (option_rule (codes "policy"))) (flag_rule (codes "progress"))
 
 -- `points PROGRAM`
 abbrev pub points_app : App
 points_app = with_rule (new_app (codes "points")) (word_rule (codes "program"))
 
--- the program's own name isn't among the words, and one of the commands has to be
+-- `help [COMMAND]`
+abbrev pub help_app : App
+help_app = with_rule (new_app (codes "help")) (optional_rule (codes "command"))
+
+-- the program's own name isn't among the words, and one of the commands has to be; `help` is one of these, and not that of `clap`
 abbrev pub top_app : App
-top_app = on_top (λ s. record s { no_binary_name = true; subcommand_required = true })
+top_app = on_top (λ s. record s { no_binary_name = true; subcommand_required = true; disable_help_subcommand = true })
     (new_app (codes "tmpl"))
 
 -- the whole command line
 abbrev pub tmpl_app : App
 tmpl_app = with_subcommand (with_subcommand (with_subcommand (with_subcommand (with_subcommand (with_subcommand (with_subcommand
-    (with_subcommand (with_subcommand (with_subcommand top_app (analysis_app (codes "solve")).top) (analysis_app (codes "certify")).top)
-    check_app.top) bench_app.top) upgrade_app.top) prove_app.top) (analysis_app (codes "transitions")).top) equations_app.top)
-    points_app.top) (analysis_app (codes "verify")).top
+    (with_subcommand (with_subcommand (with_subcommand (with_subcommand top_app (analysis_app (codes "solve")).top)
+    (analysis_app (codes "certify")).top) check_app.top) bench_app.top) upgrade_app.top) prove_app.top)
+    (analysis_app (codes "transitions")).top) equations_app.top) points_app.top) (analysis_app (codes "verify")).top) help_app.top
 
 -- ---- the texts of a request that borrows them
 
@@ -112,6 +119,7 @@ request_text (Transitions a) = Transitions (analysis_text a)
 request_text (Equations file improvements policy) = Equations file.now improvements policy
 request_text (Points program) = Points program.now
 request_text (Verify a) = Verify (analysis_text a)
+request_text (Help topic) = Help topic
 
 -- ---- commands, by the words and options that were given
 
@@ -183,6 +191,10 @@ points_in given = option_map (λ program. Points program) (first_of (codes "prog
 abbrev pub verify_in : List Row → Option (Request Text)
 verify_in given = option_map (λ a. Verify a) (analysis_in given)
 
+-- `help`: a page
+abbrev pub help_in : List Row → Option (Request Text)
+help_in given = option_map (λ topic. Help topic) (topic_in (first_of (codes "command") given))
+
 -- the request of a command by its name
 abbrev pub command_in : Text × List Row → Option (Request Text)
 command_in (name, given) = if bytes_eq name (codes "solve") then analyse_in Report given
@@ -194,7 +206,8 @@ command_in (name, given) = if bytes_eq name (codes "solve") then analyse_in Repo
     else (if bytes_eq name (codes "transitions") then transitions_in given
     else (if bytes_eq name (codes "equations") then equations_in given
     else (if bytes_eq name (codes "points") then points_in given
-    else (if bytes_eq name (codes "verify") then verify_in given else None)))))))))
+    else (if bytes_eq name (codes "verify") then verify_in given
+    else (if bytes_eq name (codes "help") then help_in given else None))))))))))
 
 -- what is asked, where `clap` finds no fault
 abbrev pub unless_fault : Kinds → Option (Request Text) → Option (Request Text)
@@ -205,6 +218,25 @@ unless_fault (kind ∷ kinds) asked = None
 unfoldable pub request_of : List Text → Option (Request Text)
 request_of words = unless_fault (fault_of tmpl_app words)
     (option_and_then command_in (subcommand_of tmpl_app words))
+
+-- ---- progress
+
+-- the option `--progress` is among the words of a command
+abbrev pub has_progress : List Row → Bool
+has_progress given = option_map_or (λ text. bytes_eq text (codes "true")) (first_of (codes "progress") given) false
+
+-- it is among those of a subcommand
+abbrev pub progress_in : Option (Text × List Row) → Bool
+progress_in found = option_map_or has_progress (option_map (λ command. command.1) found) false
+
+-- what is asked of progress, where `clap` finds no fault
+abbrev pub told_unless_fault : Kinds → Bool → Bool
+told_unless_fault [] told = told
+told_unless_fault (kind ∷ kinds) told = false
+
+-- the words ask that rounds, turns and pivots are told; this is no part of their request
+unfoldable pub wants_progress : List Text → Bool
+wants_progress words = told_unless_fault (fault_of tmpl_app words) (progress_in (subcommand_of tmpl_app words))
 
 -- ---- examples
 
@@ -230,4 +262,7 @@ examples =
     ∷ (codes "points" ∷ codes "p" ∷ [], Points (codes "p"))
     -- the checks of a program are judged by the bounds of its analysis
     ∷ (codes "verify" ∷ codes "p" ∷ codes "--domain=octagons" ∷ [], Verify (plain_analysis (codes "p") Octagons))
+    -- help is given on itself, and on a command
+    ∷ (codes "help" ∷ [], Help page.Overview)
+    ∷ (codes "help" ∷ codes "prove" ∷ [], Help page.Prove)
     ∷ []

@@ -3,14 +3,17 @@
 ghost use Rattle.std.specs.Prelude.{◌≡◌, IfOk, false, option_and_then, option_map, unwrap_or};
 ghost use Rattle.clap.specs.Words.{app_of, first_of, found_of, rows_of, rule_of, subcommand_rows_of};
 ghost use Rattle.clap.specs.declared.Command.TheViews.{out-Command};
+ghost use Rattle.ask_words.specs.Help.{topic_in};
 ghost use Rattle.ask_words.specs.Request.{analyse_in, analysis_app, analysis_in, analysis_text, bench_app, bench_in, check_app, check_in};
-ghost use Rattle.ask_words.specs.Request.{command_in, equations_app, equations_in, improvements_in, option_rule, points_app, points_in};
-ghost use Rattle.ask_words.specs.Request.{policy_in, prove_app, prove_in, request_text, tmpl_app, top_app, transitions_in, upgrade_app};
-ghost use Rattle.ask_words.specs.Request.{upgrade_in, usage_text, verify_in, word_rule};
+ghost use Rattle.ask_words.specs.Request.{command_in, equations_app, equations_in, flag_rule, has_progress, help_app, help_in};
+ghost use Rattle.ask_words.specs.Request.{improvements_in, option_rule, optional_rule, points_app, points_in, policy_in, progress_in};
+ghost use Rattle.ask_words.specs.Request.{prove_app, prove_in, request_text, tmpl_app, top_app, transitions_in, upgrade_app, upgrade_in, verify_in};
+ghost use Rattle.ask_words.specs.Request.{word_rule};
 
+use crate::help::{Topic, topic_of};
 use crate::values::{domain, number, policy};
 use base_limits::MOST_IMPROVEMENTS;
-use clap::{Arg, ArgMatches, Command};
+use clap::{Arg, ArgAction, ArgMatches, Command};
 use std::alloc::{AllocError, Global};
 
 /// By which rule an edge is picked for an unknown whose bound is improved.
@@ -96,16 +99,10 @@ pub enum Request<T> {
     Verify {
         analysis: Analysis<T>,
     },
-}
-
-/// The line, with its line feed, that says which words make a command.
-pub fn usage_line() -> &'static [u8]
-    ensures { result.now ≡ usage_text }
-{
-    b"usage: tmpl solve PROGRAM [--domain D] [--rows FILE] [--improvements N] [--policy P] | certify (the same) \
-      | check PROGRAM CERT | bench --seed N --loops K | upgrade CERT \
-      | prove PROGRAM CLAIMS (the options of solve) | transitions FILE (the options of solve) \
-      | equations FILE [--improvements N] [--policy P] | points PROGRAM | verify PROGRAM (the options of solve)\n"
+    /// Write the page of a command.
+    Help {
+        topic: Topic,
+    },
 }
 
 /// The whole command line.
@@ -121,16 +118,18 @@ pub(crate) fn command_line<'a>(alloc: Global) -> Result<Command<'a>, AllocError>
     let transitions = prove.subcommand(analysis_command(alloc, "transitions")?)?;
     let equations = transitions.subcommand(equations_command(alloc)?)?;
     let points = equations.subcommand(points_command(alloc)?)?;
-    Ok(points.subcommand(analysis_command(alloc, "verify")?)?)
+    let verify = points.subcommand(analysis_command(alloc, "verify")?)?;
+    Ok(verify.subcommand(help_command(alloc)?)?)
 }
 
-// The program, whose own name isn't among the words; one of the commands has to be.
+// The program, whose own name isn't among the words; one of the commands has to be, and `help` is one of them.
 fn top_command<'a>(alloc: Global) -> Command<'a>
     ensures { app_of result ≡ top_app }
 {
     Command::new(alloc, "tmpl")
         .no_binary_name(true)
         .subcommand_required(true)
+        .disable_help_subcommand(true)
 }
 
 // `solve`, `certify`, `transitions` or `verify`.
@@ -142,7 +141,8 @@ fn analysis_command<'a>(alloc: Global, name: &'a str) -> Result<Command<'a>, All
     let domain = program.arg(option(alloc, "domain"))?;
     let rows = domain.arg(option(alloc, "rows"))?;
     let improvements = rows.arg(option(alloc, "improvements"))?;
-    Ok(improvements.arg(option(alloc, "policy"))?)
+    let policy = improvements.arg(option(alloc, "policy"))?;
+    Ok(policy.arg(flag(alloc, "progress"))?)
 }
 
 fn check_command<'a>(alloc: Global) -> Result<Command<'a>, AllocError>
@@ -181,7 +181,8 @@ fn equations_command<'a>(alloc: Global) -> Result<Command<'a>, AllocError>
 {
     let file = Command::new(alloc, "equations").arg(word(alloc, "file"))?;
     let improvements = file.arg(option(alloc, "improvements"))?;
-    Ok(improvements.arg(option(alloc, "policy"))?)
+    let policy = improvements.arg(option(alloc, "policy"))?;
+    Ok(policy.arg(flag(alloc, "progress"))?)
 }
 
 fn points_command<'a>(alloc: Global) -> Result<Command<'a>, AllocError>
@@ -189,6 +190,21 @@ fn points_command<'a>(alloc: Global) -> Result<Command<'a>, AllocError>
     ensures local { IfOk result (λ command. (out-Command command).has_globals ≡ false) }
 {
     Ok(Command::new(alloc, "points").arg(word(alloc, "program"))?)
+}
+
+fn help_command<'a>(alloc: Global) -> Result<Command<'a>, AllocError>
+    ensures app { IfOk result (λ command. app_of command ≡ help_app) }
+    ensures local { IfOk result (λ command. (out-Command command).has_globals ≡ false) }
+{
+    Ok(Command::new(alloc, "help").arg(optional(alloc, "command"))?)
+}
+
+// A positional word that may be left out.
+fn optional<'a>(alloc: Global, name: &'a str) -> Arg<'a>
+    ensures rule { rule_of result ≡ optional_rule name.entry.now }
+    ensures local { result.global ≡ false }
+{
+    Arg::new(alloc, name)
 }
 
 // A positional word that has to be there.
@@ -205,6 +221,34 @@ fn option<'a>(alloc: Global, name: &'a str) -> Arg<'a>
     ensures local { result.global ≡ false }
 {
     Arg::new(alloc, name).long(name)
+}
+
+// An option without a value.
+fn flag<'a>(alloc: Global, name: &'a str) -> Arg<'a>
+    ensures rule { rule_of result ≡ flag_rule name.entry.now }
+    ensures local { result.global ≡ false }
+{
+    Arg::new(alloc, name).long(name).action(ArgAction::SetTrue)
+}
+
+/// Whether progress is asked for in these matches.
+pub(crate) fn progress_in(matches: &ArgMatches<'_>) -> bool
+    ensures { result ≡ progress_in (subcommand_rows_of matches.now) }
+{
+    match matches.subcommand() {
+        Some((_, given)) => is_progress(given),
+        None => false,
+    }
+}
+
+// Whether the option is among the words of a command.
+fn is_progress(given: &ArgMatches<'_>) -> bool
+    ensures { result ≡ has_progress (rows_of (found_of given.now)) }
+{
+    match value(given, "progress") {
+        Some(text) => text == "true",
+        None => false,
+    }
 }
 
 /// The request that these matches make.
@@ -240,6 +284,8 @@ fn command<'a>(name: &str, given: &ArgMatches<'a>) -> Option<Request<&'a str>>
         points(given)
     } else if name == "verify" {
         verify(given)
+    } else if name == "help" {
+        help(given)
     } else {
         None
     }
@@ -335,6 +381,13 @@ fn verify<'a>(given: &ArgMatches<'a>) -> Option<Request<&'a str>>
 {
     let analysis = analysis_in(given)?;
     Some(Request::Verify { analysis })
+}
+
+fn help<'a>(given: &ArgMatches<'_>) -> Option<Request<&'a str>>
+    ensures { option_map request_text result ≡ help_in (rows_of (found_of given.now)) }
+{
+    let topic = topic_of(value(given, "command"))?;
+    Some(Request::Help { topic })
 }
 
 // How many improvements are made at most.

@@ -6,6 +6,8 @@ mod claims;
 mod equations;
 mod generated;
 mod loops;
+mod pages;
+mod progress;
 pub(crate) mod reports;
 mod transitions;
 mod upgrades;

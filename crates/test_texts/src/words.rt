@@ -1,7 +1,9 @@
 //! Words of the command line, and what they ask for.
 
 use crate::texts::{Case, first_wrong};
-use ask_words::{Analysis, Domain, Policy, Purpose, Request, WordsFault, read_words, usage_line};
+use ask_words::{
+    Analysis, Domain, Policy, Purpose, Request, Topic, WordsFault, read_words, usage_line,
+};
 use std::alloc::{AllocError, Global};
 
 // The words of a line, one behind each blank; the empty line has none.
@@ -196,6 +198,24 @@ const OTHERS: &[(&str, Request<&str>)] = &[
             },
         },
     ),
+    (
+        "help",
+        Request::Help {
+            topic: Topic::Overview,
+        },
+    ),
+    (
+        "help help",
+        Request::Help {
+            topic: Topic::Overview,
+        },
+    ),
+    (
+        "help transitions",
+        Request::Help {
+            topic: Topic::Transitions,
+        },
+    ),
 ];
 
 #[test]
@@ -255,7 +275,11 @@ const REFUSED: &[&str] = &[
     "verify p c",
     "verify p --domain rows",
     "--help",
-    "help",
+    "help solve prove",
+    "help annotate",
+    "help --domain zones",
+    "help --help",
+    "help ",
     "solve p -h",
     "--version",
     "-V",
@@ -269,5 +293,5 @@ fn other_words_ask_for_nothing(rt: HostRuntime) {
 #[test]
 fn usage(rt: HostRuntime) {
     assert!(rt; usage_line().starts_with(b"usage: tmpl solve PROGRAM [--domain D]"));
-    assert!(rt; usage_line().len() == 363);
+    assert!(rt; usage_line().len() == 450);
 }

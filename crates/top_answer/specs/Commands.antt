@@ -9,6 +9,7 @@ use Rattle.flow_systems.specs.declared.system.System.{System}
 use Rattle.flow_systems.specs.Equations.{Least, Vector}
 use Rattle.flow_systems.specs.Solutions.{equations_of_program}
 use Rattle.flow_systems.specs.View.{equations_of}
+use Rattle.ask_words.specs.Help.{help_text}
 use Rattle.ask_words.specs.declared.request.Analysis.{Analysis}
 use Rattle.ask_words.specs.declared.request.Domain.{Domain}
 use Rattle.ask_words.specs.declared.request.Policy.{Policy}
@@ -16,7 +17,7 @@ use Rattle.ask_words.specs.declared.request.Policy.TheVariants.{Best}
 use Rattle.ask_words.specs.declared.request.Purpose.{Purpose}
 use Rattle.ask_words.specs.declared.request.Purpose.TheVariants.{Report, Certificate as AsCertificate}
 use Rattle.ask_words.specs.declared.request.Request.TheVariants.{Analyse, Check, Bench, Upgrade, Prove, Transitions, Equations, Points}
-use Rattle.ask_words.specs.declared.request.Request.TheVariants.{Verify}
+use Rattle.ask_words.specs.declared.request.Request.TheVariants.{Verify, Help}
 use Rattle.cert_text.specs.declared.fault.FormFault.{FormFault}
 use Rattle.cert_text.specs.declared.fault.FormFault.TheVariants.{Expanded}
 use Rattle.ask_files.specs.Files.{Request}
@@ -220,3 +221,4 @@ command_of m (Verify a) = record (deciding (λ status. VerifyEnds m a status) (�
   in_range = a.improvements ≤ MOST_IMPROVEMENTS;
   in_limits = IsWithin a;
 }
+command_of m (Help topic) = deciding (λ status. status ≡ Done) (λ bytes. bytes ≡ help_text topic)

@@ -6,6 +6,7 @@ ghost use Rattle.lang_tree.specs.Tree.{Statements};
 ghost use Rattle.flow_edges.specs.Edges.{edges_of_program};
 ghost use Rattle.flow_edges.specs.Points.{points_of_program};
 ghost use Rattle.flow_systems.specs.declared.system.System.{System as SystemValue};
+ghost use Rattle.ask_words.specs.Help.{help_text};
 ghost use Rattle.ask_words.specs.Request.{analysis_text, request_text};
 ghost use Rattle.ask_words.specs.declared.request.Request.TheVariants.{Analyse, Check};
 ghost use Rattle.top_answer.specs.Commands.{IsWithin, command_of, text_of_proof};
@@ -17,7 +18,7 @@ ghost use Rattle.top_texts.specs.Exact.{exact};
 ghost use Rattle.top_texts.specs.Outcomes.{IsHalted, IsOutputOf};
 ghost use Rattle.top_texts.specs.Texts.{IsSolvedSystem};
 
-use ask_words::{Analysis, Policy, Purpose, Request};
+use ask_words::{Analysis, Policy, Purpose, Request, Topic, help_text};
 use base_watch::Watch;
 use flow_systems::System;
 use std::alloc::Global;
@@ -172,6 +173,14 @@ fn checked(alloc: Global, text: &[u8], certificate: &[u8]) -> Outcome
     }
 }
 
+// The page of a command.
+fn page_of(alloc: Global, topic: Topic) -> Result<Vec<u8>, Refusal>
+    ensures ok { IfOk result (λ bytes. bytes.items ≡ help_text topic) }
+    ensures err { IfErr result (λ refusal. refusal ≡ Refusal.NoMemory) }
+{
+    Ok(help_text(topic).to_vec(alloc)?)
+}
+
 // What a command comes to, with its texts in place of the names of its files.
 pub(crate) fn outcome_of<W: Watch>(alloc: Global, asked: Request<&[u8]>, watch: &mut W) -> Outcome
     requires { (command_of exact (request_text asked)).in_limits }
@@ -238,6 +247,7 @@ pub(crate) fn outcome_of<W: Watch>(alloc: Global, asked: Request<&[u8]>, watch: 
             );
             outcome_by(alloc, made)
         }
+        Request::Help { topic } => outcome_from(alloc, page_of(alloc, topic), 0),
     }
 }
 
@@ -260,7 +270,7 @@ pub(crate) fn named_text<'a>(asked: Request<&'a [u8]>, status: &Status) -> &'a [
     match asked {
         Request::Analyse { analysis, .. } => analysis.program,
         Request::Check { program, .. } => program,
-        Request::Bench { .. } | Request::Upgrade { .. } => &[],
+        Request::Bench { .. } | Request::Upgrade { .. } | Request::Help { .. } => &[],
         Request::Prove { claims, analysis } => text_of_proof(analysis.program, claims, status),
         Request::Transitions { analysis } => analysis.program,
         Request::Equations { file, .. } => file,

@@ -10,6 +10,7 @@ ghost use Rattle.top_run.specs.Seen.{shelf_with, sink_with};
 
 use crate::program::run;
 use base_files::{Shelf, Sink};
+use base_watch::Watch;
 use std::alloc::Global;
 use top_answer::{Exact, Meaning};
 use top_status::Status;
@@ -21,12 +22,13 @@ use top_status::Status;
 /// vector over the template, which every run of the program keeps to, with the number of improvements by the policy. Where the
 /// improvements end within the limit, it is done, but for want of memory, a fraction that is too wide, a joint problem that is too large,
 /// or an output that failed in this call. Where they aren't all read, a file failed in this call or is too long, or memory was wanted.
-pub fn headline<S: Shelf, K: Sink, L: Sink>(
+pub fn headline<S: Shelf, K: Sink, L: Sink, W: Watch>(
     alloc: Global,
     words: &[String],
     shelf: &mut S,
     out: &mut K,
     err: &mut L,
+    watch: &mut W,
 ) -> Status
     ensures { (analysis : Analysis (List ℕ)) → request_of (map string_bytes words.now) ≡ Some (Analyse Report analysis)
         → IsHeadline ⟦<Exact as Meaning>⟧.means analysis
@@ -35,5 +37,5 @@ pub fn headline<S: Shelf, K: Sink, L: Sink>(
         (sink_with (K.held out.old) (K.taken out.old) (K.faults out.old) (K.spare out.old))
         (sink_with (K.held out.new) (K.taken out.new) (K.faults out.new) (K.spare out.new)) result }
 {
-    run(alloc, words, shelf, out, err)
+    run(alloc, words, shelf, out, err, watch)
 }

@@ -7,6 +7,7 @@ ghost use Rattle.top_status.specs.Messages.{line_text, message_of, parse_words, 
 ghost use Rattle.top_status.specs.Parts.{told};
 
 mod check;
+pub(crate) mod event;
 pub(crate) mod place;
 
 use crate::status::{Excess, Status, TextCause};

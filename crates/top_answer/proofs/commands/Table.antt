@@ -4,11 +4,11 @@ use Rattle.std.specs.Prelude.{Option, Some, None, codes}
 use Rattle.std.specs.Str.{bytes_eq}
 use Rattle.clap.specs.Words.{Row, Text}
 use Rattle.ask_files.specs.Files.{Request, files_of, unread, with_texts}
-use Rattle.ask_words.specs.Request.{analyse_in, bench_in, check_in, command_in, equations_in, points_in, prove_in, transitions_in}
-use Rattle.ask_words.specs.Request.{upgrade_in, verify_in}
+use Rattle.ask_words.specs.Request.{analyse_in, bench_in, check_in, command_in, equations_in, help_in, points_in, prove_in}
+use Rattle.ask_words.specs.Request.{transitions_in, upgrade_in, verify_in}
 use Rattle.ask_words.specs.declared.request.Purpose.TheVariants.{Report, Certificate}
 use Rattle.ask_words.specs.declared.request.Request.TheVariants.{Analyse, Check, Bench, Upgrade, Prove, Transitions, Equations, Points}
-use Rattle.ask_words.specs.declared.request.Request.TheVariants.{Verify}
+use Rattle.ask_words.specs.declared.request.Request.TheVariants.{Verify, Help}
 use Rattle.top_answer.specs.Commands.{command_of}
 use Rattle.top_texts.specs.Exact.{exact}
 use Rattle.top_answer.proofs.commands.Analyses.{analyses, analysis_range}
@@ -17,6 +17,7 @@ use Rattle.top_answer.proofs.commands.Claims.{claims, claims_range}
 use Rattle.top_answer.proofs.commands.Equations.{equations, equations_range}
 use Rattle.top_answer.proofs.commands.Generated.{bench_range, benches}
 use Rattle.top_answer.proofs.commands.Lawful.{IsCommand, IsInRange, IsLawful}
+use Rattle.top_answer.proofs.commands.Pages.{help_range, pages}
 use Rattle.top_answer.proofs.commands.Plain.{points, points_range, upgrade_range, upgrades}
 use Rattle.top_answer.proofs.commands.Transitions.{transitions, transitions_range}
 use Rattle.top_answer.proofs.commands.Verified.{verifies, verify_range}
@@ -33,6 +34,7 @@ table (Transitions a) = transitions a
 table (Equations text limit policy) = equations text limit policy
 table (Points text) = points text
 table (Verify a) = verifies a
+table (Help topic) = pages topic
 
 -- the commands of the program are lawful
 pub lawful : IsLawful (command_of exact)
@@ -62,5 +64,6 @@ named_range (name, given) r e =
     (if_range (bytes_eq name (codes "transitions")) (transitions_in given) _ r (transitions_range given r)
     (if_range (bytes_eq name (codes "equations")) (equations_in given) _ r (equations_range given r)
     (if_range (bytes_eq name (codes "points")) (points_in given) _ r (points_range given r)
-    (if_range (bytes_eq name (codes "verify")) (verify_in given) None r (verify_range given r) (λ h. absurd (none_some r h)))))))))))
+    (if_range (bytes_eq name (codes "verify")) (verify_in given) _ r (verify_range given r)
+    (if_range (bytes_eq name (codes "help")) (help_in given) None r (help_range given r) (λ h. absurd (none_some r h))))))))))))
     e

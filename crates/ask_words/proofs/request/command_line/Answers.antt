@@ -4,7 +4,8 @@ use Rattle.ask_words.proofs.request.command_line.Goals as goal
 
 pub returns : goal.returns
 returns c =
-    c.in_ok-subcommand.ensures.shape c.in_ok-analysis_command-4.ensures.local
+    c.in_ok-subcommand.ensures.shape c.in_ok-help_command.ensures.local
+    ∙ ap₂ with_subcommand (c.in_ok-verify.ensures.shape c.in_ok-analysis_command-4.ensures.local
     ∙ ap₂ with_subcommand (c.in_ok-points.ensures.shape c.in_ok-points_command.ensures.local
     ∙ ap₂ with_subcommand (c.in_ok-equations.ensures.shape c.in_ok-equations_command.ensures.local
     ∙ ap₂ with_subcommand (c.in_ok-transitions.ensures.shape c.in_ok-analysis_command-3.ensures.local
@@ -23,4 +24,5 @@ returns c =
     (ap (λ (a : App). a.top) c.in_ok-analysis_command-3.ensures.app))
     (ap (λ (a : App). a.top) c.in_ok-equations_command.ensures.app))
     (ap (λ (a : App). a.top) c.in_ok-points_command.ensures.app))
-    (ap (λ (a : App). a.top) c.in_ok-analysis_command-4.ensures.app)
+    (ap (λ (a : App). a.top) c.in_ok-analysis_command-4.ensures.app))
+    (ap (λ (a : App). a.top) c.in_ok-help_command.ensures.app)

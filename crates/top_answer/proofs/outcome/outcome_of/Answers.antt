@@ -6,6 +6,7 @@ use Rattle.top_texts.specs.Exact.{exact}
 use Rattle.top_answer.proofs.commands.Generated.{benched}
 use Rattle.top_answer.proofs.commands.Claims.{proved}
 use Rattle.top_answer.proofs.commands.Equations.{equated}
+use Rattle.top_answer.proofs.commands.Pages.{helped}
 use Rattle.top_answer.proofs.commands.Plain.{pointed, upgraded}
 use Rattle.top_answer.proofs.commands.Transitions.{transited}
 use Rattle.top_answer.proofs.commands.Verified.{verified}
@@ -59,3 +60,9 @@ returns-in-Verify-clause-says g c =
     subst (λ r. Says (command_of exact (request_text r)) c.outcome_by.result.status c.outcome_by.result.bytes.items) (sym c.in-Verify.is)
     (verified (analysis_text c.in-Verify.analysis) _ _ _ c.verify_text-made.ensures.ok c.verify_text-made.ensures.err
     c.outcome_by.ensures)
+
+pub returns-in-Help-clause-says : goal.returns-in-Help-clause-says
+returns-in-Help-clause-says g c =
+    subst (λ r. Says (command_of exact (request_text r)) c.outcome_from-in-Help.result.status c.outcome_from-in-Help.result.bytes.items)
+    (sym c.in-Help.is)
+    (helped c.in-Help.topic _ _ _ c.page_of.ensures.ok c.page_of.ensures.err c.outcome_from-in-Help.ensures.is)
