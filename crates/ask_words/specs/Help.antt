@@ -136,11 +136,15 @@ about page.Points = codes "  PROGRAM  a file in a small subset of C\n"
 about page.Verify = codes "  PROGRAM           a file in a small subset of C\n"
     ++ about_analysis
 
+-- an option in examples
+abbrev pub over_octagons : Text
+over_octagons = codes " --domain octagons"
+
 -- words that stand for themselves, as an example
 abbrev pub example_of : Topic → Text
 example_of page.Overview = codes "help solve"
-example_of page.Solve = codes "solve examples/sum.c --domain octagons"
-example_of page.Certify = codes "certify examples/sum.c --domain octagons > sum.cert"
+example_of page.Solve = codes "solve examples/sum.c" ++ over_octagons
+example_of page.Certify = codes "certify examples/sum.c" ++ over_octagons ++ codes " > sum.cert"
 example_of page.Check = codes "check examples/sum.c sum.cert"
 example_of page.Bench = codes "bench --seed 1 --loops 10"
 example_of page.Upgrade = codes "upgrade old.cert > new.cert"
@@ -148,7 +152,7 @@ example_of page.Prove = codes "prove examples/pair.c examples/pair.claims"
 example_of page.Transitions = codes "transitions examples/buffer.tsys"
 example_of page.Equations = codes "equations examples/fair.equ"
 example_of page.Points = codes "points examples/pair.c"
-example_of page.Verify = codes "verify examples/assertions.c --domain octagons"
+example_of page.Verify = codes "verify examples/assertions.c" ++ over_octagons
 
 -- the exit codes of an analysis
 abbrev pub analysis_codes : Text

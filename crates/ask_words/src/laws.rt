@@ -38,9 +38,8 @@ pub fn request_laws()
         ∷ codes "--policy=best" ∷ []) ≡ None }
     ensures nothing { request_of [] ≡ None }
 
-    // A request for help among the options is no command, and there is no help on what is none.
+    // A request for help among the options is no command.
     ensures help { request_of (codes "solve" ∷ codes "p" ∷ codes "--help" ∷ []) ≡ None }
-    ensures unknown { request_of (codes "help" ∷ codes "annotate" ∷ []) ≡ None }
 {}
 
 /// What is so of `--progress`.
@@ -60,6 +59,7 @@ pub fn progress_laws()
 pub fn page_laws()
     // Each command has a page, in the order of the command line, and there is no other page.
     ensures commands { map (λ (row : Text × Topic). row.0) topics ≡ map (λ (command : Shape). command.name) tmpl_app.subs }
+    ensures unknown { request_of (codes "help" ∷ codes "annotate" ∷ []) ≡ None }
 
     // It is on one screen, and has the words of its command; the page of `help` has those of each command.
     ensures screen { (topic : Topic) → is_screen (help_text topic) ≡ true }

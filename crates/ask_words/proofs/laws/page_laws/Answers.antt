@@ -1,59 +1,42 @@
-use Rattle.std.proofs.Common.{◌≡◌, ◌++◌, true, refl, codes}
+use Rattle.std.proofs.Common.{◌≡◌, ◌×◌, ◌++◌, true, refl, codes}
+use Rattle.clap.proofs.OnLiterals.{clap_on_literals}
 use Rattle.ask_words.specs.Help.{head_of, help_text, is_screen, options_of, stands_in}
+use Rattle.ask_words.specs.Request.{request_of}
 use Rattle.ask_words.specs.declared.help.Topic.{Topic}
 use Rattle.ask_words.specs.declared.help.Topic.TheVariants as page
 use Rattle.ask_words.proofs.laws.page_laws.Goals as goal
 
--- each page is on one screen
-screens : (topic : Topic) → is_screen (help_text topic) ≡ true
-screens page.Solve = refl
-screens page.Certify = refl
-screens page.Check = refl
-screens page.Bench = refl
-screens page.Upgrade = refl
-screens page.Prove = refl
-screens page.Transitions = refl
-screens page.Equations = refl
-screens page.Points = refl
-screens page.Verify = refl
-screens page.Overview = refl
-
--- each page has the words of its command
-has_words : (topic : Topic) → stands_in (codes "usage: tmpl " ++ head_of topic ++ options_of topic) (help_text topic) ≡ true
-has_words page.Solve = refl
-has_words page.Certify = refl
-has_words page.Check = refl
-has_words page.Bench = refl
-has_words page.Upgrade = refl
-has_words page.Prove = refl
-has_words page.Transitions = refl
-has_words page.Equations = refl
-has_words page.Points = refl
-has_words page.Verify = refl
-has_words page.Overview = refl
-
--- the page of `help` has those of each command
-lists : (topic : Topic) → stands_in (head_of topic) (help_text page.Overview) ≡ true
-lists page.Solve = refl
-lists page.Certify = refl
-lists page.Check = refl
-lists page.Bench = refl
-lists page.Upgrade = refl
-lists page.Prove = refl
-lists page.Transitions = refl
-lists page.Equations = refl
-lists page.Points = refl
-lists page.Verify = refl
-lists page.Overview = refl
+-- what is so of every page, it being so of the first four, of the next four and of the last three
+each : (P : Topic → Type 0) → P page.Overview × P page.Solve × P page.Certify × P page.Check
+    → P page.Bench × P page.Upgrade × P page.Prove × P page.Transitions → P page.Equations × P page.Points × P page.Verify
+    → (topic : Topic) → P topic
+each P a b c page.Overview = a.0
+each P a b c page.Solve = a.1
+each P a b c page.Certify = a.2
+each P a b c page.Check = a.3
+each P a b c page.Bench = b.0
+each P a b c page.Upgrade = b.1
+each P a b c page.Prove = b.2
+each P a b c page.Transitions = b.3
+each P a b c page.Equations = c.0
+each P a b c page.Points = c.1
+each P a b c page.Verify = c.2
 
 pub returns-clause-commands : goal.returns-clause-commands
 returns-clause-commands c = refl
 
+pub returns-clause-unknown : goal.returns-clause-unknown
+unfolding clap_on_literals request_of
+returns-clause-unknown c = refl
+
 pub returns-clause-screen : goal.returns-clause-screen
-returns-clause-screen c = screens
+returns-clause-screen c = each (λ topic. is_screen (help_text topic) ≡ true) (refl, refl, refl, refl) (refl, refl, refl, refl)
+    (refl, refl, refl)
 
 pub returns-clause-words : goal.returns-clause-words
-returns-clause-words c = has_words
+returns-clause-words c = each (λ topic. stands_in (codes "usage: tmpl " ++ head_of topic ++ options_of topic) (help_text topic) ≡ true)
+    (refl, refl, refl, refl) (refl, refl, refl, refl) (refl, refl, refl)
 
 pub returns-clause-listed : goal.returns-clause-listed
-returns-clause-listed c = lists
+returns-clause-listed c = each (λ topic. stands_in (head_of topic) (help_text page.Overview) ≡ true) (refl, refl, refl, refl)
+    (refl, refl, refl, refl) (refl, refl, refl)

@@ -36,7 +36,3 @@ returns-clause-nothing c = refl
 pub returns-clause-help : goal.returns-clause-help
 unfolding clap_on_literals request_of
 returns-clause-help c = refl
-
-pub returns-clause-unknown : goal.returns-clause-unknown
-unfolding clap_on_literals request_of
-returns-clause-unknown c = refl
