@@ -1,4 +1,4 @@
-use Rattle.std.proofs.Common.{◌≡◌, ◌×◌, ◌++◌, true, refl, codes}
+use Rattle.std.proofs.Common.{◌≡◌, ◌++◌, true, refl, codes}
 use Rattle.clap.proofs.OnLiterals.{clap_on_literals}
 use Rattle.ask_words.specs.Help.{head_of, help_text, is_screen, options_of, stands_in}
 use Rattle.ask_words.specs.Request.{request_of}
