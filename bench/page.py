@@ -15,6 +15,7 @@ import build
 from browser import Browser
 
 PROGRAM = os.environ.get("TMPL", f"{TOP}/tmpl")
+TABS = ("tab-checks", "tab-report", "tab-certificate", "tab-bounds")
 WIDTHS = (360, 414, 600, 768, 960, 1024, 1280, 1600, 2000)
 ROWS = "# a sum with a factor\nx + 2*y\n-x - 2*y\nx\n-x\n"
 WRONG = "int main() {\n    int x = 0;\n    x = x * x;\n}\n"
@@ -38,6 +39,21 @@ CHECKED = """int main() {
         y--;
     }
     assert(y == 5);
+}
+"""
+
+
+# Checks behind signs that take more than a byte, on two lines, behind a loop within a loop, and where nothing comes.
+SPREAD = """int main() {
+    int i = 0, j = 0; /* von \u00e4 bis \U0001d6fc */ assert(i
+        == j);
+    while (i < 5) {
+        j = 0;
+        while (j < i) { j++; assert(j <= 5); }
+        i++;
+    }
+    assert(i == 5); assert(j < 4);
+    if (i < 5) { assert(j == 100); }
 }
 """
 
@@ -271,8 +287,7 @@ def keys(walk):
     walk.browser.evaluate("document.getElementById('tab-bounds').focus()")
     walk.browser.key("ArrowRight")
     shown = "[...document.querySelectorAll('[role=tabpanel]')].filter((it) => !it.hidden).map((it) => it.id).join()"
-    next_tab = "report" if walk.browser.evaluate("document.getElementById('tab-checks').hidden") else "checks"
-    walk.expect("the next tab", walk.browser.evaluate(shown), next_tab)
+    walk.expect("the next tab", walk.browser.evaluate(shown), "checks")
     walk.browser.key("Home")
     walk.expect("the first tab", walk.browser.evaluate(shown), "bounds")
 
@@ -294,9 +309,11 @@ def names(walk):
 
 def widths(walk):
     """Nothing sticks out at any width."""
+    walk.set_program(CHECKED)
+    walk.settle()
     for width in WIDTHS:
         walk.browser.resize(width, 860)
-        for tab in ("tab-report", "tab-certificate", "tab-bounds"):
+        for tab in TABS:
             walk.click(tab)
             over = walk.browser.evaluate("document.documentElement.scrollWidth - document.documentElement.clientWidth")
             walk.expect(f"what sticks out at {width} pixels behind {tab}", over, 0)
@@ -330,67 +347,46 @@ def contrast(walk):
     })()"""
     for scheme in ("light", "dark"):
         walk.browser.media(scheme)
-        walk.expect(f"what is hard to read, {scheme}", walk.browser.evaluate(script), [])
+        for tab in TABS:
+            walk.click(tab)
+            walk.expect(f"what is hard to read behind {tab}, {scheme}", walk.browser.evaluate(script), [])
     walk.browser.media("light")
 
 
-STAND_IN = """
-const known = self.onmessage;
-const asked = self.postMessage.bind(self);
-const more = ' | verify PROGRAM (the options of solve) | solve, certify, check, prove, verify: [--function NAME] [--int N]';
-let verify = false;
-self.postMessage = (data, given) => {
-    if (data.answer && !verify && /^usage/.test(data.answer.message)) data.answer.message += more;
-    if (data.answer && verify) {
-        data.answer.status = 10;
-        data.answer.output = new TextEncoder().encode(`check 0 at 4:9: assert: proved\\ncheck 1 at 8:5: assert: open at x = 10, y = 0\\nproved 1 of 2\\nimprovements: 3\\n`);
-        asked(data);
-    } else {
-        asked(data, given);
-    }
-};
-self.onmessage = (event) => {
-    const { words } = event.data;
-    verify = words?.[0] === 'verify';
-    if (verify) words[0] = 'solve';
-    for (const option of ['--function', '--int']) if (words?.includes(option)) words.splice(words.indexOf(option), 2);
-    known(event);
-};
-"""
-
-
-def checks(walk, room):
-    """Open checks at their place. Where the program doesn't know them yet, a worker stands in that does."""
-    page = walk.page
+def checks(walk):
+    """Verdicts on checks: as the program writes them, at their place in the text with their state, and in the picture."""
     walk.open()
-    if walk.browser.evaluate("document.getElementById('tab-checks').hidden"):
-        print("page.sh: the program doesn't know checks yet: a stand-in shows how they are shown", file=sys.stderr)
-        with open(page, encoding="utf-8") as file:
-            whole = file.read()
-        end = whole.index("</script>", whole.index('id="worker">'))
-        with open(f"{room}/checks.html", "w", encoding="utf-8") as file:
-            file.write(whole[:end] + STAND_IN + whole[end:])
-        walk.page = f"{room}/checks.html"
-        text = CHECKED.replace("assert(x + y == 10);", "assume(x + y == 10);").replace("assert(y == 5);", "assume(y <= 5);")
-        walk.open()
-        shown = walk.browser.evaluate("['function-field', 'width-field'].map((it) => !document.getElementById(it).hidden)")
-        walk.expect("a function and a width to choose", shown, [True, True])
-    else:
-        text = CHECKED
-    walk.set_program(text)
+    walk.set_program(CHECKED)
     walk.settle()
     walk.expect("what is said of checks", walk.text("said").split(". ")[0], "1 of 2 checks proved")
-    walk.expect("the open check, underlined", walk.browser.evaluate("[...document.querySelectorAll('.open-check')].map((it) => it.textContent)"), [text.split("\n")[7].split("(")[0].strip()])
-    walk.expect("its state behind its line", walk.browser.evaluate("[...document.querySelectorAll('.tip.open')].map((it) => it.textContent)"), ["assertopen at x = 10, y = 0"])
+    marked = "(kind) => [...document.querySelectorAll(kind)].map((it) => it.textContent)"
+    walk.expect("the open check, underlined", "".join(walk.browser.evaluate(f"({marked})('.open-check')")), "assert(y == 5)")
+    walk.expect("the check that is proved, underlined", "".join(walk.browser.evaluate(f"({marked})('.proved-check')")), "assert(x + y == 10)")
+    walk.expect("its state behind its line", walk.browser.evaluate(f"({marked})('.tip.open')"), ["assertopen at x = 10, y = 0"])
     walk.click("tab-checks")
-    listed = walk.browser.evaluate("[...document.querySelectorAll('#check-list button')].map((it) => it.textContent)")
-    walk.expect("the checks", listed, ["line 4, column 9assertproved", "line 8, column 5assertopenat x = 10, y = 0"])
-    walk.browser.evaluate("document.querySelectorAll('#check-list button')[1].click()")
-    walk.expect("where an open check leads", walk.browser.evaluate("document.getElementById('text').selectionStart"), text.index("\n", text.index("}")) + 5)
-    walk.click("tab-bounds")
-    time.sleep(0.3)
-    walk.browser.picture(f"{room}/checks.png")
-    walk.page = page
+    listed = walk.browser.evaluate(f"({marked})('#check-list .check')")
+    walk.expect("the checks", listed, ["provedassert(x + y == 10)line 4, column 9", "openassert(y == 5)line 8, column 5"])
+    walk.browser.evaluate("document.querySelectorAll('#check-list .check')[1].click()")
+    walk.expect("where an open check leads", walk.browser.evaluate("document.getElementById('text').selectionStart"), CHECKED.index("assert(y"))
+    walk.browser.evaluate("document.querySelector('#check-list .why button').click()")
+    walk.expect("the point before it", walk.browser.evaluate("document.querySelector('#points input:checked').value"), "1")
+    walk.expect("its state in the picture", walk.text("corners"), "A segment: (0, 10), (10, 0). The cross is the state at the check in line 8: (10, 0).")
+    walk.expect("its cross", walk.browser.evaluate("document.querySelectorAll('#picture .state-mark').length"), 1)
+    for text in (CHECKED, build.text_of(f"{TOP}/examples/assertions.c"), SPREAD):
+        walk.set_program(text)
+        walk.settle()
+        for domain in ("intervals", "zones", "octagons"):
+            walk.domain(domain)
+            walk.settle()
+            status, output, _ = written(["verify", "p", "--domain", domain], {"p": text})
+            walk.expect("the status of verify", status in (0, 10))
+            walk.expect(f"the verdicts over {domain}", walk.text("verdict-text").encode(), output)
+            found = walk.browser.evaluate("document.querySelectorAll('.open-check').length > 0")
+            walk.expect(f"whether a check is open over {domain}", found, status == 10)
+    walk.choose("example", "sum.c")
+    walk.settle()
+    walk.expect("a program without checks", walk.text("check-said").startswith("Write assert("))
+    walk.expect("a program without verdicts", walk.browser.evaluate("document.getElementById('verdicts').hidden"))
 
 
 def pictures(walk, room):
@@ -425,7 +421,7 @@ def main(words):
             browser.resize(1280, 860)
             browser.media("light")
             for step in (Walk.open, polygons, reports, large, corners, wrong_text, lambda it: certificates(it, room), long_run, links, keys, names, widths, contrast,
-                         lambda it: checks(it, kept), lambda it: pictures(it, kept)):
+                         checks, lambda it: pictures(it, kept)):
                 step(walk)
             walk.expect("what was asked of the network", browser.asked_for(), [])
             walk.expect("complaints of the browser", browser.complaints(), [])

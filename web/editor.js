@@ -1,13 +1,8 @@
 // The program's text: painted behind a text area, with line numbers at its left and notes behind its lines.
+import { element } from './parts.js';
+
 const TOKENS =
     /(\/\/[^\n]*|\/\*[\s\S]*?(?:\*\/|$))|\b(int|void|main|if|else|while|do|for|break|continue|return|assume|assert|nondet|const|static|extern|__VERIFIER_\w+)\b|\b(\d\w*)|^([ \t]*)([A-Za-z_]\w*)(?=[ \t]*:)|[A-Za-z_]\w*/gm;
-
-function element(tag, classes, text) {
-    const made = document.createElement(tag);
-    if (classes) made.className = classes;
-    if (text) made.textContent = text;
-    return made;
-}
 
 /** Pieces of a text in turn, each with the class that it is painted in. */
 export function pieces(text) {
@@ -29,10 +24,9 @@ export function pieces(text) {
     return found;
 }
 
-/** The end of the word, number or sign that begins at a place. */
-function endOfToken(text, from) {
-    const found = /^(?:\w+|[^\s\w])/.exec(text.slice(from, from + 80));
-    return from + (found ? found[0].length : 1);
+/** A check as it stands in the text from a place on, such as `assert(x == y)`. */
+export function checkAt(text, from) {
+    return /^[^;]*?(?=\s*(?:;|$))/.exec(text.slice(from, from + 4000))[0];
 }
 
 /** The lines of a text as bytes count them: the place of a byte in a line, as a place in the string. */
@@ -47,9 +41,17 @@ function placeInLine(line, column) {
     return place;
 }
 
+/** The place in a text of a line, from 1, and of a byte in it, from 1; the text's end where it has no such line. */
+export function placeOf(text, line, column) {
+    const lines = text.split('\n');
+    if (line > lines.length) return text.length;
+    const before = lines.slice(0, line - 1).reduce((sum, one) => sum + one.length + 1, 0);
+    return before + placeInLine(lines[line - 1], column);
+}
+
 export class Editor {
-    /** `changed` is called where a person writes, `choose` with the number of a point that is pointed at. */
-    constructor(root, { changed, choose }) {
+    /** `changed` is called where a person writes, `choose` with the number of a point that is pointed at, `ask` with a check. */
+    constructor(root, { changed, choose, ask }) {
         this.root = root;
         this.area = root.querySelector('textarea');
         this.gutter = root.querySelector('.gutter');
@@ -57,6 +59,7 @@ export class Editor {
         this.notes = root.querySelector('.notes');
         this.marks = { notes: [], checks: [], fault: null, chosen: null, stale: false };
         this.choose = choose;
+        this.ask = ask;
         this.area.addEventListener('input', () => {
             this.marks = { ...this.marks, fault: null, checks: [], stale: true };
             this.paint();
@@ -110,10 +113,7 @@ export class Editor {
 
     /** Puts the caret to a place, counted in bytes of the line, from 1. */
     goTo(line, column = 1) {
-        const lines = this.text.split('\n');
-        if (line > lines.length) return;
-        const before = lines.slice(0, line - 1).reduce((sum, one) => sum + one.length + 1, 0);
-        const place = before + placeInLine(lines[line - 1], column);
+        const place = placeOf(this.text, line, column);
         this.area.focus({ preventScroll: true });
         this.area.setSelectionRange(place, place);
         this.reveal(line);
@@ -140,18 +140,15 @@ export class Editor {
     /** The classes that marks give to the token at each place: [from, to, class]. */
     underlined(lines) {
         const { checks, fault } = this.marks;
-        const starts = [0];
-        for (const line of lines) starts.push(starts.at(-1) + line.length + 1);
-        const found = [];
-        for (const check of checks) {
-            if (check.line > lines.length) continue;
-            const from = starts[check.line - 1] + placeInLine(lines[check.line - 1], check.column);
-            found.push([from, endOfToken(this.text, from), check.proved ? 'proved-check' : 'open-check']);
-        }
+        const found = checks.map((check) => {
+            const from = placeOf(this.text, check.line, check.column);
+            return [from, from + checkAt(this.text, from).length, check.proved ? 'proved-check' : 'open-check'];
+        });
         if (fault?.line && fault.line <= lines.length) {
             const line = lines[fault.line - 1];
-            const from = starts[fault.line - 1] + (line.length - line.trimStart().length);
-            found.push([from, Math.max(from + 1, starts[fault.line - 1] + line.trimEnd().length), 'faulty']);
+            const start = placeOf(this.text, fault.line, 1);
+            const from = start + (line.length - line.trimStart().length);
+            found.push([from, Math.max(from + 1, start + line.trimEnd().length), 'faulty']);
         }
         return found;
     }
@@ -210,15 +207,14 @@ export class Editor {
         const tips = element('span', 'tips');
         if (fault?.line === number) tips.append(element('span', 'tip bad', fault.text));
         for (const check of checks.filter((one) => one.line === number && !one.proved)) {
-            const tip = element('span', 'tip open');
+            const tip = Object.assign(element('button', 'tip open'), { type: 'button', tabIndex: -1, title: `${check.kind}: ${check.text}` });
             tip.append(element('b', '', check.kind), check.text);
+            tip.addEventListener('click', () => this.ask(check));
             tips.append(tip);
         }
         for (const note of notes.filter((one) => one.line === number)) {
-            const tip = element('button', note.point === chosen?.point ? 'tip chosen' : 'tip');
-            tip.type = 'button';
-            tip.tabIndex = -1;
-            tip.title = note.text;
+            const classes = note.point === chosen?.point ? 'tip chosen' : 'tip';
+            const tip = Object.assign(element('button', classes), { type: 'button', tabIndex: -1, title: note.text });
             tip.append(element('b', '', note.name), note.text);
             tip.addEventListener('click', () => this.choose(note.point));
             tips.append(tip);

@@ -1,17 +1,18 @@
 // The page: a program's text beside its least bounds.
+import { noteText, showBounds } from './bounds.js';
+import { pointBefore, showChecks, toldOf } from './checks.js';
 import { Editor } from './editor.js';
-import { Fraction, ZERO } from './fraction.js';
+import { ZERO } from './fraction.js';
 import { bytesOf, read, unpacked, written } from './link.js';
+import { at, counted, element, flash, save } from './parts.js';
 import { drawPicture, frameOf, inWords, placeName, planesOf } from './picture.js';
 import { meet } from './polygon.js';
 import { Program, Stopped } from './program.js';
-import { formula, pairRows, pointName, readMessage, readReport, readVerdicts, relations, summary, withSigns } from './report.js';
+import { pairRows, pointName, readMessage, readReport, readVerdicts, relations, summary } from './report.js';
+import { chooseTab, connectTabs } from './tabs.js';
 
-const at = (id) => document.getElementById(id);
 const bytes = (text) => new TextEncoder().encode(text);
 const text = (content) => new TextDecoder().decode(content);
-
-const MOST_NOTES = 6;
 
 /** As many as the program takes: a person stops what goes on for too long. */
 const MOST_IMPROVEMENTS = '1000000';
@@ -22,7 +23,7 @@ const now = {
     report: null,
     reportText: '',
     pairs: [],
-    verdicts: null,
+    found: '',
     point: 0,
     across: null,
     up: null,
@@ -30,19 +31,9 @@ const now = {
     mark: null,
 };
 
-/** What the program knows beside its first commands, by its line of usage. */
-const knows = { verify: false, function: false, width: false };
-
 let program = null;
 let waiting = null;
 let ticking = null;
-
-function element(tag, classes, content) {
-    const made = document.createElement(tag);
-    if (classes) made.className = classes;
-    if (content !== undefined) made.textContent = content;
-    return made;
-}
 
 // ---- what is asked
 
@@ -61,8 +52,6 @@ function question(command, more = []) {
             contents.push(bytes(at('rows').value));
         }
     }
-    if (knows.function && at('function').value.trim()) words.push('--function', at('function').value.trim());
-    if (knows.width && at('width').value) words.push('--int', at('width').value);
     return { words, contents: [...contents, ...more] };
 }
 
@@ -79,8 +68,6 @@ function say(kind, message) {
 
 const seconds = (milliseconds) =>
     milliseconds < 950 ? `${Math.max(1, Math.round(milliseconds))} ms` : `${(milliseconds / 1000).toFixed(1)} s`;
-
-const counted = (count, word) => `${count.toLocaleString('en-US').replaceAll(',', '\u202f')} ${word}${count === 1 ? '' : 's'}`;
 
 /** Shows that the program is at work, and how far it is, until this is called off. */
 function showWork(what) {
@@ -108,25 +95,34 @@ function workEnds() {
     at('run').textContent = 'Run';
 }
 
-/** Runs the program over what is open. */
+/** What is done where work ends otherwise than by an answer; `broken` says so. */
+function workBreaks(error, broken) {
+    workEnds();
+    if (!(error instanceof Stopped)) broken(`The program broke off: ${error.message}`);
+    else if (!program.busy) say('idle', 'Stopped.');
+}
+
+/** Whether a text may have checks. */
+const mayHaveChecks = (program) => program.includes('assert');
+
+/** Runs the program over what is open: for the bounds, and behind these for the verdicts on checks. */
 async function run() {
     clearTimeout(waiting);
     if (!program) return;
     at('certificate-said').textContent = '';
+    const asked = mayHaveChecks(editor.text);
     try {
-        const told = showWork('At work:');
-        const answer = await ask(question('solve'), told);
-        const verdicts = answer.status === 0 && knows.verify ? await ask(question('verify'), told) : null;
-        workEnds();
-        if (answer.status === 0) showReport(text(answer.output), answer.milliseconds, verdicts);
-        else showRefusal(answer.message);
-    } catch (error) {
-        workEnds();
-        if (error instanceof Stopped) {
-            if (!program.busy) say('idle', 'Stopped.');
-        } else {
-            say('refused', `The program broke off: ${error.message}`);
+        const answer = await ask(question('solve'), showWork('At work:'));
+        if (answer.status !== 0) {
+            workEnds();
+            showRefusal(answer.message);
+            return;
         }
+        showReport(text(answer.output), answer.milliseconds);
+        showVerdicts(asked ? await ask(question('verify'), showWork('The checks:')) : null);
+        workEnds();
+    } catch (error) {
+        workBreaks(error, (message) => say('refused', message));
     }
 }
 
@@ -177,27 +173,43 @@ const KINDS = { loop: 'loop', join: 'join', assume: 'assume', exit: 'exit' };
 /** Rows of a ready-made domain say by themselves what all together leave for two variables. */
 const isClosed = () => domain() !== 'rows';
 
-function showReport(reportText, milliseconds, verdicts) {
+const KEPT = 'Write assert(\u2026); where something is to hold, and see here whether the bounds prove it.';
+
+function showReport(reportText, milliseconds) {
     const report = readReport(reportText);
     const isNew = now.report?.points.length !== report.points.length;
     Object.assign(now, { report, reportText, pairs: pairRows(report.rows), closed: isClosed() });
-    now.verdicts = verdicts && (verdicts.status === 0 || verdicts.status === 10) ? readVerdicts(text(verdicts.output)) : null;
     if (isNew || now.point >= report.points.length) now.point = firstPoint(report);
     const rounds = /improvements: (\d+)/.exec(report.ending)?.[1];
-    const checks = now.verdicts?.checks ?? [];
-    const open = checks.filter((check) => !check.proved).length;
-    const told = checks.length ? `${checks.length - open} of ${counted(checks.length, 'check')} proved. ` : '';
-    at('state').dataset.open = open > 0;
-    showStale(false);
-    say('done', `${told}Least bounds after ${counted(Number(rounds), 'improvement')}, in ${seconds(milliseconds)}.`);
+    now.found = `Least bounds after ${counted(Number(rounds), 'improvement')}, in ${seconds(milliseconds)}.`;
+    say('done', now.found);
+    showAll([]);
+    showChecks({ checks: [], written: '', said: 'The checks aren\u2019t judged yet.' }, editor.text, checkDoing);
+}
+
+/** Shows what stands in `now`. */
+function showAll(checks) {
+    at('state').dataset.open = false;
     at('state').title = '';
     at('rows-fault').hidden = true;
-    at('report-text').textContent = reportText;
+    at('report-text').textContent = now.reportText;
+    showStale(false);
     showNotes(checks);
-    showChecks(checks, open);
     showPoints();
     showVariables();
     choosePoint(now.point);
+}
+
+/** Shows the verdicts on checks: an answer to `verify`, or null where the text has no checks. */
+function showVerdicts(answer) {
+    const judged = answer === null || answer.status === 0 || answer.status === 10;
+    const checks = answer && judged ? readVerdicts(text(answer.output)) : [];
+    const fault = judged ? '' : `The checks aren\u2019t judged: ${answer.message.trim()}.`;
+    at('state').dataset.open = !judged || answer?.status === 10;
+    say('done', `${toldOf(checks)}${now.found}${fault && ` ${fault}`}`);
+    showNotes(checks);
+    const writtenText = answer && judged ? text(answer.output) : '';
+    showChecks({ checks, written: writtenText, said: fault || (checks.length ? '' : KEPT) }, editor.text, checkDoing);
 }
 
 /** The first point that says something: a loop or a label, else the exit. */
@@ -210,17 +222,14 @@ function showNotes(checks) {
     const notes = now.report.points
         .filter((point) => point.kind !== 'entry')
         .map((point) => {
-            const found = summary(now.pairs, point);
-            const more = found.length > MOST_NOTES ? ` \u00b7 and ${found.length - MOST_NOTES} more` : '';
             return {
                 point: point.number,
                 line: lineOf(point),
                 name: point.kind === 'label' ? point.name : KINDS[point.kind],
-                text: (found.slice(0, MOST_NOTES).join('\u2002\u00b7\u2002') || 'no bounds') + more,
+                text: noteText(now.pairs, point),
             };
         });
-    const underlined = checks.map((check) => ({ ...check, text: check.stateText ? `open at ${withSigns(check.stateText)}` : 'open' }));
-    editor.show({ notes: notes.filter((note) => note.line), checks: underlined, fault: null });
+    editor.show({ notes: notes.filter((note) => note.line), checks, fault: null });
 }
 
 function showPoints() {
@@ -266,53 +275,16 @@ function related() {
     return places.length >= 2 ? places : [0, 1];
 }
 
-function choosePoint(number) {
+/** Shows a point, with the state of an open check where one is given. */
+function choosePoint(number, check = null) {
     now.point = number;
-    now.mark = null;
+    now.mark = check;
     const point = now.report.points[number];
     for (const input of at('points').querySelectorAll('input')) input.checked = Number(input.value) === number;
     const isBefore = document.querySelector('.result').classList.contains('before');
     editor.chooseLine(point.kind === 'entry' || isBefore ? null : lineOf(point), number);
-    showBounds(point);
+    showBounds(now.pairs, point);
     showPicture();
-}
-
-// ---- the bounds of a point
-
-function cell(row, classes, content, sign, isBehind) {
-    const made = element('td', classes);
-    if (sign && isBehind) made.append(element('span', 'sign', sign));
-    made.append(content);
-    if (sign && !isBehind) made.append(element('span', 'sign', sign));
-    row.append(made);
-}
-
-function showBounds(point) {
-    const body = at('bound-table').tBodies[0];
-    if (!point.reachable) {
-        const row = element('tr');
-        cell(row, 'whole', 'No run comes here, not even over fractions.');
-        body.replaceChildren(row);
-        return;
-    }
-    const says = (end, implied) => end !== null && !(implied && end.equals(implied));
-    const rows = relations(now.pairs, point.bounds).map((relation) => {
-        const { single, low, high, least, most } = relation;
-        return { ...relation, isNews: single ? low !== null || high !== null : says(high, most) || says(low, least) };
-    });
-    body.replaceChildren(...[...rows.filter((row) => row.isNews), ...rows.filter((row) => !row.isNews)].map(boundRow));
-}
-
-/** A row of the table of bounds: those that the ranges give already stand behind the others, and are softer. */
-function boundRow({ text: words, low, high, isNews }) {
-    const isExact = low !== null && high !== null && low.equals(high);
-    const row = element('tr', isExact && isNews ? 'exact' : isNews ? '' : 'implied');
-    const hasLow = low !== null && !isExact;
-    cell(row, 'low', hasLow ? String(low) : '', hasLow ? '\u2264' : '');
-    cell(row, 'row', withSigns(words));
-    const sign = isExact ? '=' : high === null ? '' : '\u2264';
-    cell(row, 'high', high === null ? (low === null ? 'no bound' : '') : String(high), sign, true);
-    return row;
 }
 
 // ---- the picture
@@ -326,8 +298,9 @@ function showPicture() {
     const planesAt = (one) => planesOf(report, one, across, up, now.closed);
     const all = new Map(report.points.filter((one) => one.reachable).map((one) => [one.number, planesAt(one)]));
     const here = all.get(point.number) ?? null;
-    const mark = now.mark && now.mark.has(now.across) && (flat || now.mark.has(now.up)) ? now.mark : null;
-    const place = mark && { x: mark.get(now.across), y: flat ? ZERO : mark.get(now.up) };
+    const state = now.mark?.state;
+    const hasPlace = state?.has(now.across) && (flat || state.has(now.up));
+    const place = hasPlace ? { x: state.get(now.across), y: flat ? ZERO : state.get(now.up) } : null;
     const found = here ? meet(here.planes) : { empty: true, open: false, corners: [] };
     const words = here ? inWords(found, flat) : 'No run comes here';
     const names = found.corners.map((corner) => placeName(corner, flat));
@@ -344,42 +317,29 @@ function showPicture() {
     line.replaceChildren(words, names.length ? ': ' : '.');
     names.forEach((name, place_) => line.append(element('b', '', name), place_ === names.length - 1 ? '.' : ', '));
     if (here && !here.exact) line.append(' Rows over other variables are left out here.');
+    if (place) line.append(element('span', 'open', ` The cross is the state at the check in line ${now.mark.line}: ${placeName(place, flat)}.`));
 }
 
 // ---- checks
 
-function showChecks(checks, open) {
-    const tab = at('tab-checks');
-    tab.hidden = !knows.verify;
-    tab.replaceChildren('Checks', ...(open ? [' ', element('span', 'count', `${open} open`)] : []));
-    const rows = checks.map((check) => {
-        const row = element('li');
-        const button = Object.assign(element('button'), { type: 'button' });
-        const verdict = check.proved ? element('span', 'proved', 'proved') : element('span', 'open', 'open');
-        button.append(element('span', 'place', `line ${check.line}, column ${check.column}`), element('span', '', check.kind), verdict);
-        if (check.stateText) button.append(element('span', '', `at ${withSigns(check.stateText)}`));
-        button.addEventListener('click', () => {
-            if (check.state.size) {
-                now.mark = check.state;
-                showPicture();
-            }
-            editor.goTo(check.line, check.column);
-        });
-        row.append(button);
-        return row;
-    });
-    at('check-list').replaceChildren(...(rows.length ? rows : [element('li', 'empty', 'The program has no checks: write assert(…); where something is to hold.')]));
+const checkDoing = {
+    goTo: (check) => editor.goTo(check.line, check.column),
+    show: showState,
+};
+
+/** Shows the state of an open check in the picture, with the bounds at the point before it. */
+function showState(check) {
+    const names = [...check.state.keys()].filter((name) => now.report.variables.includes(name));
+    if (!names.includes(now.across)) now.across = names.find((name) => name !== now.up) ?? now.across;
+    if (!names.includes(now.up)) now.up = names.find((name) => name !== now.across) ?? now.up;
+    showVariables();
+    choosePoint(pointBefore(now.report.points, check, editor.text).number, check);
+    chooseTab(at('tab-bounds'));
+    showPicture();
+    at('tab-bounds').focus();
 }
 
 // ---- certificates and files
-
-function save(name, content, type = 'text/plain') {
-    const link = element('a');
-    link.href = URL.createObjectURL(new Blob([content], { type }));
-    link.download = name;
-    link.click();
-    setTimeout(() => URL.revokeObjectURL(link.href), 10000);
-}
 
 const plainName = () => now.name.replace(/\.[^.]*$/, '');
 
@@ -398,9 +358,7 @@ async function askCertificate(asked, done) {
         else verdict('bad', `${withoutEnd(answer.message)}.`);
         if (at('state').dataset.kind === 'working') say('done', 'Done.');
     } catch (error) {
-        workEnds();
-        if (!(error instanceof Stopped)) verdict('bad', `The program broke off: ${error.message}`);
-        else if (!program.busy) say('idle', 'Stopped.');
+        workBreaks(error, (message) => verdict('bad', message));
     }
 }
 
@@ -428,15 +386,11 @@ async function check(file) {
 
 /** Shows the bounds of a certificate in place of those that were found. */
 function showChecked(report, reportText) {
-    Object.assign(now, { report, reportText, pairs: pairRows(report.rows), closed: false, verdicts: null });
+    Object.assign(now, { report, reportText, pairs: pairRows(report.rows), closed: false });
     now.point = Math.min(now.point, report.points.length - 1);
-    at('report-text').textContent = reportText;
     say('done', 'Certificate accepted: these bounds are the least ones over its rows.');
-    showStale(false);
-    showNotes([]);
-    showPoints();
-    showVariables();
-    choosePoint(now.point);
+    showAll([]);
+    showChecks({ checks: [], written: '', said: 'Bounds of a certificate are shown. Run judges the checks.' }, editor.text, checkDoing);
 }
 
 async function open(file) {
@@ -455,8 +409,6 @@ function show(what) {
     }
     if (what.rows !== undefined) at('rows').value = what.rows;
     if (['best', 'first'].includes(what.policy)) at('policy').value = what.policy;
-    if (what.function !== undefined) at('function').value = what.function;
-    if (what.width !== undefined) at('width').value = what.width;
     now.across = what.across ?? null;
     now.up = what.up ?? null;
     at('rows-part').hidden = domain() !== 'rows';
@@ -466,8 +418,6 @@ function show(what) {
 async function share() {
     const what = { text: editor.text, name: now.name, domain: domain(), policy: at('policy').value, across: now.across, up: now.up };
     if (domain() === 'rows') what.rows = at('rows').value;
-    if (knows.function && at('function').value) what.function = at('function').value;
-    if (knows.width && at('width').value) what.width = at('width').value;
     history.replaceState(null, '', `#${await written(what)}`);
     try {
         await navigator.clipboard.writeText(location.href);
@@ -475,13 +425,6 @@ async function share() {
     } catch {
         flash(at('share'), 'In the address');
     }
-}
-
-function flash(button, words) {
-    const before = button.dataset.words ?? button.textContent;
-    button.dataset.words = before;
-    button.textContent = words;
-    setTimeout(() => (button.textContent = before), 1600);
 }
 
 async function showLinked() {
@@ -493,54 +436,7 @@ async function showLinked() {
     return true;
 }
 
-// ---- tabs, colours, keys
-
-const tabs = [...document.querySelectorAll('[role=tab]')];
-
-function chooseTab(tab) {
-    for (const one of tabs) {
-        const isIt = one === tab;
-        one.setAttribute('aria-selected', isIt);
-        one.tabIndex = isIt ? 0 : -1;
-        at(one.getAttribute('aria-controls')).hidden = !isIt;
-    }
-    if (tab.id === 'tab-bounds') showPicture();
-}
-
-function moveTab(event) {
-    const seen = tabs.filter((tab) => !tab.hidden);
-    const here = seen.indexOf(event.target);
-    const to = { ArrowRight: here + 1, ArrowLeft: here - 1, Home: 0, End: seen.length - 1 }[event.key];
-    if (to === undefined) return;
-    event.preventDefault();
-    const tab = seen[(to + seen.length) % seen.length];
-    tab.focus();
-    chooseTab(tab);
-}
-
-const THEMES = [
-    ['', '\u25d0', 'as the system has them'],
-    ['light', '\u2600', 'light'],
-    ['dark', '\u263e', 'dark'],
-];
-
-function setTheme(name) {
-    const found = THEMES.find(([theme]) => theme === name) ?? THEMES[0];
-    document.documentElement.dataset.theme = found[0];
-    at('theme').firstElementChild.textContent = found[1];
-    at('theme').setAttribute('aria-label', `Colours: ${found[2]}`);
-    at('theme').title = `Colours: ${found[2]}`;
-    try {
-        localStorage.setItem('tmpl-theme', found[0]);
-    } catch {
-        // Some browsers keep nothing for pages from files.
-    }
-}
-
-function nextTheme() {
-    const here = THEMES.findIndex(([theme]) => theme === (document.documentElement.dataset.theme ?? ''));
-    setTheme(THEMES[(here + 1) % THEMES.length][0]);
-}
+// ---- keys
 
 function stepPoint(by) {
     if (!now.report) return;
@@ -566,11 +462,11 @@ function textChanges() {
     runSoon();
 }
 
-const editor = new Editor(at('editor'), { changed: textChanges, choose: choosePoint });
+const editor = new Editor(at('editor'), { changed: textChanges, choose: (number) => choosePoint(number), ask: showState });
 
 function connect() {
     for (const input of at('settings').querySelectorAll('input, select')) {
-        input.addEventListener(input.type === 'text' ? 'input' : 'change', () => {
+        input.addEventListener('change', () => {
             at('rows-part').hidden = domain() !== 'rows';
             if (domain() === 'rows' && !at('rows').value.trim()) at('rows').value = firstRows();
             runSoon();
@@ -585,7 +481,6 @@ function connect() {
         at('opened').value = '';
     });
     at('share').addEventListener('click', share);
-    at('theme').addEventListener('click', nextTheme);
     at('certify').addEventListener('click', certify);
     at('check').addEventListener('click', () => at('checked').click());
     at('checked').addEventListener('change', () => {
@@ -601,10 +496,6 @@ function connect() {
         }
     });
     at('save-report').addEventListener('click', () => save(`${plainName()}.report`, now.reportText));
-    for (const tab of tabs) {
-        tab.addEventListener('click', () => chooseTab(tab));
-        tab.addEventListener('keydown', moveTab);
-    }
     for (const [select, other] of [['across', 'up'], ['up', 'across']]) {
         at(select).addEventListener('change', () => {
             if (at(select).value === now[other]) now[other] = now[select];
@@ -648,27 +539,19 @@ function showExamples() {
     return examples;
 }
 
-/** Compiles the program, and asks what it knows. */
+/** Compiles the program. */
 async function ready() {
     const packed = bytesOf(at('module').textContent.trim());
     const compiled = await WebAssembly.compile(await unpacked(packed));
     const made = new Program(at('worker').textContent, compiled);
-    const usage = (await made.ask([], [])).message;
-    knows.verify = /\| verify PROGRAM/.test(usage);
-    knows.function = usage.includes('--function NAME');
-    knows.width = usage.includes('--int N');
-    at('function-field').hidden = !knows.function;
-    at('width-field').hidden = !knows.width;
     at('run').disabled = false;
     program = made;
 }
 
 async function begin() {
-    try {
-        setTheme(localStorage.getItem('tmpl-theme') ?? '');
-    } catch {
-        setTheme('');
-    }
+    connectTabs((tab) => {
+        if (tab.id === 'tab-bounds') showPicture();
+    });
     connect();
     const examples = showExamples();
     if (!(await showLinked())) {

@@ -146,28 +146,17 @@ export function summary(pairs, point) {
     return ordered.map((relation) => formula(onlyNews(relation))).filter((text) => text);
 }
 
-/** The verdicts that `verify` writes: `check 1 at 9:5: assert: open at x = 10, y = 11`. */
+/** The verdicts that `verify` writes, such as `check 1 at 9:5: assert: open at x = 10, y = 11`: each with its state and a text of it. */
 export function readVerdicts(text) {
-    const checks = [];
-    let ending = '';
-    for (const line of text.split('\n')) {
-        const found = /^check (\d+) at (\d+):(\d+): (\w+): (proved|open(?: at (.*))?)$/.exec(line);
-        if (found) {
-            const state = (found[6] ?? '').split(', ').filter((part) => part).map((part) => part.split(' = '));
-            checks.push({
-                number: Number(found[1]),
-                line: Number(found[2]),
-                column: Number(found[3]),
-                kind: found[4],
-                proved: found[5] === 'proved',
-                state: new Map(state.map(([name, value]) => [name, Fraction.read(value)])),
-                stateText: found[6] ?? '',
-            });
-        } else if (/^proved \d+ of \d+$/.test(line)) {
-            ending = line;
-        }
-    }
-    return { checks, ending };
+    const found = text.matchAll(/^check (\d+) at (\d+):(\d+): (\w+): (?:proved|open(?: at (.*))?)$/gm);
+    return [...found].map(([line, number, row, column, kind, stateText = '']) => {
+        const parts = stateText.split(', ').filter((part) => part);
+        const state = parts.map((part) => part.split(' = ')).map(([name, value]) => [name, Fraction.read(value)]);
+        const proved = line.endsWith(': proved');
+        const place = { number: Number(number), line: Number(row), column: Number(column) };
+        const words = withSigns(stateText);
+        return { ...place, kind, proved, state: new Map(state), stateText: words, text: proved ? 'proved' : `open${words && ` at ${words}`}` };
+    });
 }
 
 /** Whose text a message refuses, at which line if it says one: `program`, `rows`, `certificate` or none. */
