@@ -115,10 +115,11 @@ class Walk:
         self.browser.call("DOM.setFileInputFiles", files=[file], objectId=node)
 
 
-def polygons(walk):
-    """The table of meets that were worked out by hand."""
-    found = walk.browser.evaluate(f"(() => {{ {build.joined('polygon_table')} return of_polygon_table.faults(); }})()")
-    walk.expect("the table of polygons", found, [])
+def tables(walk):
+    """The tables of meets, and of points before checks, that were worked out by hand."""
+    for table in ("polygon_table", "checks_table"):
+        found = walk.browser.evaluate(f"(() => {{ {build.joined(table)} return of_{table}.faults(); }})()")
+        walk.expect(f"web/{table}.js", found, [])
 
 
 def reports(walk):
@@ -420,7 +421,7 @@ def main(words):
             walk = Walk(browser, page)
             browser.resize(1280, 860)
             browser.media("light")
-            for step in (Walk.open, polygons, reports, large, corners, wrong_text, lambda it: certificates(it, room), long_run, links, keys, names, widths, contrast,
+            for step in (Walk.open, tables, reports, large, corners, wrong_text, lambda it: certificates(it, room), long_run, links, keys, names, widths, contrast,
                          checks, lambda it: pictures(it, kept)):
                 step(walk)
             walk.expect("what was asked of the network", browser.asked_for(), [])

@@ -18,17 +18,20 @@ function depths(code) {
     return { depth, least };
 }
 
+/** What stands between the beginning of a point's line and a check behind the point: of a join the end of its branches. */
+const SIGNS = { loop: /\b(?:while|for|do)\b/, label: /:/, assume: /assume/, join: /[;}]\s*$/ };
+
 /**
- * The point that a run passes last before a check, as far as the text alone tells: the nearest one before it in no block that ends before it,
- * of joins one whose branches have ended; else the entry.
+ * The point that a run passes last before a check, as far as the text alone tells: the nearest one before it in no block that ends before it;
+ * else the entry.
  */
 export function pointBefore(points, check, text) {
     const end = placeOf(text, check.line, check.column);
     const isBefore = ({ kind, line }) => {
-        if (kind === 'exit' || line === null || line > check.line) return false;
+        if (!SIGNS[kind] || line > check.line) return false;
         const code = text.slice(placeOf(text, line, 1), end).replace(/\/\/[^\n]*|\/\*[\s\S]*?\*\//g, '').replace(/^\s*\}/, '');
         const { depth, least } = depths(code);
-        return least === 0 && (kind !== 'join' || (depth === 0 && /[;}]\s*$/.test(code)));
+        return least === 0 && SIGNS[kind].test(code) && (kind !== 'join' || depth === 0);
     };
     const found = points.filter(isBefore).sort((one, other) => other.line - one.line || other.number - one.number);
     return found[0] ?? points[0];

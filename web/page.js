@@ -95,11 +95,13 @@ function workEnds() {
     at('run').textContent = 'Run';
 }
 
-/** What is done where work ends otherwise than by an answer; `broken` says so. */
+/** What is done where work ends otherwise than by an answer: `broken` says so, and other work in its place goes on. */
 function workBreaks(error, broken) {
+    const isStopped = error instanceof Stopped;
+    if (isStopped && program.busy) return;
     workEnds();
-    if (!(error instanceof Stopped)) broken(`The program broke off: ${error.message}`);
-    else if (!program.busy) say('idle', 'Stopped.');
+    if (isStopped) say('idle', 'Stopped.');
+    else broken(`The program broke off: ${error.message}`);
 }
 
 /** Whether a text may have checks. */
@@ -173,7 +175,7 @@ const KINDS = { loop: 'loop', join: 'join', assume: 'assume', exit: 'exit' };
 /** Rows of a ready-made domain say by themselves what all together leave for two variables. */
 const isClosed = () => domain() !== 'rows';
 
-const KEPT = 'Write assert(\u2026); where something is to hold, and see here whether the bounds prove it.';
+const NO_CHECKS = 'Write assert(\u2026); where something is to hold, and see here whether the bounds prove it.';
 
 function showReport(reportText, milliseconds) {
     const report = readReport(reportText);
@@ -209,7 +211,7 @@ function showVerdicts(answer) {
     say('done', `${toldOf(checks)}${now.found}${fault && ` ${fault}`}`);
     showNotes(checks);
     const writtenText = answer && judged ? text(answer.output) : '';
-    showChecks({ checks, written: writtenText, said: fault || (checks.length ? '' : KEPT) }, editor.text, checkDoing);
+    showChecks({ checks, written: writtenText, said: fault || (checks.length ? '' : NO_CHECKS) }, editor.text, checkDoing);
 }
 
 /** The first point that says something: a loop or a label, else the exit. */
@@ -221,14 +223,12 @@ function firstPoint({ points }) {
 function showNotes(checks) {
     const notes = now.report.points
         .filter((point) => point.kind !== 'entry')
-        .map((point) => {
-            return {
-                point: point.number,
-                line: lineOf(point),
-                name: point.kind === 'label' ? point.name : KINDS[point.kind],
-                text: noteText(now.pairs, point),
-            };
-        });
+        .map((point) => ({
+            point: point.number,
+            line: lineOf(point),
+            name: point.kind === 'label' ? point.name : KINDS[point.kind],
+            text: noteText(now.pairs, point),
+        }));
     editor.show({ notes: notes.filter((note) => note.line), checks, fault: null });
 }
 
