@@ -2,14 +2,13 @@
 import { noteText, showBounds } from './bounds.js';
 import { pointBefore, showChecks, toldOf } from './checks.js';
 import { Editor } from './editor.js';
-import { ZERO } from './fraction.js';
 import { bytesOf, read, unpacked, written } from './link.js';
 import { at, counted, element, flash, save } from './parts.js';
-import { drawPicture, frameOf, inWords, placeName, planesOf } from './picture.js';
-import { meet } from './polygon.js';
 import { Program, Stopped } from './program.js';
-import { pairRows, pointName, readMessage, readReport, readVerdicts, relations, summary } from './report.js';
+import { pairRows, pointName, readMessage, readReport, readVerdicts, summary } from './report.js';
+import { domain, now } from './state.js';
 import { chooseTab, connectTabs } from './tabs.js';
+import { connectView, showPicture, showVariables } from './view.js';
 
 const bytes = (text) => new TextEncoder().encode(text);
 const text = (content) => new TextDecoder().decode(content);
@@ -17,27 +16,11 @@ const text = (content) => new TextDecoder().decode(content);
 /** As many as the program takes: a person stops what goes on for too long. */
 const MOST_IMPROVEMENTS = '1000000';
 
-/** What is open and what is known of it. */
-const now = {
-    name: 'program.c',
-    report: null,
-    reportText: '',
-    pairs: [],
-    found: '',
-    point: 0,
-    across: null,
-    up: null,
-    closed: true,
-    mark: null,
-};
-
 let program = null;
 let waiting = null;
 let ticking = null;
 
 // ---- what is asked
-
-const domain = () => document.querySelector('input[name=domain]:checked').value;
 
 /** The words of a command over the program's text, and the contents of the files that they name. */
 function question(command, more = []) {
@@ -247,34 +230,6 @@ function showPoints() {
     );
 }
 
-/** The points to choose from, and the variables of the picture: those that were chosen before stay, where they are there. */
-function showVariables() {
-    const { variables } = now.report;
-    const fill = (select, names) => select.replaceChildren(...names.map((name) => element('option', '', name)));
-    fill(at('across'), variables);
-    fill(at('up'), variables);
-    const [first, second] = related();
-    if (!variables.includes(now.across)) now.across = variables[first];
-    if (!variables.includes(now.up) || now.up === now.across) now.up = variables[second] ?? null;
-    if (now.up === now.across) now.up = variables.find((name) => name !== now.across) ?? null;
-    at('across').value = now.across;
-    at('up').value = now.up;
-    const isFlat = variables.length < 2;
-    at('up').parentElement.hidden = isFlat;
-    at('exchange').hidden = isFlat;
-}
-
-/** The first two variables that a bound ties together at the point that is chosen, else the first two. */
-function related() {
-    const point = now.report.points[now.point];
-    const tied = relations(now.pairs, point.bounds).find(
-        ({ single, low, high, least, most }) =>
-            !single && ((high !== null && !(most && high.equals(most))) || (low !== null && !(least && low.equals(least)))),
-    );
-    const places = tied ? tied.coefficients.flatMap((number, place) => (number === 0n ? [] : [place])) : [];
-    return places.length >= 2 ? places : [0, 1];
-}
-
 /** Shows a point, with the state of an open check where one is given. */
 function choosePoint(number, check = null) {
     now.point = number;
@@ -285,39 +240,6 @@ function choosePoint(number, check = null) {
     editor.chooseLine(point.kind === 'entry' || isBefore ? null : lineOf(point), number);
     showBounds(now.pairs, point);
     showPicture();
-}
-
-// ---- the picture
-
-function showPicture() {
-    const { report } = now;
-    if (!report || !at('view').offsetWidth) return;
-    const point = report.points[now.point];
-    const [across, up] = [now.across, now.up].map((name) => report.variables.indexOf(name));
-    const flat = up < 0;
-    const planesAt = (one) => planesOf(report, one, across, up, now.closed);
-    const all = new Map(report.points.filter((one) => one.reachable).map((one) => [one.number, planesAt(one)]));
-    const here = all.get(point.number) ?? null;
-    const state = now.mark?.state;
-    const hasPlace = state?.has(now.across) && (flat || state.has(now.up));
-    const place = hasPlace ? { x: state.get(now.across), y: flat ? ZERO : state.get(now.up) } : null;
-    const found = here ? meet(here.planes) : { empty: true, open: false, corners: [] };
-    const words = here ? inWords(found, flat) : 'No run comes here';
-    const names = found.corners.map((corner) => placeName(corner, flat));
-    drawPicture(at('picture'), {
-        planes: here?.planes ?? null,
-        frame: frameOf([...all.values()].map(({ planes }) => planes), place ? [place] : []),
-        names: [now.across, now.up],
-        mark: place,
-        flat,
-        label: `${pointName(point)}, ${now.across} across${flat ? '' : `, ${now.up} up`}. ${words}${names.length ? `: ${names.join(', ')}` : ''}`,
-        width: Math.min(at('picture').clientWidth, 900),
-    });
-    const line = at('corners');
-    line.replaceChildren(words, names.length ? ': ' : '.');
-    names.forEach((name, place_) => line.append(element('b', '', name), place_ === names.length - 1 ? '.' : ', '));
-    if (here && !here.exact) line.append(' Rows over other variables are left out here.');
-    if (place) line.append(element('span', 'open', ` The cross is the state at the check in line ${now.mark.line}: ${placeName(place, flat)}.`));
 }
 
 // ---- checks
@@ -496,22 +418,9 @@ function connect() {
         }
     });
     at('save-report').addEventListener('click', () => save(`${plainName()}.report`, now.reportText));
-    for (const [select, other] of [['across', 'up'], ['up', 'across']]) {
-        at(select).addEventListener('change', () => {
-            if (at(select).value === now[other]) now[other] = now[select];
-            now[select] = at(select).value;
-            at(other).value = now[other];
-            showPicture();
-        });
-    }
-    at('exchange').addEventListener('click', () => {
-        [now.across, now.up] = [now.up, now.across];
-        [at('across').value, at('up').value] = [now.across, now.up];
-        showPicture();
-    });
+    connectView();
     document.addEventListener('keydown', pressed);
     addEventListener('hashchange', showLinked);
-    new ResizeObserver(() => showPicture()).observe(at('picture'));
     at('editor').addEventListener('dragover', (event) => event.preventDefault());
     at('editor').addEventListener('drop', (event) => {
         if (!event.dataTransfer.files[0]) return;
