@@ -19,7 +19,7 @@ EXAMPLES = os.path.join(os.path.dirname(WEB), "examples")
 TITLES = {
     "sum.c": "sum: x + y stays 10",
     "pair.c": "pair: two counters",
-    "assertions.c": "assertions: what is proved, what is open",
+    "assertions.c": "assertions: proved and open",
     "search.c": "search: a break out of a for",
     "retry.c": "retry: do, break, continue",
     "nested.c": "nested: loops in loops",

@@ -140,9 +140,12 @@ export class Editor {
     /** The classes that marks give to the token at each place: [from, to, class]. */
     underlined(lines) {
         const { checks, fault } = this.marks;
-        const found = checks.map((check) => {
+        const found = checks.flatMap((check) => {
             const from = placeOf(this.text, check.line, check.column);
-            return [from, from + checkAt(this.text, from).length, check.proved ? 'proved-check' : 'open-check'];
+            // Each line of it, without the blanks before.
+            const parts = checkAt(this.text, from).matchAll(/\S.*/g);
+            const kind = check.proved ? 'proved-check' : 'open-check';
+            return [...parts].map((part) => [from + part.index, from + part.index + part[0].length, kind]);
         });
         if (fault?.line && fault.line <= lines.length) {
             const line = lines[fault.line - 1];
