@@ -24,13 +24,17 @@ export function planesOf(report, point, across, up, closed) {
 /** A frame around all that the pictures of these points have to show, so that they have one scale. */
 export function frameOf(allPlanes, marks = []) {
     const seen = [...allPlanes.flatMap(sights), ...marks];
-    const around = frameAround(seen.length ? seen : [{ x: ZERO, y: ZERO }]);
+    // One place alone is seen from the origin.
+    const isOne = seen.every(({ x, y }) => x.equals(seen[0].x) && y.equals(seen[0].y));
+    const around = frameAround(isOne ? [...seen, { x: ZERO, y: ZERO }] : seen);
     const width = around.right.minus(around.left);
     const height = around.top.minus(around.bottom);
     const least = new Fraction(4n);
     const side = greater(greater(width, height), least);
-    // Flat ranges get a part of the other one's size, so that a segment is seen as one.
-    const ample = (size) => (size.times(new Fraction(8n)).compare(side) < 0 ? side.over(new Fraction(5n)) : size.over(new Fraction(6n)));
+    const goesOn = allPlanes.map(meet).some(({ open, corners }) => open && corners.length > 0);
+    // Flat ranges get a part of the other one's size, so that a segment is seen as one; so do sides without end, to be seen as such.
+    const isFlat = (size) => size.times(new Fraction(8n)).compare(side) < 0;
+    const ample = (size) => (goesOn || isFlat(size) ? side.over(new Fraction(5n)) : size.over(new Fraction(6n)));
     return widened(around, ample(width), ample(height));
 }
 
@@ -97,7 +101,8 @@ function axes(scale, names, flat) {
     for (let at = Math.ceil(scale.fromY / stepY); !flat && at * stepY <= scale.toY; at += 1) {
         const y = scale.y(at * stepY);
         group.append(draw('line', { x1: scale.left, x2: scale.left + scale.width, y1: y, y2: y, class: at === 0 ? 'axis' : 'grid' }));
-        put(tickText(at * stepY), scale.left - 8, y + 4, 'end', 'tick');
+        // Above there is the axis's name.
+        if (y > scale.top + 9) put(tickText(at * stepY), scale.left - 8, y + 4, 'end', 'tick');
     }
     put(names[0], scale.left + scale.width, floor + 34, 'end', 'axis-name');
     if (!flat) put(names[1], scale.left - 8, scale.top - 2, 'end', 'axis-name');
@@ -147,7 +152,7 @@ export const placeName = ({ x, y }, flat) => (flat ? `${x}` : `(${x}, ${y})`);
 /** Boxes for a name beside a place: first away from the middle, then turned further and further from there. */
 function boxesBeside({ x, y }, [away, down], width, scale, flat) {
     const start = Math.atan2(down, away);
-    const turns = flat ? [0] : [0, 0.6, -0.6, 1.2, -1.2, 1.9, -1.9];
+    const turns = flat ? [0] : [0, 0.6, -0.6, 1.2, -1.2, 1.9, -1.9, 2.6, -2.6];
     return turns.map((turn) => {
         const [right, low] = flat ? [0, -1] : [Math.cos(start + turn), Math.sin(start + turn)];
         const left = right > 0.35 ? x + 9 : right < -0.35 ? x - 9 - width : x - width / 2;
@@ -179,8 +184,7 @@ function namedPlaces(corners, mark, scale, flat) {
         const away = places.length === 1 ? [1, -1] : [x - middle('x'), y - middle('y')];
         if (place !== mark) group.append(draw('circle', { cx: x, cy: y, r: 3.6, class: 'corner' }));
         if (isMark) group.append(draw('path', { d: `M${x - 5} ${y - 5}l10 10m0 -10l-10 10`, class: 'state-mark' }));
-        const others = taken.filter((_, other) => other !== at);
-        const box = boxesBeside(pixels[at], away, text.length * 6.8, scale, flat).find((one) => !others.some((other) => overlap(one, other)));
+        const box = boxesBeside(pixels[at], away, text.length * 6.8, scale, flat).find((one) => !taken.some((other) => overlap(one, other)));
         if (!box) return;
         taken.push(box);
         group.append(draw('text', { x: box.x, y: box.y + 11, class: isMark ? 'state-name' : 'corner-name' }, text));
