@@ -58,7 +58,9 @@ function showWork(what) {
     let far = '';
     const show = () => {
         const passed = performance.now() - begun;
-        if (passed > 250) say('working', `${what} ${far}${far ? ', ' : ''}${seconds(passed)}`);
+        if (passed < 250) return;
+        say('working', `${what} ${far}${far ? ', ' : ''}${seconds(passed)}`);
+        showOld();
     };
     at('run').textContent = 'Stop';
     clearInterval(ticking);
@@ -83,6 +85,7 @@ function workBreaks(error, broken) {
     const isStopped = error instanceof Stopped;
     if (isStopped && program.busy) return;
     workEnds();
+    showOld();
     if (isStopped) say('idle', 'Stopped.');
     else broken(`The program broke off: ${error.message}`);
 }
@@ -112,6 +115,7 @@ async function run() {
 }
 
 function runSoon() {
+    now.fresh = false;
     clearTimeout(waiting);
     if (program?.busy) program.stop();
     waiting = setTimeout(run, 300);
@@ -134,6 +138,14 @@ function showRefusal(message) {
     at('rows-fault').textContent = words;
     const isHere = subject === 'program' && line;
     editor.show({ notes: [], chosen: null, checks: [], fault: isHere ? { line, text: cause } : null });
+    now.fresh = false;
+    showStale(true);
+}
+
+/** Where what is shown isn't of what is asked, says so, and takes its marks from the text. */
+function showOld() {
+    if (now.fresh || !now.report || !at('before').hidden) return;
+    editor.show({ notes: [], chosen: null, checks: [], fault: null });
     showStale(true);
 }
 
@@ -162,8 +174,8 @@ const NO_CHECKS = 'Write assert(\u2026); where something is to hold, and see her
 
 function showReport(reportText, milliseconds) {
     const report = readReport(reportText);
-    const isNew = now.report?.points.length !== report.points.length;
-    Object.assign(now, { report, reportText, pairs: pairRows(report.rows), closed: isClosed() });
+    const isNew = now.begins || now.report?.points.length !== report.points.length;
+    Object.assign(now, { report, reportText, pairs: pairRows(report.rows), closed: isClosed(), fresh: true, begins: false });
     if (isNew || now.point >= report.points.length) now.point = firstPoint(report);
     const rounds = /improvements: (\d+)/.exec(report.ending)?.[1];
     now.found = `Least bounds after ${counted(Number(rounds), 'improvement')}, in ${seconds(milliseconds)}.`;
@@ -308,7 +320,7 @@ async function check(file) {
 
 /** Shows the bounds of a certificate in place of those that were found. */
 function showChecked(report, reportText) {
-    Object.assign(now, { report, reportText, pairs: pairRows(report.rows), closed: false });
+    Object.assign(now, { report, reportText, pairs: pairRows(report.rows), closed: false, fresh: true, begins: false });
     now.point = Math.min(now.point, report.points.length - 1);
     say('done', 'Certificate accepted: these bounds are the least ones over its rows.');
     showAll([]);
@@ -324,7 +336,7 @@ async function open(file) {
 /** Shows a program with its settings. */
 function show(what) {
     editor.text = what.text;
-    now.report = null;
+    Object.assign(now, { fresh: false, begins: true });
     if (what.domain) {
         const wanted = document.querySelector(`input[name=domain][value="${CSS.escape(what.domain)}"]`);
         if (wanted) wanted.checked = true;

@@ -105,7 +105,8 @@ function axes(scale, names, flat) {
         if (y > scale.top + 9) put(tickText(at * stepY), scale.left - 8, y + 4, 'end', 'tick');
     }
     put(names[0], scale.left + scale.width, floor + 34, 'end', 'axis-name');
-    if (!flat) put(names[1], scale.left - 8, scale.top - 2, 'end', 'axis-name');
+    const isLong = names[1]?.length * 8 > scale.left - 8;
+    if (!flat) put(names[1], isLong ? 0 : scale.left - 8, scale.top - 2, isLong ? 'start' : 'end', 'axis-name');
     return group;
 }
 
@@ -183,12 +184,15 @@ function namedPlaces(corners, mark, scale, flat) {
         const text = placeName(place, flat);
         const away = places.length === 1 ? [1, -1] : [x - middle('x'), y - middle('y')];
         if (place !== mark) group.append(draw('circle', { cx: x, cy: y, r: 3.6, class: 'corner' }));
-        if (isMark) group.append(draw('path', { d: `M${x - 5} ${y - 5}l10 10m0 -10l-10 10`, class: 'state-mark' }));
         const box = boxesBeside(pixels[at], away, text.length * 6.8, scale, flat).find((one) => !taken.some((other) => overlap(one, other)));
         if (!box) return;
         taken.push(box);
         group.append(draw('text', { x: box.x, y: box.y + 11, class: isMark ? 'state-name' : 'corner-name' }, text));
     });
+    if (mark) {
+        const [x, y] = [scale.x(mark.x.toNumber()), scale.y(mark.y.toNumber())];
+        group.append(draw('path', { d: `M${x - 5} ${y - 5}l10 10m0 -10l-10 10`, class: 'state-mark' }));
+    }
     return group;
 }
 

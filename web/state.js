@@ -7,6 +7,9 @@ export const now = {
     reportText: '',
     pairs: [],
     found: '',
+    // Whether the report is of what is asked now, and whether a program has come in place of another one.
+    fresh: false,
+    begins: true,
     point: 0,
     across: null,
     up: null,

@@ -37,7 +37,7 @@ function related() {
 /** Draws the picture of the point that is chosen, and says what it shows. */
 export function showPicture() {
     const { report } = now;
-    if (!report || !at('view').offsetWidth) return;
+    if (!report || now.across === null || !at('view').offsetWidth) return;
     const point = report.points[now.point];
     const [across, up] = [now.across, now.up].map((name) => report.variables.indexOf(name));
     const flat = up < 0;
