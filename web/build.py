@@ -26,6 +26,8 @@ TITLES = {
     "thirds.c": "thirds: a bound of 13/3",
     "first.c": "first: no loop at all",
 }
+# So that it can be sent as it is.
+MOST_BYTES = 3_000_000
 IMPORT = r"^import \{ ([^}]*) \} from '\./(\w+)\.js';\n"
 
 
@@ -99,6 +101,8 @@ def main(words):
         print(__doc__, file=sys.stderr)
         return 2
     page = page_of(packed(words[0]), *words[2:]).encode()
+    if len(page) > MOST_BYTES:
+        sys.exit(f"build.py: the page has {len(page):,} bytes, and is to have {MOST_BYTES:,} at most")
     with open(words[1], "wb") as file:
         file.write(page)
     print(f"{words[1]}: {len(page):,} bytes", file=sys.stderr)
