@@ -59,7 +59,7 @@ self.onmessage = ({ data }) => {
     const { number, words, contents } = data;
     const begun = performance.now();
     try {
-        let answer = answered(number, words, contents, 1 << 22);
+        let answer = answered(number, words, contents, 1 << 24);
         if (answer.needed) answer = answered(number, words, contents, answer.needed);
         answer.milliseconds = performance.now() - begun;
         self.postMessage({ number, answer }, [answer.output.buffer]);

@@ -9,6 +9,8 @@ ghost use Rattle.tmpl_page.specs.Pieces.{pieces_of};
 mod answering;
 mod pieces;
 mod placing;
+#[cfg(test)]
+mod tests;
 mod told;
 mod words;
 
