@@ -192,7 +192,8 @@ def wrong_text(walk):
     walk.expect("a wrong text: its whole message", walk.browser.evaluate("document.getElementById('state').title"), message)
     walk.expect("a wrong text: what is said", walk.text("said"), "Not affine in line 3.")
     walk.expect("a wrong text: the rest is of a text before", walk.browser.evaluate("document.getElementById('before').hidden"), False)
-    walk.expect("a wrong text: at its line", walk.browser.evaluate("[...document.querySelectorAll('.notes .line')].findIndex((it) => it.querySelector('.bad'))"), 2)
+    place = "[...document.querySelectorAll('.notes .line')].findIndex((it) => it.querySelector('.bad'))"
+    walk.expect("a wrong text: at its line", walk.browser.evaluate(place), 2)
     walk.set_program("int main() {\n    int x = 0;\n    x = x + x;\n}\n")
     walk.settle()
     walk.expect("nothing is of a text before", walk.browser.evaluate("document.getElementById('before').hidden"))
@@ -233,7 +234,8 @@ def certificates(walk, room):
 def long_run(walk):
     """Long work shows where it is, doesn't freeze the page, and can be stopped."""
     walk.set_program(LONG)
-    walk.browser.wait("document.getElementById('state').dataset.kind === 'working' && /round [0-9]/.test(document.getElementById('said').textContent)")
+    walk.browser.wait("document.getElementById('state').dataset.kind === 'working'")
+    walk.browser.wait("/round [0-9]/.test(document.getElementById('said').textContent)")
     first = walk.text("said")
     walk.browser.wait(f"document.getElementById('said').textContent !== {json.dumps(first)}")
     walk.expect("how far long work is", bool(re.match(r"At work: round \d+.*, \d", walk.text("said"))))
@@ -378,7 +380,8 @@ def checks(walk):
     walk.expect("where an open check leads", walk.browser.evaluate("document.getElementById('text').selectionStart"), CHECKED.index("assert(y"))
     walk.browser.evaluate("document.querySelector('#check-list .why button').click()")
     walk.expect("the point before it", walk.browser.evaluate("document.querySelector('#points input:checked').value"), "1")
-    walk.expect("its state in the picture", walk.text("corners"), "A segment: (0, 10), (10, 0). The cross is the state at the check in line 8: (10, 0).")
+    seen = "A segment: (0, 10), (10, 0). The cross is the state at the check in line 8: (10, 0)."
+    walk.expect("its state in the picture", walk.text("corners"), seen)
     walk.expect("its cross", walk.browser.evaluate("document.querySelectorAll('#picture .state-mark').length"), 1)
     for text in (CHECKED, build.text_of(f"{TOP}/examples/assertions.c"), SPREAD):
         walk.set_program(text)
@@ -428,8 +431,10 @@ def main(words):
             walk = Walk(browser, page)
             browser.resize(1280, 860)
             browser.media("light")
-            for step in (Walk.open, tables, reports, large, corners, wrong_text, lambda it: certificates(it, room), long_run, links, keys, names, widths, contrast,
-                         checks, lambda it: pictures(it, kept)):
+            for step in (
+                Walk.open, tables, reports, large, corners, wrong_text, lambda it: certificates(it, room), long_run, links, keys, names,
+                widths, contrast, checks, lambda it: pictures(it, kept),
+            ):
                 step(walk)
             walk.expect("what was asked of the network", browser.asked_for(), [])
             walk.expect("complaints of the browser", browser.complaints(), [])

@@ -231,7 +231,8 @@ export function drawPicture(root, { planes, frame, names, mark, flat, label, wid
     picture.append(namedPlaces(planes ? meet(planes).corners : [], mark ?? null, scale, flat));
     if (!polygon.length) {
         const text = planes ? 'No state fits these bounds' : 'No run comes here';
-        picture.append(draw('text', { x: scale.left + scale.width / 2, y: scale.top + scale.height / 2, 'text-anchor': 'middle', class: 'nothing' }, text));
+        const middle = { x: scale.left + scale.width / 2, y: scale.top + scale.height / 2 };
+        picture.append(draw('text', { ...middle, 'text-anchor': 'middle', class: 'nothing' }, text));
     }
     root.replaceChildren(picture);
     return scale;

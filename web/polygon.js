@@ -190,8 +190,8 @@ function fromLeft(corners) {
 }
 
 /**
- * The meet of half planes: its `corners` in turn against the clock from the lowest one at the left, the numbers of the half planes that give it a `side`, whether it is
- * `empty`, and whether it goes on without end (`open`).
+ * The meet of half planes: its `corners` in turn against the clock from the lowest one at the left, the numbers of the half planes that give
+ * it a side (`sides`), whether it is `empty`, and whether it goes on without end (`open`).
  */
 export function meet(planes) {
     const frame = widened(frameAround([{ x: ZERO, y: ZERO }, ...placesOf(planes)]), ONE, ONE);
