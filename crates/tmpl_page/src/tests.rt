@@ -3,6 +3,7 @@
 use crate::{Told, tmpl_page_answer};
 use std::alloc::{AllocError, Global};
 
+#[derive(Drop)]
 struct Case {
     texts: &'static [u8],
     lengths: &'static [usize],
