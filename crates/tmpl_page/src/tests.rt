@@ -43,8 +43,8 @@ const REFUSED: Case = Case {
     words: 2,
     code: 4,
     output: 0,
-    message: 39,
-    put: b"program refused: unknown name at line 1",
+    message: 40,
+    put: b"program refused: unknown name at line 1\n",
 };
 
 const NO_TEXT: Case = Case {
