@@ -15,14 +15,15 @@ struct Case {
     put: &'static [u8],
 }
 
+// Where there is nothing to say, the message is an empty line.
 const PROVED: Case = Case {
     texts: b"verifypint main() { int x = 7; assert(x == 7); }",
     lengths: &[6, 1, 41],
     words: 2,
     code: 0,
     output: 62,
-    message: 0,
-    put: b"check 0 at 1:25: assert: proved\nproved 1 of 1\nimprovements: 1\n",
+    message: 1,
+    put: b"check 0 at 1:25: assert: proved\nproved 1 of 1\nimprovements: 1\n\n",
 };
 
 // The output is longer than the room.
@@ -32,7 +33,7 @@ const OPEN: Case = Case {
     words: 2,
     code: 10,
     output: 69,
-    message: 0,
+    message: 1,
     put: b"",
 };
 
