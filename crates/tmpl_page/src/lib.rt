@@ -23,7 +23,7 @@ pub use top_run::{Exact, Meaning};
 /// What `top_answer::answer` answers to words and to the contents of the files that they name. `texts` has all of these one behind the
 /// other, `lengths` how long each is, and the first `words` of them are the words; what stands behind the last one is nothing.
 ///
-/// The exit code is the result. The output and behind it the message, a line that is empty where all is well, are put at the beginning of
+/// The exit code is the result. The output and behind it the message, a line that is empty behind an output, are put at the beginning of
 /// `room`, and `told` has their lengths behind the call; where they are longer than the room, nothing is put, and the same call with more
 /// room gives the same. While it works, `told` is told of rounds, turns and pivots. A word that is no UTF-8 gives the code 9.
 #[unsafe(no_mangle)]
