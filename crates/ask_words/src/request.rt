@@ -7,8 +7,8 @@ ghost use Rattle.ask_words.specs.Help.{topic_in};
 ghost use Rattle.ask_words.specs.Request.{analyse_in, analysis_app, analysis_in, analysis_text, bench_app, bench_in, check_app, check_in};
 ghost use Rattle.ask_words.specs.Request.{command_in, equations_app, equations_in, flag_rule, has_progress, help_app, help_in};
 ghost use Rattle.ask_words.specs.Request.{improvements_in, option_rule, optional_rule, points_app, points_in, policy_in, progress_in};
-ghost use Rattle.ask_words.specs.Request.{prove_app, prove_in, request_text, tmpl_app, top_app, transitions_in, upgrade_app, upgrade_in, verify_in};
-ghost use Rattle.ask_words.specs.Request.{word_rule};
+ghost use Rattle.ask_words.specs.Request.{prove_app, prove_in, request_text, tmpl_app, top_app, transitions_in, upgrade_app, upgrade_in};
+ghost use Rattle.ask_words.specs.Request.{verify_in, word_rule};
 
 use crate::help::{Topic, topic_of};
 use crate::values::{domain, number, policy};
