@@ -1,10 +1,10 @@
 -- Labelled steps: what may be done with an item of work whatever the state, and the actions that this records.
-use Rattle.std.specs.Prelude.{◌≡◌, Bool, true, false, ℤ, pos, ◌≤ℤ◌, List, [], ◌∷◌, ◌++◌, map, slice_set, if◌then◌else◌}
+use Rattle.std.specs.Prelude.{◌≡◌, Bool, true, false, ℤ, pos, ◌≤ℤ◌, List, [], ◌∷◌, ◌++◌, map, if◌then◌else◌}
 use Rattle.lang_tree.specs.declared.form.Form.{Form}
 use Rattle.lang_tree.specs.Tree.{Condition, while_loop, for_loop, do_loop, breaks, continues, set, havoc, assume}
 use Rattle.lang_tree.specs.Tree.{only_where, check, branch, loop, jump, label}
 use Rattle.lang_tree.specs.Cases.{cases_of}
-use Rattle.lang_tree.specs.Meaning.{State, value}
+use Rattle.lang_tree.specs.Meaning.{State, put, value}
 use Rattle.lang_tree.specs.PointNumbers.{splits}
 use Rattle.lang_tree.specs.Runs.{Item, node, mark, turn, end, branch_work, head_work, turn_work, change_work, repeat_work, past_loop}
 use Rattle.lang_tree.specs.Runs.{end_of_body}
@@ -54,6 +54,6 @@ steps_of (end do_loop c body line n) rest = choices true c (repeat_work true c b
 abbrev pub Acts : List Action → State → State → Type 0
 Acts [] x y = y ≡ x
 Acts (Guard form ∷ actions) x y = (value form x ≤ℤ pos 0) × Acts actions x y
-Acts (Assign var form ∷ actions) x y = Acts actions (slice_set x var (value form x)) y
-Acts (Havoc var ∷ actions) x y = (z : ℤ) × Acts actions (slice_set x var z) y
+Acts (Assign var form ∷ actions) x y = Acts actions (put (pos 0) x var (value form x)) y
+Acts (Havoc var ∷ actions) x y = (z : ℤ) × Acts actions (put (pos 0) x var z) y
 Acts (Check about ∷ actions) x y = Acts actions x y

@@ -1,2 +1,4 @@
 pub mod cases
 pub mod tree
+pub mod Put
+pub mod Grown

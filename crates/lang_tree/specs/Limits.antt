@@ -1,5 +1,5 @@
 -- Which trees are programs within the limits of the language.
-use Rattle.std.specs.Prelude.{◌==◌, ◌&&◌, ◌+◌, ℕ, Bool, true, false, length, nat_abs, nat_lt, nat_le}
+use Rattle.std.specs.Prelude.{◌&&◌, ◌+◌, ℕ, Bool, true, false, length, nat_abs, nat_lt, nat_le}
 use Rattle.lang_tree.specs.Numbers.{is_number, are_numbers}
 use Rattle.lang_tree.specs.declared.form.Form.{Form}
 use Rattle.lang_tree.specs.declared.change.Change.{Change}
@@ -7,11 +7,15 @@ use Rattle.lang_tree.specs.declared.change.Change.TheVariants as change
 use Rattle.lang_tree.specs.Tree.{Condition, free, compare, negation, both, either, leaf_count, LoopKind, while_loop, for_loop, do_loop}
 use Rattle.lang_tree.specs.Tree.{Statement, Statements, set, havoc, assume, only_where, check, branch, loop, jump, label}
 use Rattle.lang_tree.specs.Tree.{nil, cons, nodes_in}
-use Rattle.lang_tree.specs.declared.limits.TheConstants.{MOST_VARIABLES}
+use Rattle.lang_tree.specs.declared.limits.TheConstants.{MOST_VARIABLES, MOST_HIDDEN}
 
--- one coefficient for each of n variables, and numbers within 2^63 - 1
+-- numbers within 2^63 - 1
+abbrev pub has_numbers : Form → Bool
+has_numbers f = are_numbers f.coeffs && is_number f.constant
+
+-- no coefficients but for n variables, and numbers within 2^63 - 1
 abbrev pub is_form : ℕ → Form → Bool
-is_form n f = (length f.coeffs == n) && (are_numbers f.coeffs && is_number f.constant)
+is_form n f = nat_le (length f.coeffs) n && has_numbers f
 
 -- a form that is compared with 0: adding 1 to its constant, or to the negated one, stays within 2^63 - 1
 abbrev pub is_compared : ℕ → Form → Bool
@@ -60,6 +64,6 @@ abbrev mutual
   are_statements n inside nil = true
   are_statements n inside (cons s rest) = is_statement n inside s && are_statements n inside rest
 
--- at least one variable and no more than there may be, and at most 512 statements over them, with jumps in loops alone
+-- at least one variable and no more than there may be, and at most 512 statements over these and the hidden ones, with jumps in loops alone
 abbrev pub is_program : ℕ → Statements → Bool
-is_program n body = nat_le 1 n && (nat_le n MOST_VARIABLES && (nat_le (nodes_in body) 512 && are_statements n false body))
+is_program n body = nat_le 1 n && (nat_le n MOST_VARIABLES && (nat_le (nodes_in body) 512 && are_statements (n + MOST_HIDDEN) false body))

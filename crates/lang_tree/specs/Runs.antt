@@ -1,11 +1,11 @@
 -- Runs of a program over integer states, by the list of work that is left to do.
-use Rattle.std.specs.Prelude.{◌≡◌, ℕ, ℤ, ◌+◌, Bool, true, false, List, [], ◌∷◌, ◌++◌, length, slice_set, if◌then◌else◌, Contains}
+use Rattle.std.specs.Prelude.{◌≡◌, ℕ, ℤ, pos, ◌+◌, Bool, true, false, List, [], ◌∷◌, ◌++◌, length, take, if◌then◌else◌, Contains}
 use Rattle.lang_tree.specs.declared.change.Change.{Change}
 use Rattle.lang_tree.specs.declared.change.Change.TheVariants as change
 use Rattle.lang_tree.specs.declared.check.Check.{Check}
 use Rattle.lang_tree.specs.Tree.{Condition, LoopKind, while_loop, for_loop, do_loop, breaks, continues}
 use Rattle.lang_tree.specs.Tree.{Statement, Statements, set, havoc, assume, only_where, check, branch, loop, jump, label, nil, cons}
-use Rattle.lang_tree.specs.Meaning.{State, value, MayBe}
+use Rattle.lang_tree.specs.Meaning.{State, put, value, MayBe}
 use Rattle.lang_tree.specs.PointNumbers.{splits, points_of, points_in, join_of, exit_of}
 
 -- a node: a statement with the number of the first point that it makes; the mark of a point;
@@ -73,8 +73,8 @@ end_of_body (end kind c body line n ∷ rest) = end kind c body line n ∷ rest
 -- one step with the first item, behind which `rest` is left, in a state: the work and the state after it
 abbrev pub Does : Item → (rest : List Item) → State → List Item → State → Type 0
 Does (mark p) rest x work y = (work ≡ rest) × (y ≡ x)
-Does (node (set var form line) n) rest x work y = (work ≡ rest) × (y ≡ slice_set x var (value form x))
-Does (node (havoc var line) n) rest x work y = (z : ℤ) × (work ≡ rest) × (y ≡ slice_set x var z)
+Does (node (set var form line) n) rest x work y = (work ≡ rest) × (y ≡ put (pos 0) x var (value form x))
+Does (node (havoc var line) n) rest x work y = (z : ℤ) × (work ≡ rest) × (y ≡ put (pos 0) x var z)
 Does (node (assume c line) n) rest x work y = MayBe true c x × (work ≡ (if splits c then mark n ∷ rest else rest)) × (y ≡ x)
 Does (node (only_where c line) n) rest x work y = MayBe true c x × (work ≡ rest) × (y ≡ x)
 Does (node (check about c line) n) rest x work y = (work ≡ rest) × (y ≡ x)
@@ -94,22 +94,33 @@ pub record Configuration : Type 0 where
   pub work : List Item
   pub state : State
 
--- a step does the first item
-pub record Step (before after : Configuration) : Type 0 where
+-- the state of n variables that is left before this work: at a mark the hidden ones have no values any more
+abbrev pub left_at : ℕ → List Item → State → State
+left_at n [] x = x
+left_at n (mark p ∷ rest) x = take n x
+left_at n (node s m ∷ rest) x = x
+left_at n (turn kind c body line m ∷ rest) x = x
+left_at n (end kind c body line m ∷ rest) x = x
+
+-- a step does the first item, over n variables and the hidden ones
+pub record Step (n : ℕ) (before after : Configuration) : Type 0 where
   pub item : Item
   pub rest : List Item
   pub first : before.work ≡ item ∷ rest
-  pub does : Does item rest before.state after.work after.state
+  -- the state before hidden values are forgotten
+  pub reached : State
+  pub does : Does item rest before.state after.work reached
+  pub left : after.state ≡ left_at n after.work reached
 
 -- each configuration is a step from the one before it
-abbrev pub Follows : Configuration → List Configuration → Type 0
-Follows c [] = Unit {0}
-Follows c (d ∷ ds) = Step c d × Follows d ds
+abbrev pub Follows : ℕ → Configuration → List Configuration → Type 0
+Follows n c [] = Unit {0}
+Follows n c (d ∷ ds) = Step n c d × Follows n d ds
 
 -- a run of a program: a list of configurations, the first of which is the start work with any state of so many variables
 abbrev pub IsRun : ℕ → Statements → List Configuration → Type 0
 IsRun variables body [] = ⊥
-IsRun variables body (c ∷ cs) = (c.work ≡ start_work body) × (length c.state ≡ variables) × Follows c cs
+IsRun variables body (c ∷ cs) = (c.work ≡ start_work body) × (length c.state ≡ variables) × Follows variables c cs
 
 -- a configuration is at a point where the point's mark is the first item
 abbrev pub IsAt : Configuration → ℕ → Type 0

@@ -18,7 +18,7 @@ pub use check::{Check, CheckKind};
 pub use cond::{Cond, Rel, leaves};
 pub use form::{Coeffs, Form};
 pub use law::cases_are_truth;
-pub use limits::MOST_VARIABLES;
+pub use limits::{MOST_HIDDEN, MOST_VARIABLES};
 pub use name::{Name, Names};
 pub use program::{Program, statements};
 pub use stmt::{Block, Stmt};

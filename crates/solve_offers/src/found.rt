@@ -1,18 +1,19 @@
 //! What solving the problem of an edge and a row finds.
 
-ghost use Rattle.std.specs.Prelude.{◌≡◌, ◌<◌, length, MatchResult};
+ghost use Rattle.std.specs.Prelude.{◌≡◌, ◌*◌, ◌<◌, length, MatchResult};
+ghost use Rattle.flow_systems.specs.View.{equations_of};
 ghost use Rattle.cert_types.specs.Certificates.{evidence_of};
+ghost use Rattle.solve_composition.specs.Composed.{AreComposed};
 ghost use Rattle.solve_composition.specs.Value.{number_of};
 ghost use Rattle.base_fractions.specs.Extended.{extended};
 ghost use Rattle.solve_offers.specs.Found.{IsFound, upper_read};
 ghost use Rattle.solve_offers.specs.Stops.{IsSolvedStop};
 
-use crate::offering::Offering;
 use crate::stop::Stop;
 use base_fractions::Ext;
 use cert_types::Upper;
-use flow_systems::{PartFault, Site, Spot};
-use solve_transformer::{Value, operator};
+use flow_systems::{Bounds, PartFault, Site, Spot, System};
+use solve_transformer::{Paths, Value, operator};
 use std::alloc::Global;
 
 /// The transformer of an edge and a row, and the evidence of an upper bound that it shows.
@@ -46,25 +47,34 @@ fn upper(value: Value) -> Upper
     }
 }
 
-/// What the problem of an edge and a row gives where offers are made, solved anew.
+/// What the problem of an edge and a row at the bounds gives, solved anew for an offer in a round.
 ///
 /// # Errors
 ///
 /// `Wide` only where an operation of this transformer is too wide for a fraction, at the site of the offer of the edge and the
 /// row, in this round. `NoMemory`.
-pub fn solve_offer(alloc: Global, at: &Offering, edge: u32, row: u32) -> Result<Found, Stop>
-    requires edge { edge < length at.now.system.now.flow.edges }
-    requires row { row < length at.now.system.now.template }
-    ensures { MatchResult result (IsFound at.now.system.now at.now.bounds.now edge row)
-        (IsSolvedStop at.now.system.now at.now.bounds.now edge row at.now.round) }
+pub fn solve_offer(
+    alloc: Global,
+    system: &System,
+    paths: &Paths,
+    bounds: &Bounds,
+    edge: u32,
+    row: u32,
+    round: u32,
+) -> Result<Found, Stop>
+    requires composed { AreComposed (equations_of system.now) paths.now }
+    requires bounds { length bounds.now ≡ length system.now.flow.points * length system.now.template }
+    requires edge { edge < length system.now.flow.edges }
+    requires row { row < length system.now.template }
+    ensures { MatchResult result (IsFound system.now bounds.now edge row) (IsSolvedStop system.now bounds.now edge row round) }
 {
-    match operator(alloc, at.system, at.paths, at.bounds, edge, row) {
+    match operator(alloc, system, paths, bounds, edge, row) {
         Ok(value) => Ok(Found {
             value: supremum(&value),
             upper: upper(value),
         }),
         Err(PartFault::Wide { part, wide }) => Err(Stop::Wide(Spot {
-            round: at.round,
+            round,
             site: Site::Offer { edge, row, part },
             wide,
         })),

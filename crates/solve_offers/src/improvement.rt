@@ -41,7 +41,7 @@ fn offered_value(
     match known.value(at.system, edge, row) {
         Some(value) => Ok(value),
         None => {
-            let found = solve_offer(alloc, at, edge, row)?;
+            let found = solve_offer(alloc, at.system, at.paths, at.bounds, edge, row, at.round)?;
             let value = found.value;
             known.keep(at.system, edge, row, found);
             Ok(value)

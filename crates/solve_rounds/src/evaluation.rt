@@ -13,7 +13,6 @@ ghost use Rattle.solve_rounds.specs.Turning.{AreAllDone, ComesAfter, ComesAmong,
 use crate::growth::{Grown, grow_from};
 use crate::halt::RoundStop;
 use crate::lows::places;
-use crate::raised::Raised;
 use crate::turning::{Turning, finite, own, turn};
 use base_watch::Watch;
 use cert_types::{Step, Steps};
@@ -26,24 +25,41 @@ use std::alloc::Global;
 // The turns of one part: of the whole list first, and then of what each ray leaves.
 fn part<W: Watch>(
     alloc: Global,
-    at: &Raised,
+    system: &System,
+    paths: &Paths,
+    pick: &Pick,
+    round: u32,
+    raises: &[Step],
+    places: &[u32],
     list: &[u32],
     turning: &mut Turning,
     watch: &mut W,
 ) -> Result<(), RoundStop>
-    requires bounds { length turning.old.bounds ≡ length at.now.system.now.flow.points * length at.now.system.now.template }
+    requires composed { AreComposed (equations_of system.now) paths.now }
+    requires bounds { length turning.old.bounds ≡ length system.now.flow.points * length system.now.template }
+    requires pick { length pick.now ≡ length system.now.flow.points * length system.now.template }
+    requires chosen { IsPickAt system.now pick.now }
     requires few { length turning.old.steps.items + length list.now < 4294967296 }
-    requires part { IsPart at.now.system.now at.now.pick.now at.now.raises.now at.now.places.now list.now }
-    requires waiting { IsWaiting at.now.system.now at.now.pick.now at.now.raises.now at.now.places.now list.now turning.old.bounds }
-    ensures done { IfOk result (λ done. IsDone at.now.system.now at.now.pick.now at.now.raises.now at.now.places.now list.now turning.old
-        turning.new) }
-    ensures stop { IfErr result (IsTurnStop at.now.system.now at.now.pick.now (ComesAfter at.now.system.now at.now.raises.now
-        at.now.places.now list.now turning.old)
-        at.now.round) }
+    requires part { IsPart system.now pick.now raises.now places.now list.now }
+    requires waiting { IsWaiting system.now pick.now raises.now places.now list.now turning.old.bounds }
+    ensures done { IfOk result (λ done. IsDone system.now pick.now raises.now places.now list.now turning.old turning.new) }
+    ensures stop { IfErr result (IsTurnStop system.now pick.now (ComesAfter system.now raises.now places.now list.now turning.old)
+        round) }
 {
     let mut left = own(alloc, list)?;
     while !left.is_empty() {
-        left = turn(alloc, at, left.as_slice(), turning, watch)?;
+        left = turn(
+            alloc,
+            system,
+            paths,
+            pick,
+            round,
+            raises,
+            places,
+            left.as_slice(),
+            turning,
+            watch,
+        )?;
     }
     Ok(())
 }
@@ -51,24 +67,41 @@ fn part<W: Watch>(
 // The turns of the parts of a list, in order.
 fn turns<W: Watch>(
     alloc: Global,
-    at: &Raised,
+    system: &System,
+    paths: &Paths,
+    pick: &Pick,
+    round: u32,
+    raises: &[Step],
+    places: &[u32],
     list: &[u32],
     turning: &mut Turning,
     watch: &mut W,
 ) -> Result<(), RoundStop>
-    requires bounds { length turning.old.bounds ≡ length at.now.system.now.flow.points * length at.now.system.now.template }
+    requires composed { AreComposed (equations_of system.now) paths.now }
+    requires bounds { length turning.old.bounds ≡ length system.now.flow.points * length system.now.template }
+    requires pick { length pick.now ≡ length system.now.flow.points * length system.now.template }
+    requires chosen { IsPickAt system.now pick.now }
     requires none { length turning.old.steps.items ≡ 0 }
-    requires list { IsPart at.now.system.now at.now.pick.now at.now.raises.now at.now.places.now list.now }
-    requires waiting { PartsWait at.now.system.now at.now.pick.now at.now.raises.now at.now.places.now list.now turning.old.bounds }
-    ensures done { IfOk result (λ done. AreAllDone at.now.system.now at.now.pick.now at.now.raises.now at.now.places.now list.now
-        turning.old turning.new) }
-    ensures stop { IfErr result (IsTurnStop at.now.system.now at.now.pick.now (ComesAmong at.now.system.now at.now.pick.now
-        at.now.raises.now at.now.places.now list.now
-        turning.old.bounds) at.now.round) }
+    requires list { IsPart system.now pick.now raises.now places.now list.now }
+    requires waiting { PartsWait system.now pick.now raises.now places.now list.now turning.old.bounds }
+    ensures done { IfOk result (λ done. AreAllDone system.now pick.now raises.now places.now list.now turning.old turning.new) }
+    ensures stop { IfErr result (IsTurnStop system.now pick.now (ComesAmong system.now pick.now raises.now places.now list.now
+        turning.old.bounds) round) }
 {
-    let parts = parts(alloc, at.system, at.pick, list)?;
+    let parts = parts(alloc, system, pick, list)?;
     for number in 0..parts.count() {
-        part(alloc, at, parts.list(number), turning, watch)?;
+        part(
+            alloc,
+            system,
+            paths,
+            pick,
+            round,
+            raises,
+            places,
+            parts.list(number),
+            turning,
+            watch,
+        )?;
     }
     Ok(())
 }
@@ -118,15 +151,18 @@ pub(crate) fn round_from<W: Watch>(
         bounds: grown.bounds,
         steps: Vec::new(alloc),
     };
-    let at = Raised {
+    turns(
+        alloc,
         system,
         paths,
         pick,
         round,
-        raises: steps.as_slice(),
-        places: places.as_slice(),
-    };
-    turns(alloc, &at, list.as_slice(), &mut turning, watch)?;
+        steps.as_slice(),
+        places.as_slice(),
+        list.as_slice(),
+        &mut turning,
+        watch,
+    )?;
     steps.append(&mut turning.steps)?;
     Ok(Grown {
         bounds: turning.bounds,

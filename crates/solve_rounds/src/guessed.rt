@@ -3,24 +3,25 @@
 
 ghost use Rattle.std.specs.Prelude.{◌≡◌, ◌*◌, ◌<◌, ◌↔◌, ◌⊎◌, length, IfErr, IfOk, IfSome, IsTrue};
 ghost use Rattle.base_facts.specs.Elements.{In};
+ghost use Rattle.flow_systems.specs.View.{equations_of};
 ghost use Rattle.flow_systems.specs.declared.fault.Fault.TheVariants.{NoMemory};
+ghost use Rattle.solve_composition.specs.Composed.{AreComposed};
 ghost use Rattle.solve_joint.specs.Numbers.{ArePicked, IsPicked};
 ghost use Rattle.solve_rounds.specs.Guessed.{AllExceed, AreReached, HasTrace, IsPointReached, IsRayValid, IsReached};
 ghost use Rattle.solve_rounds.specs.Lows.{AreRaised};
 ghost use Rattle.solve_rounds.specs.Putting.{AreNumberedIn};
 
 use crate::putting::put_numbers;
-use crate::raised::Raised;
 use crate::turning::ray_items;
 use base_fractions::{Ext, Frac};
 use cert_checker::step_passes;
 use cert_types::{RayItems, Step};
-use flow_systems::{Bounds, Fracs, MOST_UNKNOWNS, PartFault, Trace};
+use flow_systems::{Bounds, Fracs, MOST_UNKNOWNS, PartFault, Pick, System, Trace};
 use solve_guess::{Asked, Guess, MOST_VECTORS, guess_end};
 use solve_joint::{Joined, Traces};
 use solve_offers::{Stop, exceeds, supremum};
 use solve_ray::{RateOf, Rates};
-use solve_transformer::{Value, operator};
+use solve_transformer::{Paths, Value, operator};
 use std::alloc::Global;
 
 // How many unknowns a list has at least for its joint problem to be guessed before it is solved. For fewer the exact problem
@@ -41,21 +42,25 @@ fn best_trace(value: Value) -> Option<Trace>
 // isn't, and none where an operation is too wide.
 fn reaching_trace(
     alloc: Global,
-    at: &Raised,
+    system: &System,
+    paths: &Paths,
+    pick: &Pick,
     bounds: &Bounds,
     unknown: u32,
     number: Frac,
 ) -> Result<Option<Trace>, Stop>
-    requires bounds { length bounds.now ≡ length at.now.system.now.flow.points * length at.now.system.now.template }
-    requires picked { IsPicked at.now.system.now at.now.pick.now unknown }
-    ensures reached { IfOk result (λ found. IfSome found (IsReached at.now.system.now at.now.pick.now bounds.now unknown number)) }
+    requires composed { AreComposed (equations_of system.now) paths.now }
+    requires pick { length pick.now ≡ length system.now.flow.points * length system.now.template }
+    requires bounds { length bounds.now ≡ length system.now.flow.points * length system.now.template }
+    requires picked { IsPicked system.now pick.now unknown }
+    ensures reached { IfOk result (λ found. IfSome found (IsReached system.now pick.now bounds.now unknown number)) }
     ensures stop { IfErr result (λ stop. stop ≡ NoMemory) }
 {
-    let rows = at.system.template.as_slice().len() as u32;
-    let Some(edge) = at.pick.at(unknown) else {
+    let rows = system.template.as_slice().len() as u32;
+    let Some(edge) = pick.at(unknown) else {
         return Ok(None);
     };
-    match operator(alloc, at.system, at.paths, bounds, edge, unknown % rows) {
+    match operator(alloc, system, paths, bounds, edge, unknown % rows) {
         Ok(value) => {
             let found = supremum(&value);
             if found != Ext::Fin(number) {
@@ -71,22 +76,26 @@ fn reaching_trace(
 // For each unknown of a list the trace by which its picked edge reaches its number at the bounds; none where one has none.
 fn reaching_traces(
     alloc: Global,
-    at: &Raised,
+    system: &System,
+    paths: &Paths,
+    pick: &Pick,
     bounds: &Bounds,
     list: &[u32],
     to: &[Frac],
 ) -> Result<Option<Vec<Trace>>, Stop>
-    requires bounds { length bounds.now ≡ length at.now.system.now.flow.points * length at.now.system.now.template }
-    requires picked { ArePicked at.now.system.now at.now.pick.now list.now }
+    requires composed { AreComposed (equations_of system.now) paths.now }
+    requires pick { length pick.now ≡ length system.now.flow.points * length system.now.template }
+    requires bounds { length bounds.now ≡ length system.now.flow.points * length system.now.template }
+    requires picked { ArePicked system.now pick.now list.now }
     requires numbers { length to.now ≡ length list.now }
     ensures traces { IfOk result (λ found. IfSome found (λ highs. length highs.items ≡ length list.now)) }
     ensures reached { IfOk result (λ found. IfSome found (λ highs.
-        AreReached at.now.system.now at.now.pick.now bounds.now list.now to.now highs.items (length list.now))) }
+        AreReached system.now pick.now bounds.now list.now to.now highs.items (length list.now))) }
     ensures stop { IfErr result (λ stop. stop ≡ NoMemory) }
 {
     let mut highs = Vec::new(alloc);
     for k in 0..list.len() {
-        match reaching_trace(alloc, at, bounds, list[k], to[k])? {
+        match reaching_trace(alloc, system, paths, pick, bounds, list[k], to[k])? {
             Some(trace) => highs.push(trace)?,
             None => return Ok(None),
         }
@@ -112,15 +121,19 @@ fn all_exceed(bounds: &Bounds, list: &[u32], to: &[Frac]) -> bool
 // bound.
 fn checked_point(
     alloc: Global,
-    at: &Raised,
+    system: &System,
+    paths: &Paths,
     bounds: &Bounds,
+    pick: &Pick,
     list: &[u32],
     to: Vec<Frac>,
 ) -> Result<Option<Joined>, Stop>
-    requires bounds { length bounds.now ≡ length at.now.system.now.flow.points * length at.now.system.now.template }
-    requires picked { ArePicked at.now.system.now at.now.pick.now list.now }
+    requires composed { AreComposed (equations_of system.now) paths.now }
+    requires bounds { length bounds.now ≡ length system.now.flow.points * length system.now.template }
+    requires pick { length pick.now ≡ length system.now.flow.points * length system.now.template }
+    requires picked { ArePicked system.now pick.now list.now }
     requires numbers { length to.items ≡ length list.now }
-    ensures reached { IfOk result (λ found. IfSome found (IsPointReached at.now.system.now at.now.pick.now bounds.now list.now)) }
+    ensures reached { IfOk result (λ found. IfSome found (IsPointReached system.now pick.now bounds.now list.now)) }
     ensures stop { IfErr result (λ stop. stop ≡ NoMemory) }
 {
     if !all_exceed(bounds, list, &to) {
@@ -128,7 +141,7 @@ fn checked_point(
     }
     let mut there = Bounds::new(bounds.as_slice().to_vec(alloc)?);
     put_numbers(&mut there, list, &to);
-    match reaching_traces(alloc, at, &there, list, &to)? {
+    match reaching_traces(alloc, system, paths, pick, &there, list, &to)? {
         Some(highs) => Ok(Some(Joined::Point {
             to: Fracs::new(to),
             highs: Traces::new(highs),
@@ -165,23 +178,24 @@ fn are_listed(list: &[u32], rates: &[RateOf]) -> bool
 // ray's step isn't valid.
 fn checked_ray(
     alloc: Global,
-    at: &Raised,
+    system: &System,
     bounds: &Bounds,
+    raises: &[Step],
+    places: &[u32],
     list: &[u32],
     rates: Rates,
 ) -> Result<Option<Joined>, Stop>
-    requires bounds { length bounds.now ≡ length at.now.system.now.flow.points * length at.now.system.now.template }
-    requires raised { AreRaised at.now.raises.now at.now.places.now list.now }
-    ensures valid { IfOk result (λ found. IfSome found (IsRayValid at.now.system.now at.now.raises.now at.now.places.now bounds.now
-        list.now)) }
+    requires bounds { length bounds.now ≡ length system.now.flow.points * length system.now.template }
+    requires raised { AreRaised raises.now places.now list.now }
+    ensures valid { IfOk result (λ found. IfSome found (IsRayValid system.now raises.now places.now bounds.now list.now)) }
     ensures stop { IfErr result (λ stop. stop ≡ NoMemory) }
 {
     let shown = rates.list.as_slice();
     if shown.is_empty() || shown.len() > MOST_UNKNOWNS as usize || !are_listed(list, shown) {
         return Ok(None);
     }
-    let step = Step::Ray(RayItems::new(ray_items(alloc, at.raises, at.places, shown)?));
-    if step_passes(alloc, at.system, &step, bounds)? {
+    let step = Step::Ray(RayItems::new(ray_items(alloc, raises, places, shown)?));
+    if step_passes(alloc, system, &step, bounds)? {
         Ok(Some(Joined::Ray(rates)))
     } else {
         Ok(None)
@@ -194,31 +208,36 @@ fn checked_ray(
 /// operation that is too wide is no error here.
 pub(crate) fn guessed(
     alloc: Global,
-    at: &Raised,
+    system: &System,
+    paths: &Paths,
     bounds: &Bounds,
+    pick: &Pick,
+    raises: &[Step],
+    places: &[u32],
     list: &[u32],
 ) -> Result<Option<Joined>, Stop>
-    requires bounds { length bounds.now ≡ length at.now.system.now.flow.points * length at.now.system.now.template }
-    requires picked { ArePicked at.now.system.now at.now.pick.now list.now }
-    requires raised { AreRaised at.now.raises.now at.now.places.now list.now }
-    ensures checked { IfOk result (λ found. IfSome found (λ joined. IsPointReached at.now.system.now at.now.pick.now bounds.now list.now
-        joined
-        ⊎ IsRayValid at.now.system.now at.now.raises.now at.now.places.now bounds.now list.now joined)) }
+    requires composed { AreComposed (equations_of system.now) paths.now }
+    requires bounds { length bounds.now ≡ length system.now.flow.points * length system.now.template }
+    requires pick { length pick.now ≡ length system.now.flow.points * length system.now.template }
+    requires picked { ArePicked system.now pick.now list.now }
+    requires raised { AreRaised raises.now places.now list.now }
+    ensures checked { IfOk result (λ found. IfSome found (λ joined. IsPointReached system.now pick.now bounds.now list.now joined
+        ⊎ IsRayValid system.now raises.now places.now bounds.now list.now joined)) }
     ensures stop { IfErr result (λ stop. stop ≡ NoMemory) }
 {
     if list.len() < FEWEST_GUESSED {
         return Ok(None);
     }
     let asked = Asked {
-        system: at.system,
-        paths: at.paths,
+        system,
+        paths,
         bounds,
-        pick: at.pick,
+        pick,
         list,
     };
     match guess_end(alloc, asked, MOST_VECTORS)? {
-        Some(Guess::Point(to)) => checked_point(alloc, at, bounds, list, to),
-        Some(Guess::Ray(rates)) => checked_ray(alloc, at, bounds, list, rates),
+        Some(Guess::Point(to)) => checked_point(alloc, system, paths, bounds, pick, list, to),
+        Some(Guess::Ray(rates)) => checked_ray(alloc, system, bounds, raises, places, list, rates),
         None => Ok(None),
     }
 }

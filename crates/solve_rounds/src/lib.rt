@@ -12,7 +12,6 @@ mod law;
 mod lows;
 mod putting;
 mod quiet_marks;
-mod raised;
 mod solution;
 mod solving;
 mod solving_by;

@@ -29,7 +29,7 @@ use base_fractions::Ext;
 use base_watch::Watch;
 use cert_types::{Step, Steps};
 use flow_systems::{Bounds, Pick, System};
-use solve_offers::{Chooser, Known, Offering, Policy, Stop, forget, improve_from};
+use solve_offers::{Chooser, Known, Policy, Stop, forget, improve_from};
 use solve_transformer::{Paths, compose_all};
 use std::alloc::Global;
 
@@ -109,13 +109,7 @@ fn finish(
     ensures stop { IfErr result (IsOfferStop system.now progress.bounds (made + 1)) }
 {
     let mut known = progress.known;
-    let at = Offering {
-        system,
-        paths,
-        bounds: &progress.bounds,
-        round: made + 1,
-    };
-    let uppers = uppers_at(alloc, &at, &mut known)?;
+    let uppers = uppers_at(alloc, system, paths, &progress.bounds, made + 1, &mut known)?;
     Ok(Solved {
         bounds: progress.bounds,
         improvements: made,

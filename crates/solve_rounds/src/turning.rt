@@ -20,15 +20,15 @@ use crate::guessed::guessed;
 use crate::halt::RoundStop;
 use crate::lows::{copied, edge_of, low_of};
 use crate::putting::{put_numbers, put_tops};
-use crate::raised::Raised;
 use base_fractions::{Ext, Frac};
 use base_limits::MOST_CELLS;
 use base_watch::Watch;
 use cert_types::{JumpItem, JumpItems, RayItem, RayItems, Step};
-use flow_systems::{Bounds, PartFault, Site, Spot, Trace};
+use flow_systems::{Bounds, PartFault, Pick, Site, Spot, System, Trace};
 use solve_joint::{Joined, joint, joint_cells};
 use solve_offers::Stop;
 use solve_ray::RateOf;
+use solve_transformer::Paths;
 use std::alloc::Global;
 
 // The bounds so far, and the steps of the turns in order.
@@ -174,45 +174,54 @@ fn stop_of(fault: PartFault, turn: u32, round: u32) -> RoundStop
 }
 
 // Nothing where the joint problem of a list is small enough to be solved, as any is of a system whose largest is.
-fn test_size(at: &Raised, list: &[u32]) -> Result<(), RoundStop>
+fn test_size(system: &System, paths: &Paths, pick: &Pick, list: &[u32]) -> Result<(), RoundStop>
+    requires composed { AreComposed (equations_of system.now) paths.now }
+    requires pick { length pick.now ≡ length system.now.flow.points * length system.now.template }
     requires rises { Rises 0 list.now }
-    requires picked { ArePicked at.now.system.now at.now.pick.now list.now }
-    ensures small { IfOk result (λ _. IsSmall at.now.system.now at.now.pick.now list.now) }
-    ensures stop { (bounds : List Extended) (turn round : ℕ) → IfErr result (IsJoinedStop at.now.system.now at.now.pick.now bounds
-        list.now turn round) }
+    requires picked { ArePicked system.now pick.now list.now }
+    ensures small { IfOk result (λ _. IsSmall system.now pick.now list.now) }
+    ensures stop { (bounds : List Extended) (turn round : ℕ) → IfErr result (IsJoinedStop system.now pick.now bounds list.now turn round) }
 {
-    let cells = joint_cells(at.system, at.paths, at.pick, list);
-    if cells > MOST_CELLS && at.system.cells() > MOST_CELLS {
+    let cells = joint_cells(system, paths, pick, list);
+    if cells > MOST_CELLS && system.cells() > MOST_CELLS {
         return Err(RoundStop::Large(cells));
     }
     Ok(())
 }
 
 // The outcome of a list at the bounds, after so many turns: a guess that passes its check, and else that of the joint problem.
+// It has as many parameters as a turn has.
 fn outcome<W: Watch>(
     alloc: Global,
-    at: &Raised,
+    system: &System,
+    paths: &Paths,
     bounds: &Bounds,
+    pick: &Pick,
+    raises: &[Step],
+    places: &[u32],
     list: &[u32],
     turn: u32,
+    round: u32,
     watch: &mut W,
 ) -> Result<Joined, RoundStop>
-    requires bounds { length bounds.now ≡ length at.now.system.now.flow.points * length at.now.system.now.template }
+    requires composed { AreComposed (equations_of system.now) paths.now }
+    requires bounds { length bounds.now ≡ length system.now.flow.points * length system.now.template }
+    requires pick { length pick.now ≡ length system.now.flow.points * length system.now.template }
     requires rises { Rises 0 list.now }
-    requires picked { ArePicked at.now.system.now at.now.pick.now list.now }
-    requires rising { AllRising (equations_of at.now.system.now) (vector_of (length at.now.system.now.template) bounds.now)
-        (all_listed at.now.system.now at.now.pick.now list.now) }
-    requires raised { AreRaised at.now.raises.now at.now.places.now list.now }
-    ensures found { IfOk result (IsFound at.now.system.now at.now.pick.now at.now.raises.now at.now.places.now bounds.now list.now) }
-    ensures stop { IfErr result (IsJoinedStop at.now.system.now at.now.pick.now bounds.now list.now turn at.now.round) }
+    requires picked { ArePicked system.now pick.now list.now }
+    requires rising { AllRising (equations_of system.now) (vector_of (length system.now.template) bounds.now)
+        (all_listed system.now pick.now list.now) }
+    requires raised { AreRaised raises.now places.now list.now }
+    ensures found { IfOk result (IsFound system.now pick.now raises.now places.now bounds.now list.now) }
+    ensures stop { IfErr result (IsJoinedStop system.now pick.now bounds.now list.now turn round) }
 {
-    if let Some(found) = guessed(alloc, at, bounds, list)? {
+    if let Some(found) = guessed(alloc, system, paths, bounds, pick, raises, places, list)? {
         return Ok(found);
     }
-    test_size(at, list)?;
-    match joint(alloc, at.system, at.paths, bounds, at.pick, list, watch) {
+    test_size(system, paths, pick, list)?;
+    match joint(alloc, system, paths, bounds, pick, list, watch) {
         Ok(joined) => Ok(joined),
-        Err(fault) => Err(stop_of(fault, turn, at.round)),
+        Err(fault) => Err(stop_of(fault, turn, round)),
     }
 }
 
@@ -253,24 +262,42 @@ fn take(
 /// solved, if it isn't too large. The watch is told the turn's number, and of the joint problem's pivots.
 pub(crate) fn turn<W: Watch>(
     alloc: Global,
-    at: &Raised,
+    system: &System,
+    paths: &Paths,
+    pick: &Pick,
+    round: u32,
+    raises: &[Step],
+    places: &[u32],
     list: &[u32],
     turning: &mut Turning,
     watch: &mut W,
 ) -> Result<Vec<u32>, RoundStop>
-    requires bounds { length turning.old.bounds ≡ length at.now.system.now.flow.points * length at.now.system.now.template }
+    requires composed { AreComposed (equations_of system.now) paths.now }
+    requires bounds { length turning.old.bounds ≡ length system.now.flow.points * length system.now.template }
+    requires pick { length pick.now ≡ length system.now.flow.points * length system.now.template }
+    requires chosen { IsPickAt system.now pick.now }
     requires few { length turning.old.steps.items < 4294967296 }
-    requires part { IsPart at.now.system.now at.now.pick.now at.now.raises.now at.now.places.now list.now }
+    requires part { IsPart system.now pick.now raises.now places.now list.now }
     requires some { 0 < length list.now }
-    requires condition { MeetsCondition at.now.system.now at.now.pick.now at.now.raises.now at.now.places.now list.now turning.old.bounds }
-    ensures turned { IfOk result (λ left. IsTurned at.now.system.now at.now.pick.now at.now.raises.now at.now.places.now list.now
-        turning.old turning.new left.items) }
-    ensures stop { IfErr result (IsJoinedStop at.now.system.now at.now.pick.now turning.old.bounds list.now (length
-        turning.old.steps.items) at.now.round) }
+    requires condition { MeetsCondition system.now pick.now raises.now places.now list.now turning.old.bounds }
+    ensures turned { IfOk result (λ left. IsTurned system.now pick.now raises.now places.now list.now turning.old turning.new left.items) }
+    ensures stop { IfErr result (IsJoinedStop system.now pick.now turning.old.bounds list.now (length turning.old.steps.items) round) }
 {
     let number = turning.steps.len() as u32;
     watch.turn(number);
-    let found = outcome(alloc, at, &turning.bounds, list, number, watch)?;
-    let left = take(alloc, at.raises, at.places, list, found, turning)?;
+    let found = outcome(
+        alloc,
+        system,
+        paths,
+        &turning.bounds,
+        pick,
+        raises,
+        places,
+        list,
+        number,
+        round,
+        watch,
+    )?;
+    let left = take(alloc, raises, places, list, found, turning)?;
     Ok(left)
 }

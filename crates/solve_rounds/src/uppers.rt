@@ -1,9 +1,10 @@
 //! The evidence of upper bounds that the offers at the last bounds show.
 
-ghost use Rattle.std.specs.Prelude.{◌≡◌, ◌<◌, ◌++◌, length, map, IfOk, IfErr};
+ghost use Rattle.std.specs.Prelude.{◌≡◌, ◌<◌, ◌≤◌, ◌*◌, ◌++◌, ℕ, length, map, IfOk, IfErr};
 ghost use Rattle.base_numbers.specs.Extended.{◌<ᴱ◌, pos_inf};
 ghost use Rattle.flow_systems.specs.View.{equations_of};
 ghost use Rattle.cert_types.specs.Certificates.{evidence_of};
+ghost use Rattle.solve_composition.specs.Composed.{AreComposed};
 ghost use Rattle.theory_rounds.specs.Made.{exact_upper, exact_uppers};
 ghost use Rattle.solve_offers.specs.AtBounds.{vector_at, edge_at, row_at};
 ghost use Rattle.solve_offers.specs.Known.{AreKnown};
@@ -11,7 +12,9 @@ ghost use Rattle.solve_offers.specs.Stops.{IsSolvedStop, IsOfferStop};
 ghost use Rattle.solve_rounds.specs.Uppers.{uppers_into, uppers_of_rows};
 
 use cert_types::{Upper, Uppers};
+use flow_systems::{Bounds, System};
 use solve_offers::{Known, Offering, Stop, is_unlimited, solve_offer};
+use solve_transformer::Paths;
 use std::alloc::Global;
 
 // The evidence for an edge and a row at the bounds: that of the offer, which is handed out, or else solved.
@@ -33,7 +36,7 @@ fn shown(
     match known.take(at.system, edge, row) {
         Some(found) => Ok(found.upper),
         None => {
-            let found = solve_offer(alloc, at, edge, row)?;
+            let found = solve_offer(alloc, at.system, at.paths, at.bounds, edge, row, at.round)?;
             Ok(found.upper)
         }
     }
@@ -98,15 +101,30 @@ fn push_point(
 ///
 /// `Wide` only where an operation of an offer is too wide for a fraction at these bounds, at the site of the offer and in this
 /// round, and the bound that the edge leads to is below `+inf`. `NoMemory`.
-pub(crate) fn uppers_at(alloc: Global, at: &Offering, known: &mut Known) -> Result<Uppers, Stop>
-    requires known { AreKnown at.now.system.now at.now.bounds.now known.old }
-    ensures uppers { IfOk result (λ uppers. map evidence_of uppers ≡ exact_uppers (equations_of at.now.system.now)
-        (vector_at at.now.system.now at.now.bounds.now)) }
-    ensures stop { IfErr result (IsOfferStop at.now.system.now at.now.bounds.now at.now.round) }
+pub(crate) fn uppers_at(
+    alloc: Global,
+    system: &System,
+    paths: &Paths,
+    bounds: &Bounds,
+    round: u32,
+    known: &mut Known,
+) -> Result<Uppers, Stop>
+    requires composed { AreComposed (equations_of system.now) paths.now }
+    requires bounds { length bounds.now ≡ length system.now.flow.points * length system.now.template }
+    requires known { AreKnown system.now bounds.now known.old }
+    ensures uppers { IfOk result (λ uppers. map evidence_of uppers ≡ exact_uppers (equations_of system.now)
+        (vector_at system.now bounds.now)) }
+    ensures stop { IfErr result (IsOfferStop system.now bounds.now round) }
 {
+    let at = Offering {
+        system,
+        paths,
+        bounds,
+        round,
+    };
     let mut uppers = Vec::new(alloc);
-    for point in 1..at.system.flow.points.as_slice().len() as u32 {
-        push_point(alloc, at, point, known, &mut uppers)?;
+    for point in 1..system.flow.points.as_slice().len() as u32 {
+        push_point(alloc, &at, point, known, &mut uppers)?;
     }
     Ok(Uppers::new(uppers))
 }

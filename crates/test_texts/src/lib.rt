@@ -3,11 +3,11 @@
 #![tactic(auto)]
 
 #[cfg(test)]
+mod asserts;
+#[cfg(test)]
 mod claims;
 #[cfg(test)]
 mod equations;
-#[cfg(test)]
-mod faults;
 #[cfg(test)]
 mod flows;
 #[cfg(test)]

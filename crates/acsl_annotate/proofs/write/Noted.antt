@@ -17,6 +17,7 @@ use Rattle.flow_templates.specs.Rows.{is_template}
 use Rattle.flow_templates.specs.declared.limits.TheConstants.{MOST_ROWS}
 use Rattle.flow_systems.specs.Equations.{Equations, Least, Vector}
 use Rattle.flow_systems.specs.SolutionLaws.{ProgramPostSolutionsHold}
+use Rattle.flow_systems.specs.SystemLimits.{is_over}
 use Rattle.flow_systems.specs.Solutions.{equations_of_program}
 use Rattle.flow_systems.specs.View.{vector_at}
 use Rattle.flow_systems.proofs.Sizes.{both}
@@ -150,6 +151,10 @@ module _ (text : List ℕ) (rows : Domain (List ℕ)) (policy : Policy) (limit :
       let said = notes text s.names s.body s.template v stands.tree in
       let least : Least (equations_of_program (length s.names) s.body s.template) v =
       subst (λ (q : Equations). Least q v) (equations_are s.names s.body s.template bounds.system s.system_for) found.least in
+      let rows_over : IsTrue (is_over (length s.names) s.template) =
+      subst (λ (t : List (List ℤ)). IsTrue (is_over (length s.names) t)) s.system_for.template_is
+      (subst (λ (ns : List (List ℕ)). IsTrue (is_over (length ns) bounds.system.template)) s.system_for.names_are
+      (both (is_over (length bounds.system.flow.names) bounds.system.template) _ bounds.system.within_limits).0) in
       let spelled : bytes ≡ with_comments 0 text said = written ∙ ap (with_comments 0 text) stands.list_is in
       record {
         names = s.names;
@@ -166,7 +171,7 @@ module _ (text : List ℕ) (rows : Domain (List ℕ)) (policy : Policy) (limit :
           comes_out = ap (λ b. without_comments 0 b said) spelled ∙ come text said stands.may_stand.order;
           means = stay text tokens said s.names s.body noted.reads stands.means stands.may_stand;
           truth = hold (length s.names) s.body s.template v (subst (λ (t : List (List ℤ)). 0 < length t) s.system_for.template_is some)
-              (post (length s.names) s.body s.template v least.solves.post);
+              (post (length s.names) s.body s.template v rows_over least.solves.post);
         };
       }
 

@@ -32,15 +32,6 @@ module _ (system : Equations) (z : Vector) (check : CheckCases) where
   abbrev pub IsJudgedOn : Edge → ℕ → Type 0
   IsJudgedOn edge k = IsPassed (NoneAt system z check edge) (FitsAt system z check edge) k
 
-  -- an edge has the check where it is open at a state
-  pub record IsOpened (edge : Edge) (x : RationalState) : Type 0 where
-    -- so not all of the edge's cases are closed
-    pub unproved : (Open x ≡ Proved) ↔ NoneOn system z check edge
-    -- a case is open at the state
-    pub opened : OpenOn system z check edge x
-    -- and up to it no operation is wide
-    pub fits : FitsOn system z check edge
-
   module _ (edge : Edge) where
     open_at_apart : (k : ℕ) (x : RationalState) → OpenAt system z check edge k x → NoneAt system z check edge k → ⊥
     open_at_apart k x a none =
@@ -99,17 +90,18 @@ module _ (system : Equations) (z : Vector) (check : CheckCases) where
             open_at = (stands_here edge check k action l is e, subst₂ (λ xs cs. IsOpen system z edge.from xs cs x) b g says)
 
             -- the check, where a case is open
-            on_open : OpenOn system z check edge x
+            pub on_open : OpenOn system z check edge x
             on_open = record { number = k; within = l; before = judged.none_below; here = open_at }
 
-            -- it is open at this state
-            pub on_opened : IsOpened edge x
-            on_opened = record {
-              unproved = ((λ f. absurd (open_apart x f)), (λ none. absurd (on_apart x on_open none)));
-              opened = on_open;
-              fits = found_fits (NoneAt system z check edge) (FitsAt system z check edge) k judged fits_here (length edge.actions)
-                  (λ none. open_at_apart k x open_at none);
-            }
+            -- so not all of the edge's cases are closed
+            pub on_unproved : (Open x ≡ Proved) ↔ NoneOn system z check edge
+            on_unproved = ((λ f. absurd (open_apart x f)), (λ none. absurd (on_apart x on_open none)))
+
+            -- and up to it no operation is wide
+            pub on_fits : FitsOn system z check edge
+            on_fits =
+                found_fits (NoneAt system z check edge) (FitsAt system z check edge) k judged fits_here (length edge.actions)
+                (λ none. open_at_apart k x open_at none)
 
   -- ---- all edges
   -- no case is open on any of the first e edges, and no operation there is wide

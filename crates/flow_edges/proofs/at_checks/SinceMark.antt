@@ -1,10 +1,10 @@
 -- What a run did since the last mark that it passed.
-use Rattle.std.proofs.Common.{◌≡◌, ◌⊎◌, inl, inr, ⊎_elim, ℕ, List, [], ◌∷◌, ◌++◌, refl, sym, subst, append_assoc, append-nil}
-use Rattle.std.specs.Prelude.{slice_set}
+use Rattle.std.proofs.Common.{◌≡◌, ◌⊎◌, inl, inr, ⊎_elim, ℕ, List, [], ◌∷◌, ◌++◌, ◌∙◌, refl, sym, ap, subst, append_assoc, append-nil}
+use Rattle.std.specs.Prelude.{pos}
 use Rattle.base_facts.specs.Elements.{In}
 use Rattle.lang_tree.specs.Tree.{Statements}
-use Rattle.lang_tree.specs.Meaning.{State, value}
-use Rattle.lang_tree.specs.Runs.{Item, node, mark, turn, end, start_work, Does, Configuration, Step, Follows}
+use Rattle.lang_tree.specs.Meaning.{State, put, value}
+use Rattle.lang_tree.specs.Runs.{Item, node, mark, turn, end, start_work, left_at, Does, Configuration, Step, Follows}
 use Rattle.flow_edges.specs.declared.edge.Action.{Action}
 use Rattle.flow_edges.specs.declared.edge.Action.TheVariants.{Guard, Assign, Havoc, Check}
 use Rattle.flow_edges.specs.Steps.{Labelled, steps_of, Acts}
@@ -17,8 +17,8 @@ use Rattle.flow_edges.proofs.at_checks.Lasting.{Lasting, step_lasts}
 acts-append : (a b : List Action) (x y z : State) → Acts a x y → Acts b y z → Acts (a ++ b) x z
 acts-append [] b x y z h k = subst (λ w. Acts b w z) h k
 acts-append (Guard f ∷ a) b x y z h k = (h.0, acts-append a b x y z h.1 k)
-acts-append (Assign var f ∷ a) b x y z h k = acts-append a b (slice_set x var (value f x)) y z h k
-acts-append (Havoc var ∷ a) b x y z h k = (h.0, acts-append a b (slice_set x var h.0) y z h.1 k)
+acts-append (Assign var f ∷ a) b x y z h k = acts-append a b (put (pos 0) x var (value f x)) y z h k
+acts-append (Havoc var ∷ a) b x y z h k = (h.0, acts-append a b (put (pos 0) x var h.0) y z h.1 k)
 acts-append (Check about ∷ a) b x y z h k = acts-append a b x y z h k
 
 -- ---- labelled steps with no mark on the way
@@ -45,7 +45,7 @@ part_leads start actions work (more before item rest s part m) =
     (leads_then start (item ∷ rest) s.work before (s.actions ++ []) (part_leads start before (item ∷ rest) part) one)
 
 -- ---- runs
-module _ (body : Statements) (run : List Configuration) where
+module _ (variables : ℕ) (body : Statements) (run : List Configuration) where
   -- the last mark that was passed, and what was done since
   pub record Since (work : List Item) (now : State) : Type 0 where
     -- where the mark was the first item
@@ -77,8 +77,11 @@ module _ (body : Statements) (run : List Configuration) where
   pub record Known (c : Configuration) : Type 0 where
     -- its work leads on
     pub lasts : Lasting c.work
+    -- the state before hidden values are forgotten
+    pub reached : State
+    pub left : c.state ≡ left_at variables c.work reached
     -- and it came from a mark
-    pub past_work : Past c.work c.state
+    pub past_work : Past c.work reached
 
   since_reached : (work : List Item) (now : State) → Since work now → (actions : List Action) × Leads (start_work body) actions work
   since_reached work now s = (
@@ -120,10 +123,10 @@ module _ (body : Statements) (run : List Configuration) where
         acts = acts-append s.actions r.0.actions s.source.state x y s.acts r.3;
       })
 
-  passed_mark : (a : Configuration) (p : ℕ) (rest work : List Item) (y : State) → In run a → a.work ≡ mark p ∷ rest
-      → Past (mark p ∷ rest) a.state → work ≡ rest → y ≡ a.state → Since work y
-  passed_mark a p rest work y m e h w z =
-      let r = work_reached (mark p ∷ rest) a.state h in
+  passed_mark : (a : Configuration) (p : ℕ) (rest work : List Item) (x y : State) → In run a → a.work ≡ mark p ∷ rest
+      → Past (mark p ∷ rest) x → work ≡ rest → y ≡ a.state → Since work y
+  passed_mark a p rest work x y m e h w z =
+      let r = work_reached (mark p ∷ rest) x h in
       subst (λ v. Since v y) (sym w) (subst (λ v. Since rest v) (sym z)
       (record {
         source = a;
@@ -138,28 +141,33 @@ module _ (body : Statements) (run : List Configuration) where
         acts = refl;
       }))
 
-  advanced : (a : Configuration) (item : Item) (rest work : List Item) (y : State) → In run a → a.work ≡ item ∷ rest
-      → Does item rest a.state work y → Past (item ∷ rest) a.state → Since work y
-  advanced a (mark p) rest work y m e d h = passed_mark a p rest work y m e h d.0 d.1
-  advanced a (node s n) rest work y m e d h =
-      went_on (node s n) rest a.state work y (λ t. t) d (since_mark (node s n) rest a.state (λ t. t) h)
-  advanced a (turn k c b l n) rest work y m e d h =
-      went_on (turn k c b l n) rest a.state work y (λ t. t) d (since_mark (turn k c b l n) rest a.state (λ t. t) h)
-  advanced a (end k c b l n) rest work y m e d h =
-      went_on (end k c b l n) rest a.state work y (λ t. t) d (since_mark (end k c b l n) rest a.state (λ t. t) h)
+  advanced_by : (a : Configuration) (item : Item) (rest work : List Item) (x y : State) → ¬ (IsMark item) → a.state ≡ x
+      → Does item rest a.state work y → Past (item ∷ rest) x → Since work y
+  advanced_by a item rest work x y other same d h =
+      went_on item rest x work y other (subst (λ z. Does item rest z work y) same d) (since_mark item rest x other h)
 
-  known_step : (a b : Configuration) → In run a → Step a b → Known a → Known b
+  advanced : (a : Configuration) (item : Item) (rest work : List Item) (x y : State) → In run a → a.work ≡ item ∷ rest
+      → a.state ≡ left_at variables (item ∷ rest) x → Does item rest a.state work y → Past (item ∷ rest) x → Since work y
+  advanced a (mark p) rest work x y m e same d h = passed_mark a p rest work x y m e h d.0 d.1
+  advanced a (node s n) rest work x y m e same d h = advanced_by a (node s n) rest work x y (λ t. t) same d h
+  advanced a (turn k c b l n) rest work x y m e same d h = advanced_by a (turn k c b l n) rest work x y (λ t. t) same d h
+  advanced a (end k c b l n) rest work x y m e same d h = advanced_by a (end k c b l n) rest work x y (λ t. t) same d h
+
+  known_step : (a b : Configuration) → In run a → Step variables a b → Known a → Known b
   known_step a b m step k =
-      let h = subst (λ w. Past w a.state) step.first k.past_work in
+      let h = subst (λ w. Past w k.reached) step.first k.past_work in
+      let same : a.state ≡ left_at variables (step.item ∷ step.rest) k.reached = k.left ∙ ap (λ w. left_at variables w k.reached) step.first in
       let l = subst Lasting step.first k.lasts in
       record {
-        lasts = step_lasts step.item step.rest a.state b.work b.state step.does l;
-        past_work = inr (advanced a step.item step.rest b.work b.state m step.first step.does h);
+        lasts = step_lasts step.item step.rest a.state b.work step.reached step.does l;
+        reached = step.reached;
+        left = step.left;
+        past_work = inr (advanced a step.item step.rest b.work k.reached step.reached m step.first same step.does h);
       }
 
   -- what holds of a configuration in the run holds of all that follow it
-  pub known_all : (a : Configuration) (cs : List Configuration) → ((c : Configuration) → In (a ∷ cs) c → In run c) → Follows a cs → Known a
-      → (c : Configuration) → In (a ∷ cs) c → Known c
+  pub known_all : (a : Configuration) (cs : List Configuration) → ((c : Configuration) → In (a ∷ cs) c → In run c) → Follows variables a cs
+      → Known a → (c : Configuration) → In (a ∷ cs) c → Known c
   known_all a [] all f k c m = ⊎_elim (λ e. subst Known e k) (λ n. absurd n) m
   known_all a (b ∷ cs) all f k c m =
       ⊎_elim (λ e. subst Known e k)

@@ -31,7 +31,7 @@ use Rattle.flow_edges.proofs.build.EdgeLimits.{EdgeFits, few_in, edges_fit}
 use Rattle.flow_edges.proofs.steps.ElementLemmas.{in_contains}
 use Rattle.flow_edges.proofs.edges.Ranges.{ranges_law}
 use Rattle.flow_edges.specs.declared.limits.TheConstants.{MOST_POINTS}
-use Rattle.lang_tree.specs.declared.limits.TheConstants.{MOST_VARIABLES}
+use Rattle.lang_tree.specs.declared.limits.TheConstants.{MOST_VARIABLES, MOST_HIDDEN}
 
 -- ---- a program's limits
 -- a program's numbers of variables and nodes, and its statements, are within the limits
@@ -43,14 +43,14 @@ pub record Limits (n : ℕ) (body : Statements) : Type 0 where
   -- there are at most 512 nodes
   pub nodes : nodes_in body ≤ 512
   -- the statements are within the limits
-  pub statements : IsTrue (are_statements n false body)
+  pub statements : IsTrue (are_statements (n + MOST_HIDDEN) false body)
 
 -- a program within the limits has each of its parts within them
 pub limits : (n : ℕ) (body : Statements) → IsTrue (is_program n body) → Limits n body
 limits n body h =
-    let p = and_parts (nat_le 1 n) (nat_le n MOST_VARIABLES && (nat_le (nodes_in body) 512 && are_statements n false body)) h in
-    let q = and_parts (nat_le n MOST_VARIABLES) (nat_le (nodes_in body) 512 && are_statements n false body) p.1 in
-    let r = and_parts (nat_le (nodes_in body) 512) (are_statements n false body) q.1 in
+    let p = and_parts (nat_le 1 n) (nat_le n MOST_VARIABLES && (nat_le (nodes_in body) 512 && are_statements (n + MOST_HIDDEN) false body)) h in
+    let q = and_parts (nat_le n MOST_VARIABLES) (nat_le (nodes_in body) 512 && are_statements (n + MOST_HIDDEN) false body) p.1 in
+    let r = and_parts (nat_le (nodes_in body) 512) (are_statements (n + MOST_HIDDEN) false body) q.1 in
     record {
       some_name = leb-true 1 n p.0;
       names = leb-true n MOST_VARIABLES q.0;
@@ -229,14 +229,14 @@ program_within names body h k l =
     let count : length points ≡ point_count body = (numbering body).count in
     let few : length points ≤ MOST_POINTS = omega (arith, (none_counted body k).0) in
     let two : 2 ≤ length points = omega arith in
-    let all : IsTrue (list_all (is_edge n (length points)) edges) = rw count (edges_within n body o.statements l) in
+    let all : IsTrue (list_all (is_edge (n + MOST_HIDDEN) (length points)) edges) = rw count (edges_within (n + MOST_HIDDEN) body o.statements l) in
     and_from (nat_le 1 n && nat_le n MOST_VARIABLES) _ (and_from (nat_le 1 n) (nat_le n MOST_VARIABLES) (le-leb 1 n o.some_name)
     (le-leb n MOST_VARIABLES o.names))
     (and_from (nat_le 2 (length points) && nat_le (length points) MOST_POINTS) _
     (and_from (nat_le 2 (length points)) (nat_le (length points) MOST_POINTS) (le-leb 2 (length points) two)
     (le-leb (length points) MOST_POINTS few))
     (and_from (begins_with_entry points && list_all has_line points) _ (points_within body)
-    (and_from (nat_le (length edges) 256) (list_all (is_edge n (length points)) edges) (le-leb (length edges) 256 (few_edges body k)) all)))
+    (and_from (nat_le (length edges) 256) (list_all (is_edge (n + MOST_HIDDEN) (length points)) edges) (le-leb (length edges) 256 (few_edges body k)) all)))
 
 -- where there is no fault, names, points and edges are a flow within the limits
 pub flow_within : (names : List (List ℕ)) (points : List Point) (edges : List Edge) (body : Statements)

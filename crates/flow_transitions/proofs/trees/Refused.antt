@@ -44,31 +44,45 @@ module _ (text : List ℕ) (names : List (List ℕ)) (points : List PointName) (
   abbrev Here : Stand → Kind → ℕ → Type 0
   Here stand k a = IsRefused text (progress names points edges stand) k a
 
-  -- ---- words
-  -- anything but the word `vars`
+  -- ---- heads
   pub no_vars : (k : Kind) (a : ℕ) → (k ≡ a_name (codes "vars") → ⊥) → Here at_vars k a
   no_vars k a n = no_word text (codes "vars") at_variable (progress names points edges at_vars) k a n
+
+  -- where a variable has to stand, anything but a name
+  pub no_variable : (k : Kind) (a : ℕ) → (IsName k → ⊥) → Here at_variable k a
+  no_variable k a n = no_name text _ k a n
+
+  -- behind a variable anything but `,` and `;`
+  pub no_variable_sign : (k : Kind) (a : ℕ) → ((k ≡ comma) ⊎ (k ≡ semicolon) → ⊥) → Here past_variable k a
+  no_variable_sign comma a n = absurd (n (inl refl))
+  no_variable_sign semicolon a n = absurd (n (inr refl))
+  no_variable_sign (change_sign replaces) a n = refl
+  no_variable_sign (demand_word to_assume) a n = refl
+  no_variable_sign _ a n = refl
 
   -- anything but the word `points`
   pub no_points : (k : Kind) (a : ℕ) → (k ≡ a_name (codes "points") → ⊥) → Here at_points k a
   no_points k a n = no_word text (codes "points") at_point (progress names points edges at_points) k a n
 
-  -- anything but the word `edge` and the end
+  -- where a point has to stand, anything but a name
+  pub no_point : (k : Kind) (a : ℕ) → (IsName k → ⊥) → Here at_point k a
+  no_point k a n = no_name text _ k a n
+
+  -- behind a point anything but `,` and `;`
+  pub no_point_sign : (k : Kind) (a : ℕ) → ((k ≡ comma) ⊎ (k ≡ semicolon) → ⊥) → Here past_point k a
+  no_point_sign comma a n = absurd (n (inl refl))
+  no_point_sign semicolon a n = absurd (n (inr refl))
+  no_point_sign (change_sign replaces) a n = refl
+  no_point_sign (demand_word to_assume) a n = refl
+  no_point_sign _ a n = refl
+
+  -- ---- edges
   pub no_edge : (k : Kind) (a : ℕ) → ((k ≡ a_name (codes "edge")) ⊎ (k ≡ the_end) → ⊥) → Here at_edge k a
   no_edge the_end a n = absurd (n (inr refl))
   no_edge (a_name x) a n = no_word text (codes "edge") _ (progress names points edges at_edge) (a_name x) a (λ e. n (inl e))
   no_edge (change_sign replaces) a n = refl
   no_edge (demand_word to_assume) a n = refl
   no_edge _ a n = refl
-
-  -- ---- names
-  -- where a variable has to stand, anything but a name
-  pub no_variable : (k : Kind) (a : ℕ) → (IsName k → ⊥) → Here at_variable k a
-  no_variable k a n = no_name text _ k a n
-
-  -- where a point has to stand, anything but a name
-  pub no_point : (k : Kind) (a : ℕ) → (IsName k → ⊥) → Here at_point k a
-  no_point k a n = no_name text _ k a n
 
   -- where the first point of an edge has to stand, anything but a name
   pub no_source_name : (line : ℕ) (k : Kind) (a : ℕ) → (IsName k → ⊥) → Here (at_source line) k a
@@ -84,23 +98,6 @@ module _ (text : List ℕ) (names : List (List ℕ)) (points : List PointName) (
   no_target_name line from at (demand_word to_assume) a n = refl
   no_target_name line from at _ a n = refl
 
-  -- ---- signs
-  -- behind a variable anything but `,` and `;`
-  pub no_variable_sign : (k : Kind) (a : ℕ) → ((k ≡ comma) ⊎ (k ≡ semicolon) → ⊥) → Here past_variable k a
-  no_variable_sign comma a n = absurd (n (inl refl))
-  no_variable_sign semicolon a n = absurd (n (inr refl))
-  no_variable_sign (change_sign replaces) a n = refl
-  no_variable_sign (demand_word to_assume) a n = refl
-  no_variable_sign _ a n = refl
-
-  -- behind a point anything but `,` and `;`
-  pub no_point_sign : (k : Kind) (a : ℕ) → ((k ≡ comma) ⊎ (k ≡ semicolon) → ⊥) → Here past_point k a
-  no_point_sign comma a n = absurd (n (inl refl))
-  no_point_sign semicolon a n = absurd (n (inr refl))
-  no_point_sign (change_sign replaces) a n = refl
-  no_point_sign (demand_word to_assume) a n = refl
-  no_point_sign _ a n = refl
-
   -- behind the points of an edge anything but `{`
   pub no_opening : (e : AutoEdge) (k : Kind) (a : ℕ) → (k ≡ left_brace → ⊥) → Here (at_opening e) k a
   no_opening e left_brace a n = absurd (n refl)
@@ -108,7 +105,7 @@ module _ (text : List ℕ) (names : List (List ℕ)) (points : List PointName) (
   no_opening e (demand_word to_assume) a n = refl
   no_opening e _ a n = refl
 
-  -- anything but an act and `}`
+  -- ---- acts
   pub no_act : (e : AutoEdge) (k : Kind) (a : ℕ) → ((k ≡ right_brace) ⊎ ((k ≡ assume_word) ⊎ IsName k) → ⊥) → Here (at_act e) k a
   no_act e right_brace a n = absurd (n (inl refl))
   no_act e (demand_word to_assume) a n = absurd (n (inr (inl refl)))

@@ -16,6 +16,7 @@ use Rattle.lang_tree.specs.Numbers.{is_number}
 use Rattle.lang_tree.specs.Limits.{is_form, is_condition, is_tested, is_change, is_kind, is_statement, are_statements, is_program}
 use Rattle.lang_tree.specs.declared.change.Change.{Change}
 use Rattle.lang_tree.specs.declared.change.Change.TheVariants as change
+use Rattle.lang_tree.proofs.Grown.{statements_grow}
 use Rattle.lang_tree.specs.Tree as tree
 use Rattle.lang_tree.specs.Tree.{Condition, Statement, Statements, nil, cons, change_count, kind_count, nodes_in}
 use Rattle.lang_meaning.specs.declared.fault.ParseFault.{ParseFault}
@@ -33,12 +34,12 @@ use Rattle.lang_meaning.specs.Walk.{walk_declarator, walk_declarators, walk_core
 use Rattle.lang_meaning.specs.Walk.{declared_sub, declared_items}
 use Rattle.lang_meaning.specs.Walk.{program_of, counted_for, demanded}
 use Rattle.lang_meaning.proofs.forms.Ranges.{both_true, zeros_fit}
-use Rattle.lang_tree.specs.declared.limits.TheConstants.{MOST_VARIABLES}
+use Rattle.lang_tree.specs.declared.limits.TheConstants.{MOST_VARIABLES, MOST_HIDDEN}
 use Rattle.lang_meaning.specs.Walk.{walk}
 use Rattle.lang_meaning.specs.Meaning.{Answer, Means}
 use Rattle.lang_tokens.specs.Lines.{line_at}
 use Rattle.lang_meaning.proofs.limits.Values.{OnValue, on_bind, FormFits, form_fits, ranged_fits, constant_length, variable_fits, ValueFits}
-use Rattle.lang_meaning.proofs.limits.Values.{compared_fits, combined_fits, prefix_fits, regarded_fits, TestFits, tested_fits, SideFits}
+use Rattle.lang_meaning.proofs.limits.Values.{whole_fits, compared_fits, combined_fits, prefix_fits, regarded_fits, TestFits, tested_fits, SideFits}
 use Rattle.lang_meaning.proofs.limits.Values.{side_fits, assigned_fits}
 use Rattle.lang_meaning.proofs.limits.ProgramPieces.{Below, known_below, Fits, Grows, Counted, Turns, counted_fits, follow_good}
 use Rattle.lang_meaning.proofs.limits.ProgramPieces.{follow_count, one_good, assignment_good, assignment_count, changed_good, changed_count}
@@ -249,7 +250,8 @@ module _ (line : ℕ → ℕ) (N : ℕ) where
   turned st now g (f, n, c) e h = (f, ap length n, omega (arith, c, e), (λ k. h (omega (arith, ap length n, k))))
 
   set_good : (i : ℕ) (z : ℤ) (l : ℕ) → i < N → IsTrue (is_number z) → IsTrue (is_change N (change.Set i (variable_form N i z) l))
-  set_good i z l h k = both_true (nat_lt i N) (is_form N (variable_form N i z)) (lt-ltb i N h) (variable_fits N i z k)
+  set_good i z l h k = both_true (nat_lt i N) (is_form N (variable_form N i z)) (lt-ltb i N h)
+      (whole_fits N (variable_form N i z) (variable_fits N i z k))
 
   step_good : (g : Direction) (i a : ℕ) → i < N → IsTrue (is_change N (step_change line N g i a))
   step_good up i a h = set_good i (pos 1) (line a) h refl
@@ -421,14 +423,16 @@ last_fits N d (x ∷ xs) q k h e =
     let l : length (x ∷ xs) ≡ length q.0.names = ap length (sym e) in
     let n : N ≡ length (x ∷ xs) = omega (arith, k, l, h.names, h.fits.few_names) in
     let c : nodes_in q.1 ≤ 512 = omega (arith, h.nodes, h.fits.few_nodes) in
-    let g : IsTrue (are_statements (length (x ∷ xs)) false q.1) = subst (λ (m : ℕ). IsTrue (are_statements m false q.1)) n
+    let k : IsTrue (are_statements (length (x ∷ xs)) false q.1) = subst (λ (m : ℕ). IsTrue (are_statements m false q.1)) n
     (h.good (omega (arith, n, l))) in
+    let m = length (x ∷ xs) + MOST_HIDDEN in
+    let g : IsTrue (are_statements m false q.1) = statements_grow (length (x ∷ xs)) m false q.1 (omega arith) k in
     both_true (nat_le 1 (length (x ∷ xs))) (nat_le (length (x ∷ xs)) MOST_VARIABLES
-    && (nat_le (nodes_in q.1) 512 && are_statements (length (x ∷ xs)) false q.1))
+    && (nat_le (nodes_in q.1) 512 && are_statements m false q.1))
     (le-leb 1 (length (x ∷ xs)) (omega arith))
-    (both_true (nat_le (length (x ∷ xs)) MOST_VARIABLES) (nat_le (nodes_in q.1) 512 && are_statements (length (x ∷ xs)) false q.1)
+    (both_true (nat_le (length (x ∷ xs)) MOST_VARIABLES) (nat_le (nodes_in q.1) 512 && are_statements m false q.1)
     (le-leb (length (x ∷ xs)) MOST_VARIABLES (omega (arith, l, h.fits.few_names)))
-    (both_true (nat_le (nodes_in q.1) 512) (are_statements (length (x ∷ xs)) false q.1) (le-leb (nodes_in q.1) 512 c) g))
+    (both_true (nat_le (nodes_in q.1) 512) (are_statements m false q.1) (le-leb (nodes_in q.1) 512 c) g))
 
 -- what the walk of a program's items gives, at the width of their declarations, is a program within the limits, or a fault
 pub program_fits : (line : ℕ → ℕ) (is : Items) → OnValue IsProgram (walk_items line (min MOST_VARIABLES (declared_items is)) false is

@@ -1,5 +1,5 @@
 -- Forms with all their columns: what their entries are, and those of rows and forms over a state.
-use Rattle.std.proofs.Common.{◌≡◌, ◌∙◌, ℕ, zero, suc, ◌<◌, List, [], ◌∷◌, length, get_or, map, ◌≢◌, refl, ap, ap₂, sym, arith}
+use Rattle.std.proofs.Common.{◌≡◌, ◌∙◌, ℕ, zero, suc, ◌<◌, List, [], ◌∷◌, length, get_or, map, replicate, ◌≢◌, refl, ap, ap₂, sym, arith}
 use Rattle.std.specs.Prelude.{ℤ}
 use Rattle.std.specs.List.{range_with_len}
 use Rattle.std.proofs.lemmas.List.FromFn.{fill_by_all}
@@ -18,6 +18,11 @@ pub length-first_entries : (w : ℕ) (xs : List ℚ) → length (first_entries w
 length-first_entries zero xs = refl
 length-first_entries (suc w) [] = ap suc (length-first_entries w [])
 length-first_entries (suc w) (x ∷ xs) = ap suc (length-first_entries w xs)
+
+-- those of no list are 0
+pub zeros_are : (w : ℕ) → first_entries w [] ≡ replicate w zero_ℚ
+zeros_are zero = refl
+zeros_are (suc w) = ap (λ xs. zero_ℚ ∷ xs) (zeros_are w)
 
 -- the entry at a place below w is that of the list, or zero behind its end
 pub get_or-first_entries : (w : ℕ) (xs : List ℚ) (k : ℕ) → k < w → get_or (first_entries w xs) k zero_ℚ ≡ get_or xs k zero_ℚ

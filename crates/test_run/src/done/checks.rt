@@ -1,6 +1,6 @@
 //! Checks of programs: verdicts on their assertions, with exit codes, and runs without verdicts.
 
-use crate::cases::{Case, Ending, first_wrong, run_over};
+use crate::cases::{Ending, first_wrong, run_over};
 use std::alloc::{AllocError, Global};
 use test_cases::{is_as_wanted, shelf, words_of};
 
@@ -67,16 +67,24 @@ const CASES: &[u8] = b"int main() { int x; assume(x >= 0 && x <= 2);
 
 const COUNT: &[u8] = b"int main() { int x = 0; while (x < 100) x = x + 1; end: }";
 
-const JUDGED: &[(&str, &[u8], Ending)] = &[
-    ("verify p", PAIR, Ending::Open(PAIR_OPEN)),
+const JUDGED: &[(&str, &[u8], &[u8], Ending)] = &[
+    ("verify p", PAIR, b"", Ending::Open(PAIR_OPEN)),
     (
         "verify p --domain octagons",
         PAIR,
+        b"",
+        Ending::Report(PAIR_PROVED),
+    ),
+    (
+        "verify --domain rows p --rows f",
+        PAIR,
+        b"x - y",
         Ending::Report(PAIR_PROVED),
     ),
     (
         "verify p",
         BRANCH,
+        b"",
         Ending::Open(
             b"check 0 at 5:9: assert: proved\ncheck 1 at 6:9: assert: open at x = 5\nproved 1 of 2\nimprovements: 2\n",
         ),
@@ -84,6 +92,7 @@ const JUDGED: &[(&str, &[u8], Ending)] = &[
     (
         "verify p",
         LOOP,
+        b"",
         Ending::Open(
             b"check 0 at 4:9: assert: proved\ncheck 1 at 4:25: assert: open at x = 9\nproved 1 of 2\nimprovements: 2\n",
         ),
@@ -91,11 +100,13 @@ const JUDGED: &[(&str, &[u8], Ending)] = &[
     (
         "verify p",
         BREAK,
+        b"",
         Ending::Report(b"check 0 at 2:1: assert: proved\nproved 1 of 1\nimprovements: 4\n"),
     ),
     (
         "verify p --policy first",
         BREAKS,
+        b"",
         Ending::Open(
             b"check 0 at 2:1: assert: proved\ncheck 1 at 3:1: assert: open at x = 5\nproved 1 of 2\nimprovements: 3\n",
         ),
@@ -103,22 +114,14 @@ const JUDGED: &[(&str, &[u8], Ending)] = &[
     (
         "verify p",
         FIRST,
+        b"",
         Ending::Open(b"check 0 at 2:17: assert: open at x = 0\nproved 0 of 1\nimprovements: 3\n"),
     ),
 ];
 
-// Rows of a file show what intervals don't.
-const BY_ROWS: (&str, &[u8], &[u8], Ending) = (
-    "verify --domain rows p --rows f",
-    PAIR,
-    b"x - y",
-    Ending::Report(PAIR_PROVED),
-);
-
 #[test]
 fn assertions_have_verdicts(rt: HostRuntime) {
     assert_eq!(rt; first_wrong(rt.alloc(), JUDGED), None);
-    assert!(rt; BY_ROWS.is_right(rt.alloc()));
 }
 
 const PLACED: &[(&str, &[u8], Ending)] = &[

@@ -29,11 +29,9 @@ impl Case for (&str, &str, &str) {
     }
 }
 
-const FORMAT: &str = "\"format\":1";
-
 const CHANGES: &[(&str, &str, &str)] = &[
-    (FORMAT, " \"format\" :\r\n\t1", ""),
-    (FORMAT, "\"f\\u006frmat\":1", ""),
+    ("\"format\":1", " \"format\" :\r\n\t1", ""),
+    ("\"format\":1", "\"f\\u006frmat\":1", ""),
     ("\"plain\"", "\"pl\\u0061in\"", ""),
     ("\"plain\"", "\"pl\\ud800in\"", "not json"),
     ("\"plain\"", "\"pl\\udc00in\"", "not json"),
@@ -50,27 +48,43 @@ const CHANGES: &[(&str, &str, &str)] = &[
         "\"to\":\"9223372036854775808\"",
         "number in steps",
     ),
-    (FORMAT, "\"format\":3,\"format\":1", ""),
-    (FORMAT, "\"format\":1,\"format\":3", "format"),
-    (FORMAT, "\"format\":1,\"Format\":1", "field top"),
-    (FORMAT, "\"format\":1.0", "field format"),
-    (FORMAT, "\"format\":1e0", "field format"),
-    (FORMAT, "\"format\":-0", "field format"),
-    (FORMAT, "\"format\":true", "field format"),
-    (FORMAT, "\"format\":-1", "format"),
-    (FORMAT, "\"format\":18446744073709551615", "format"),
-    (FORMAT, "\"format\":18446744073709551616", "field format"),
-    (FORMAT, "\"format\":-9223372036854775809", "field format"),
-    (FORMAT, "\"format\":01", "not json"),
-    (FORMAT, "\"format\":+1", "not json"),
-    (FORMAT, "\"format\":1e400", "not json"),
-    (FORMAT, "\"format\":NaN", "not json"),
-    (FORMAT, "\"format\":1,", "not json"),
 ];
+
+// What stands as the format in the certificate with a ray, and the cause; an empty one where it is accepted.
+const FORMATS: &[(&str, &str)] = &[
+    ("3,\"format\":1", ""),
+    ("1,\"format\":3", "format"),
+    ("1,\"Format\":1", "field top"),
+    ("1.0", "field format"),
+    ("1e0", "field format"),
+    ("-0", "field format"),
+    ("true", "field format"),
+    ("-1", "format"),
+    ("18446744073709551615", "format"),
+    ("18446744073709551616", "field format"),
+    ("-9223372036854775809", "field format"),
+    ("01", "not json"),
+    ("+1", "not json"),
+    ("1e400", "not json"),
+    ("NaN", "not json"),
+    ("1,", "not json"),
+];
+
+// Whether the certificate with this as its format is refused for this cause, or accepted where it is empty.
+fn is_format_answered(alloc: Global, value: &str, cause: &str) -> bool {
+    match format!(in alloc; "\"format\":{value}") {
+        Ok(format) => ("\"format\":1", format.as_str(), cause).is_right(alloc),
+        Err(_) => false,
+    }
+}
 
 #[test]
 fn values_are_read_as_json(rt: HostRuntime) {
     assert_eq!(rt; first_wrong(rt.alloc(), CHANGES), None);
+    let wrong = FORMATS
+        .iter()
+        .position(|row| !is_format_answered(rt.alloc(), row.0, row.1));
+    assert_eq!(rt; wrong, None);
 }
 
 // What stands before and behind the certificate with a ray, and the cause; an empty one where it is accepted.

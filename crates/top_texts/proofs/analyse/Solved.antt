@@ -50,9 +50,11 @@ pub least_report : (names : List (List ℕ)) (body : Statements) (s : System) (v
 least_report names body s v footer bytes n p e least text =
     let moved : Least (equations_of_program (length names) body s.template) v =
     subst (λ q. Least q v) (same_equations names body s n p e) least in
+    let over : IsTrue (is_over (length names) s.template) = subst (λ (ns : List (List ℕ)). IsTrue (is_over (length ns) s.template)) n
+    (both (is_over (length s.flow.names) s.template) _ s.within_limits).0 in
     record {
       least = moved;
-      holds = program_soundness (length names) body s.template v moved.solves.post;
+      holds = program_soundness (length names) body s.template v over moved.solves.post;
       report = text_of names body s.template s.flow.names s.flow.points v footer bytes n p text;
     }
 

@@ -11,6 +11,7 @@ use Rattle.flow_edges.specs.declared.fault.FlowFault.{FlowFault}
 use Rattle.flow_edges.specs.Faults.{fault_of_program}
 use Rattle.flow_templates.specs.declared.fault.RowFault.{RowFault}
 use Rattle.flow_systems.specs.declared.system.System.{System}
+use Rattle.flow_systems.specs.SystemLimits.{is_over}
 use Rattle.flow_systems.specs.Solutions.{equations_of_program}
 use Rattle.flow_systems.specs.View.{equations_of}
 use Rattle.ask_words.specs.declared.request.Domain.{Domain}
@@ -24,6 +25,15 @@ use Rattle.top_status.specs.declared.status.TextCause.TheVariants.{Lex, Parse, F
 use Rattle.flow_systems.specs.declared.limits.TheConstants.{MOST_UNKNOWNS}
 
 -- ---- the last stage: too many unknowns, or not
+
+-- the rows of such a template are over the names
+pub rows_over : (names : List (List ℕ)) (body : Statements) (template : List (List ℤ)) (s : System) → IsSystemFor names body template s
+    → IsTrue (is_over (length names) template)
+rows_over names body template s is =
+    subst (λ (rows : List (List ℤ)). IsTrue (is_over (length names) rows)) is.template_is
+    (subst (λ (ns : List (List ℕ)). IsTrue (is_over (length ns) s.template)) is.names_are
+    (and_parts (is_over (length s.flow.names) s.template) (nat_le (length s.flow.points * length s.template) MOST_UNKNOWNS)
+    s.within_limits).0)
 
 -- the equations of a system are those of its program and template
 pub equations_are : (names : List (List ℕ)) (body : Statements) (template : List (List ℤ)) (s : System) → IsSystemFor names body template s

@@ -1,4 +1,4 @@
-use Rattle.std.proofs.Common.{length, refl, sym, ap, subst, arith}
+use Rattle.std.proofs.Common.{◌+◌, length, refl, sym, ap, subst, arith}
 use Rattle.std.specs.Prelude.{IsTrue}
 use Rattle.std.specs.List.{list_all}
 use Rattle.std.proofs.lemmas.Result.{err_from_is_err_and}
@@ -8,13 +8,14 @@ use Rattle.ask_verdicts.proofs.firsts.Firsts.{none_lower}
 use Rattle.ask_verdicts.specs.Verdicts.{SaysOpen}
 use Rattle.ask_checks.specs.Verdicts.{NoneAt}
 use Rattle.ask_checks.proofs.places.Sizes.{all_take}
-use Rattle.ask_checks.proofs.verdicts.Turns.{IsOpened, on_other, on_refused, on_proved, on_opened}
+use Rattle.ask_checks.proofs.verdicts.Turns.{on_other, on_refused, on_proved, on_open, on_unproved, on_fits}
 use Rattle.ask_checks.proofs.judge.edge_verdict.Goals as goal
-use Rattle.ask_checks.proofs.judge.edge_verdict.Goals.{In-Open, then-is_check+in_ok-verdict+in-Proved, else-is_check}
+use Rattle.ask_checks.proofs.judge.edge_verdict.Goals.{then-is_check+in_ok-verdict+in-Proved, else-is_check}
+use Rattle.lang_tree.specs.declared.limits.TheConstants.{MOST_HIDDEN}
 
 pub verdict-requires-clause-actions : goal.verdict-requires-clause-actions
 verdict-requires-clause-actions c =
-    let n = length c.args.system.now.flow.names in
+    let n = length c.args.system.now.flow.names + MOST_HIDDEN in
     all_take (is_action n) c.as_slice-actions.result.now c.loop-place.place
     (subst (λ xs. IsTrue (list_all (is_action n) xs)) (sym c.as_slice-actions.ensures) c.requires.actions)
 
@@ -28,27 +29,38 @@ returns-in_err-verdict-clause-refused c =
     (c.if-is_check.ensures.0 refl) _ refl c.as_slice-against.result.now c.as_slice-against.ensures c.in_err-verdict.field-0.0
     c.in_err-verdict.ensures.refused)
 
--- the check is open on this edge, at the state that its verdict has
-opened : (c : In-Open) → IsOpened (equations_of c.args.system.now) (vector_at c.args.system.now c.args.bounds.now) c.args.check.now
-    c.args.edge.now c.in-Open.state
-opened c =
+pub returns-in-Open-clause-proved : goal.returns-in-Open-clause-proved
+returns-in-Open-clause-proved c =
     let s = c.args.system.now in
     let says = subst (SaysOpen (equations_of s) (vector_at s c.args.bounds.now) c.args.edge.now.from _ c.as_slice-against.result.now)
     c.in-Open.is
     c.in_ok-verdict.ensures.state in
-    on_opened (equations_of s) (vector_at s c.args.bounds.now) c.args.check.now c.args.edge.now c.loop-place.place c.loop-place.invariant
+    on_unproved (equations_of s) (vector_at s c.args.bounds.now) c.args.check.now c.args.edge.now c.loop-place.place c.loop-place.invariant
     c.as_slice-actions.result.now c.as_slice-actions.ensures c.index-actions-place.result c.loop-place-test.true c.index-actions-place.is
     (c.if-is_check.ensures.0 refl) _ refl c.as_slice-against.result.now c.as_slice-against.ensures c.in_ok-verdict.ensures.fits
     c.in-Open.state says
 
-pub returns-in-Open-clause-proved : goal.returns-in-Open-clause-proved
-returns-in-Open-clause-proved c = (opened (goal.at.returns-in-Open-clause-proved c).In-Open).unproved
-
 pub returns-in-Open-clause-state : goal.returns-in-Open-clause-state
-returns-in-Open-clause-state c = (opened (goal.at.returns-in-Open-clause-state c).In-Open).opened
+returns-in-Open-clause-state c =
+    let s = c.args.system.now in
+    let says = subst (SaysOpen (equations_of s) (vector_at s c.args.bounds.now) c.args.edge.now.from _ c.as_slice-against.result.now)
+    c.in-Open.is
+    c.in_ok-verdict.ensures.state in
+    on_open (equations_of s) (vector_at s c.args.bounds.now) c.args.check.now c.args.edge.now c.loop-place.place c.loop-place.invariant
+    c.as_slice-actions.result.now c.as_slice-actions.ensures c.index-actions-place.result c.loop-place-test.true c.index-actions-place.is
+    (c.if-is_check.ensures.0 refl) _ refl c.as_slice-against.result.now c.as_slice-against.ensures c.in_ok-verdict.ensures.fits
+    c.in-Open.state says
 
 pub returns-in-Open-clause-fits : goal.returns-in-Open-clause-fits
-returns-in-Open-clause-fits c = (opened (goal.at.returns-in-Open-clause-fits c).In-Open).fits
+returns-in-Open-clause-fits c =
+    let s = c.args.system.now in
+    let says = subst (SaysOpen (equations_of s) (vector_at s c.args.bounds.now) c.args.edge.now.from _ c.as_slice-against.result.now)
+    c.in-Open.is
+    c.in_ok-verdict.ensures.state in
+    on_fits (equations_of s) (vector_at s c.args.bounds.now) c.args.check.now c.args.edge.now c.loop-place.place c.loop-place.invariant
+    c.as_slice-actions.result.now c.as_slice-actions.ensures c.index-actions-place.result c.loop-place-test.true c.index-actions-place.is
+    (c.if-is_check.ensures.0 refl) _ refl c.as_slice-against.result.now c.as_slice-against.ensures c.in_ok-verdict.ensures.fits
+    c.in-Open.state says
 
 pub loop-place-preserved : goal.loop-place-preserved
 loop-place-preserved c =

@@ -1,5 +1,6 @@
-use Rattle.std.proofs.Common.{◌∙◌, inr, false, sym, ap, arith, length}
+use Rattle.std.proofs.Common.{◌+◌, ◌∙◌, inr, false, sym, ap, arith, length}
 use Rattle.std.specs.Prelude.{position}
+use Rattle.lang_tree.specs.declared.limits.TheConstants.{MOST_HIDDEN}
 use Rattle.flow_edges.specs.Faults.{is_long}
 use Rattle.flow_edges.proofs.build.EdgeLimits.{room_in}
 use Rattle.flow_edges.proofs.faults.FlowLaws.{limits, few_points, few_kept, long_faulted, no_fault, nothing_cut, flow_within}
@@ -13,7 +14,7 @@ counted_fault-requires c =
 pub edges_of-requires-clause-room : goal.edges_of-requires-clause-room
 edges_of-requires-clause-room c =
     let p = c.args.program.now in
-    room_in (length p.names) false p.body (limits (length p.names) p.body p.within_limits).statements
+    room_in (length p.names + MOST_HIDDEN) false p.body (limits (length p.names) p.body p.within_limits).statements
 
 pub long_edge-requires : goal.long_edge-requires
 long_edge-requires c =

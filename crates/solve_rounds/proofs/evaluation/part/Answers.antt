@@ -6,54 +6,49 @@ use Rattle.solve_rounds.proofs.evaluation.part.Goals as goal
 
 pub loop-alloc-init : goal.loop-alloc-init
 loop-alloc-init g c =
-    let at = c.args.at.now in
-    subst (λ l. IsParting at.system.now at.pick.now at.raises.now at.places.now c.args.list.now c.args.turning.now l
+    subst (λ l. IsParting c.args.system.now c.args.pick.now c.args.raises.now c.args.places.now c.args.list.now c.args.turning.now l
     c.args.turning.now) (sym c.in_ok-left.ensures.list)
-    (parting_starts at.system.now at.pick.now at.raises.now at.places.now c.args.list.now c.args.turning.now
+    (parting_starts c.args.system.now c.args.pick.now c.args.raises.now c.args.places.now c.args.list.now c.args.turning.now
     c.requires.part)
 
 pub turn-requires-clause-condition : goal.turn-requires-clause-condition
 turn-requires-clause-condition g c =
-    let at = c.args.at.now in
-    let system = at.system.now in
+    let system = c.args.system.now in
     let now = c.loop-alloc.turning in
     let left = c.as_slice.result.now in
-    let h = subst (λ l. IsParting system at.pick.now at.raises.now at.places.now c.args.list.now c.args.turning.now l now)
+    let h = subst (λ l. IsParting system c.args.pick.now c.args.raises.now c.args.places.now c.args.list.now c.args.turning.now l now)
     (sym c.as_slice.ensures.value) c.loop-alloc.invariant in
-    left_condition system at.pick.now at.raises.now at.places.now c.args.list.now c.args.turning.now left now at.chosen
+    left_condition system c.args.pick.now c.args.raises.now c.args.places.now c.args.list.now c.args.turning.now left now c.requires.chosen
     c.requires.waiting h
 
 pub returns-in_err-left-2-clause-stop : goal.returns-in_err-left-2-clause-stop
 returns-in_err-left-2-clause-stop g c =
-    let at = c.args.at.now in
     let q = err_from_is_err_and c.from_residual-in_err-left-2.result c.from_residual-in_err-left-2.ensures.1 in
-    let system = at.system.now in
+    let system = c.args.system.now in
     let now = c.loop-alloc.turning in
     let left = c.as_slice.result.now in
-    let h = subst (λ l. IsParting system at.pick.now at.raises.now at.places.now c.args.list.now c.args.turning.now l now)
+    let h = subst (λ l. IsParting system c.args.pick.now c.args.raises.now c.args.places.now c.args.list.now c.args.turning.now l now)
     (sym c.as_slice.ensures.value) c.loop-alloc.invariant in
     let some = subst (λ n. 0 < n) (sym c.as_slice.ensures.len) (not_none _ (sym c.is_empty.ensures ∙ c.loop-alloc-test.true)) in
     rw (q.1, q.2)
-    (left_stop system at.pick.now at.raises.now at.places.now c.args.list.now c.args.turning.now left now at.round
+    (left_stop system c.args.pick.now c.args.raises.now c.args.places.now c.args.list.now c.args.turning.now left now c.args.round
     c.in_err-left-2.field-0.0 c.requires.bounds some h c.in_err-left-2.ensures.stop)
 
 pub loop-alloc-preserved : goal.loop-alloc-preserved
 loop-alloc-preserved g c =
-    let at = c.args.at.now in
-    let system = at.system.now in
+    let system = c.args.system.now in
     let now = c.loop-alloc.turning in
     let left = c.as_slice.result.now in
-    let h = subst (λ l. IsParting system at.pick.now at.raises.now at.places.now c.args.list.now c.args.turning.now l now)
+    let h = subst (λ l. IsParting system c.args.pick.now c.args.raises.now c.args.places.now c.args.list.now c.args.turning.now l now)
     (sym c.as_slice.ensures.value) c.loop-alloc.invariant in
     let some = subst (λ n. 0 < n) (sym c.as_slice.ensures.len) (not_none _ (sym c.is_empty.ensures ∙ c.loop-alloc-test.true)) in
-    left_more system at.pick.now at.raises.now at.places.now c.args.list.now c.args.turning.now left c.in_ok-left-2.left.items
+    left_more system c.args.pick.now c.args.raises.now c.args.places.now c.args.list.now c.args.turning.now left c.in_ok-left-2.left.items
     now c.turn.new.turning some h c.in_ok-left-2.ensures.turned
 
 pub returns-clause-done : goal.returns-clause-done
 returns-clause-done g c =
-    let at = c.args.at.now in
     let v = c.loop-alloc.left in
     let k : vec_len v ≡ length v.items = omega (arith, v.ok.0) in
-    parting_ends at.system.now at.pick.now at.raises.now at.places.now c.args.list.now c.args.turning.now
+    parting_ends c.args.system.now c.args.pick.now c.args.raises.now c.args.places.now c.args.list.now c.args.turning.now
     c.loop-alloc.left.items c.loop-alloc.turning
     (no_element c.loop-alloc.left.items (sym k ∙ none_there _ (sym c.is_empty.ensures ∙ c.loop-alloc-test.false))) c.loop-alloc.invariant

@@ -7,16 +7,14 @@ use Rattle.solve_rounds.proofs.guessed.checked_point.Goals as goal
 
 pub all_exceed-requires-clause-within : goal.all_exceed-requires-clause-within
 all_exceed-requires-clause-within c k l =
-    let at = c.args.at.now in
     subst (λ n. get_or c.args.list.now k 0 < n) (sym c.requires.bounds)
-    (picked_in at.system.now at.pick.now c.args.list.now c.requires.picked k l).in_range
+    (picked_in c.args.system.now c.args.pick.now c.args.list.now c.requires.picked k l).in_range
 
 pub put_numbers-requires-clause-within : goal.put_numbers-requires-clause-within
 put_numbers-requires-clause-within c k l =
-    let at = c.args.at.now in
     let same : c.new-there.result ≡ c.args.bounds.now = search rules in
     subst (λ n. get_or c.args.list.now k 0 < n) (sym (ap length same ∙ c.requires.bounds))
-    (picked_in at.system.now at.pick.now c.args.list.now c.requires.picked k l).in_range
+    (picked_in c.args.system.now c.args.pick.now c.args.list.now c.requires.picked k l).in_range
 
 pub reaching_traces-requires-clause-bounds : goal.reaching_traces-requires-clause-bounds
 reaching_traces-requires-clause-bounds c =

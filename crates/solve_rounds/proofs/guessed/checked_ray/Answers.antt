@@ -19,18 +19,16 @@ positive (suc n) e = omega arith
 
 pub ray_items-requires : goal.ray_items-requires
 ray_items-requires c =
-    let at = c.args.at.now in
-    each_unknown (IsRaised at.raises.now at.places.now) (λ (rate : RateOf). rate.unknown) c.as_slice-shown.result.now no_rate
+    each_unknown (IsRaised c.args.raises.now c.args.places.now) (λ (rate : RateOf). rate.unknown) c.as_slice-shown.result.now no_rate
     c.args.list.now c.requires.raised (c.if-not-are_listed.ensures refl)
 
 pub returns-then-branch-clause-valid : goal.returns-then-branch-clause-valid
 returns-then-branch-clause-valid c =
-    let at = c.args.at.now in
-    let system = at.system.now in
+    let system = c.args.system.now in
     let eqs = equations_of system in
     let z = vector_at system c.args.bounds.now in
     let stands : Stands eqs c.args.bounds.now z = record { size = c.requires.bounds; at = λ p r l m. refl } in
-    subst (IsValidRay system at.raises.now at.places.now c.args.bounds.now c.args.list.now) c.as_slice-shown.ensures (record {
+    subst (IsValidRay system c.args.raises.now c.args.places.now c.args.bounds.now c.args.list.now) c.as_slice-shown.ensures (record {
       listed = c.if-not-are_listed.ensures refl;
       some = positive (length c.as_slice-shown.result.now) c.if-is_empty.ensures;
       valid = subst (λ items. ValidStep eqs z (step_of (length system.template) (RayStep items)))

@@ -5,25 +5,22 @@ use Rattle.solve_rounds.proofs.turning.turn.Goals as goal
 
 pub outcome-requires-clause-rising : goal.outcome-requires-clause-rising
 outcome-requires-clause-rising g c =
-    let at = c.args.at.now in
-    let system = at.system.now in
-    let pick = at.pick.now in
+    let system = c.args.system.now in
+    let pick = c.args.pick.now in
     let old = c.args.turning.now in
-    rising system pick at.raises.now at.places.now c.args.list.now c.requires.part old.bounds c.requires.bounds c.requires.condition
+    rising system pick c.args.raises.now c.args.places.now c.args.list.now c.requires.part old.bounds c.requires.bounds c.requires.condition
 
 pub take-requires-clause-sizes : goal.take-requires-clause-sizes
 take-requires-clause-sizes g c =
-    let at = c.args.at.now in
-    found_sizes at.system.now at.pick.now at.raises.now at.places.now c.args.turning.now.bounds c.args.list.now
+    found_sizes c.args.system.now c.args.pick.now c.args.raises.now c.args.places.now c.args.turning.now.bounds c.args.list.now
     c.in_ok-found.found c.in_ok-found.ensures.found
 
 pub returns-clause-turned : goal.returns-clause-turned
 returns-clause-turned g c =
-    let at = c.args.at.now in
-    let system = at.system.now in
-    let pick = at.pick.now in
-    let raises = at.raises.now in
-    let places = at.places.now in
+    let system = c.args.system.now in
+    let pick = c.args.pick.now in
+    let raises = c.args.raises.now in
+    let places = c.args.places.now in
     let list = c.args.list.now in
     let old = c.args.turning.now in
     let new = c.take.new.turning in
@@ -32,5 +29,5 @@ returns-clause-turned g c =
     let is_found = c.in_ok-found.ensures.found in
     turned_by system pick raises places list part c.requires.some old new c.in_ok-left.left.items c.requires.bounds c.requires.condition
     found (found_sizes system pick raises places old.bounds list found is_found)
-    (found_facts system pick at.chosen raises places list part old.bounds c.requires.bounds c.requires.condition found is_found)
+    (found_facts system pick c.requires.chosen raises places list part old.bounds c.requires.bounds c.requires.condition found is_found)
     c.in_ok-left.ensures.taken

@@ -9,9 +9,9 @@ use Rattle.solve_rounds.proofs.uppers.uppers_at.Goals as goal
 
 pub loop-point-preserved : goal.loop-point-preserved
 loop-point-preserved c =
-    let system = c.args.at.now.system.now in
+    let system = c.args.system.now in
     let E = equations_of system in
-    let z = vector_at system c.args.at.now.bounds.now in
+    let z = vector_at system c.args.bounds.now in
     let p = c.loop-point.point in
     let l = c.loop-point.invariant.later in
     record {
@@ -27,9 +27,9 @@ loop-point-preserved c =
 
 pub returns-clause-uppers : goal.returns-clause-uppers
 returns-clause-uppers c =
-    let system = c.args.at.now.system.now in
+    let system = c.args.system.now in
     let E = equations_of system in
-    let z = vector_at system c.args.at.now.bounds.now in
+    let z = vector_at system c.args.bounds.now in
     let l = c.loop-point.invariant.later in
     let two = (flow_sizes system.flow).two_points in
     let all : length c.as_slice.result.now ≡ length system.flow.points = ap (λ (ps : List _). length ps) c.as_slice.ensures in

@@ -9,7 +9,6 @@ use Rattle.solve_rounds.proofs.uppers.uppers_at.Given as goal
 abbrev pub invariant-loop-point : goal.invariant-loop-point
 invariant-loop-point l = record {
   later : 1 ≤ l.point;
-  uppers : map evidence_of l.uppers.items
-      ≡ uppers_of_points (equations_of l.at.system.now) (vector_at l.at.system.now l.at.bounds.now) (l.point - 1);
-  known : AreKnown l.at.system.now l.at.bounds.now l.known;
+  uppers : map evidence_of l.uppers.items ≡ uppers_of_points (equations_of l.system) (vector_at l.system l.bounds) (l.point - 1);
+  known : AreKnown l.system l.bounds l.known;
 }
