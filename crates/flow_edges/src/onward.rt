@@ -9,22 +9,48 @@ use crate::edge::{Action, Edge, Edges};
 use crate::trail::Trail;
 use std::alloc::{AllocError, Global};
 
-/// Where jumps go on: the edges walked from past the innermost loop, and from the end of its body.
+/// Where jumps go on: the edges walked from past the innermost loop, from the end of its body, and from the exit's mark on.
 #[derive(Drop)]
 pub(crate) struct JumpEdges {
     pub(crate) broken: Edges,
     pub(crate) continued: Edges,
+    pub(crate) returned: Edges,
 }
 
-/// Where no loop is, a jump leads nowhere.
-pub(crate) fn no_jumps(alloc: Global) -> JumpEdges
-    ensures broken { result.broken ≡ [] }
-    ensures continued { result.continued ≡ [] }
+/// Where no loop is, a jump leads nowhere but to the exit, which is this point.
+pub(crate) fn no_jumps(alloc: Global, exit: u32) -> Result<JumpEdges, AllocError>
+    ensures broken { IfOk result (λ jumps. jumps.broken ≡ []) }
+    ensures continued { IfOk result (λ jumps. jumps.continued ≡ []) }
+    ensures returned { IfOk result (λ jumps. walked jumps.returned ≡ arrived exit) }
 {
-    JumpEdges {
+    let returned = arrival(alloc, exit)?;
+    Ok(JumpEdges {
         broken: Edges::new(Vec::new(alloc)),
         continued: Edges::new(Vec::new(alloc)),
+        returned,
+    })
+}
+
+/// Those in a loop's body: a `return` goes on as outside the loop.
+pub(crate) fn loop_jumps(
+    alloc: Global,
+    broken: Edges,
+    continued: Edges,
+    returned: &Edges,
+) -> Result<JumpEdges, AllocError>
+    ensures broken { IfOk result (λ jumps. jumps.broken ≡ broken) }
+    ensures continued { IfOk result (λ jumps. jumps.continued ≡ continued) }
+    ensures returned { IfOk result (λ jumps. walked jumps.returned ≡ walked returned.now) }
+{
+    let mut list = Vec::new(alloc);
+    for edge in returned.as_slice() {
+        list.push(Trail::new(alloc, edge.from).along(alloc, &edge.actions)?.end(edge.to))?;
     }
+    Ok(JumpEdges {
+        broken,
+        continued,
+        returned: Edges::new(list),
+    })
 }
 
 /// The one edge that is at the point already.
@@ -32,15 +58,6 @@ pub(crate) fn arrival(alloc: Global, point: u32) -> Result<Edges, AllocError>
     ensures { IfOk result (λ edges. walked edges ≡ arrived point) }
 {
     only(alloc, Trail::new(alloc, point).end(point))
-}
-
-/// The one edge that comes to the point by the action.
-pub(crate) fn arrival_by(alloc: Global, action: Action, point: u32) -> Result<Edges, AllocError>
-    ensures { IfOk result (λ edges. walked edges ≡ prefixed (action ∷ []) (arrived point)) }
-{
-    let mut trail = Trail::new(alloc, point);
-    trail.add(action)?;
-    only(alloc, trail.end(point))
 }
 
 fn only(alloc: Global, edge: Edge) -> Result<Edges, AllocError>

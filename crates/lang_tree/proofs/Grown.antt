@@ -1,13 +1,13 @@
 -- What is over some variables is over more.
-use Rattle.std.proofs.Common.{ℕ, ◌≤◌, Bool, true, ◌&&◌, length, refl, arith, nat_le, nat_lt}
+use Rattle.std.proofs.Common.{ℕ, ◌≤◌, Bool, true, List, [], ◌∷◌, ◌&&◌, length, refl, arith, nat_le, nat_lt}
 use Rattle.std.specs.Prelude.{IsTrue}
 use Rattle.std.proofs.lemmas.Bool.{and_from, and_parts, leb-true, le-leb, ltb-true, lt-ltb}
 use Rattle.lang_tree.specs.declared.form.Form.{Form}
-use Rattle.lang_tree.specs.declared.change.Change.{Change}
-use Rattle.lang_tree.specs.declared.change.Change.TheVariants as change
+use Rattle.std.specs.List.{list_all}
+use Rattle.lang_tree.specs.Tree.{Deed, sets, havocs, wheres, checks}
 use Rattle.lang_tree.specs.Tree.{Condition, free, compare, negation, both, either, leaf_count, LoopKind, while_loop, for_loop, do_loop}
 use Rattle.lang_tree.specs.Tree.{Statement, Statements, set, havoc, assume, only_where, check, branch, loop, jump, label, nil, cons}
-use Rattle.lang_tree.specs.Limits.{has_numbers, is_form, is_compared, is_condition, is_tested, is_change, is_kind, is_statement}
+use Rattle.lang_tree.specs.Limits.{has_numbers, is_form, is_compared, is_condition, is_tested, is_deed, is_kind, is_statement}
 use Rattle.lang_tree.specs.Limits.{are_statements}
 
 -- both hold where they held of something else
@@ -35,16 +35,23 @@ pub tested_grows : (m n : ℕ) (c : Condition) → m ≤ n → IsTrue (is_tested
 tested_grows m n c l h = both_parts (nat_le (leaf_count c) 64) (is_condition m c) (nat_le (leaf_count c) 64) (is_condition n c)
     (λ k. k) (condition_grows m n c l) h
 
-change_grows : (m n : ℕ) (g : Change) → m ≤ n → IsTrue (is_change m g) → IsTrue (is_change n g)
-change_grows m n change.Unchanged l h = refl
-change_grows m n (change.Set var form line) l h = both_parts (nat_lt var m) (is_form m form) (nat_lt var n) (is_form n form)
+deed_grows : (m n : ℕ) (d : Deed) → m ≤ n → IsTrue (is_deed m d) → IsTrue (is_deed n d)
+deed_grows m n (sets var form line) l h = both_parts (nat_lt var m) (is_form m form) (nat_lt var n) (is_form n form)
     (below_grows m n var l) (form_grows m n form l) h
-change_grows m n (change.Havoc var line) l h = below_grows m n var l h
+deed_grows m n (havocs var line) l h = below_grows m n var l h
+deed_grows m n (wheres cond line) l h = tested_grows m n cond l h
+deed_grows m n (checks about cond line) l h = tested_grows m n cond l h
+
+deeds_grow : (m n : ℕ) (ds : List Deed) → m ≤ n → IsTrue (list_all (is_deed m) ds) → IsTrue (list_all (is_deed n) ds)
+deeds_grow m n [] l h = refl
+deeds_grow m n (d ∷ ds) l h = both_parts (is_deed m d) (list_all (is_deed m) ds) (is_deed n d) (list_all (is_deed n) ds)
+    (deed_grows m n d l) (deeds_grow m n ds l) h
 
 kind_grows : (m n : ℕ) (kind : LoopKind) → m ≤ n → IsTrue (is_kind m kind) → IsTrue (is_kind n kind)
-kind_grows m n while_loop l h = refl
-kind_grows m n (for_loop g) l h = change_grows m n g l h
-kind_grows m n do_loop l h = refl
+kind_grows m n (while_loop p) l h = deeds_grow m n p l h
+kind_grows m n (for_loop p g) l h = both_parts (list_all (is_deed m) p) (list_all (is_deed m) g) (list_all (is_deed n) p)
+    (list_all (is_deed n) g) (deeds_grow m n p l) (deeds_grow m n g l) h
+kind_grows m n (do_loop p) l h = deeds_grow m n p l h
 
 mutual
   statement_grows : (m n : ℕ) (i : Bool) (s : Statement) → m ≤ n → IsTrue (is_statement m i s) → IsTrue (is_statement n i s)

@@ -6,6 +6,7 @@
 mod change;
 mod check;
 mod cond;
+mod deed;
 mod form;
 mod law;
 mod limits;
@@ -16,6 +17,7 @@ mod stmt;
 pub use change::Change;
 pub use check::{Check, CheckKind};
 pub use cond::{Cond, Rel, leaves};
+pub use deed::{Deed, Deeds};
 pub use form::{Coeffs, Form};
 pub use law::cases_are_truth;
 pub use limits::{MOST_HIDDEN, MOST_VARIABLES};

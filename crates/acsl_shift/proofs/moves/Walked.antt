@@ -251,12 +251,12 @@ module _ (to line other : ℕ → ℕ) (width : ℕ) where
     kept_core inside (repeat a b e c s) st =
         counted_then (Alike without_lines) a e st _ _ (λ x now.
         lines_then (walk_sub line width true s now) (walk_sub other width true (move_sub to s) now) _ _ (kept_sub true s now)
-        (λ last ns ms h. alike_ok without_lines last _ _ (ap (λ z. one (tree.loop tree.while_loop x z 0)) h)))
+        (λ last ns ms h. alike_ok without_lines last _ _ (ap (λ z. one (tree.loop (tree.while_loop []) x z 0)) h)))
     kept_core inside (repeat_after a s b c e d i) st =
         same_then (Alike without_lines) (counted a st) (counted (to a) st) _ _ (kept_counted a (to a) st) (λ now.
         lines_then (walk_sub line width true s now) (walk_sub other width true (move_sub to s) now) _ _ (kept_sub true s now)
         (λ last ns ms h. tested_then (Alike without_lines) a e last _ _
-        (λ x. alike_ok without_lines last _ _ (ap (λ z. one (tree.loop tree.do_loop x z 0)) h))))
+        (λ x. alike_ok without_lines last _ _ (ap (λ z. one (tree.loop (tree.do_loop []) x z 0)) h))))
     kept_core inside (repeat_for a b f t l s) st =
         lines_then (walk_first line width f st) (walk_first other width (move_first to f) st) _ _ (kept_first f st) (λ begun us vs h.
         same_then (Alike without_lines) (walk_test line width a t begun) (walk_test other width (to a) (move_test to t) begun) _ _
@@ -267,8 +267,8 @@ module _ (to line other : ℕ → ℕ) (width : ℕ) where
         (λ then c d i. lines_then (walk_sub line width true s then) (walk_sub other width true (move_sub to s) then) _ _
         (kept_sub true s then)
         (λ last ns ms j. alike_ok without_lines (closed (length st.known) last) _ _
-        (followed_alike us (one (tree.loop (tree.for_loop c) x ns (line a))) vs (one (tree.loop (tree.for_loop d) x ms (other (to a)))) h
-        (ap₂ (λ z w. one (tree.loop (tree.for_loop z) x w 0)) i j)))))))
+        (followed_alike us (one (tree.loop (tree.for_loop [] (tree.change_deeds c)) x ns (line a))) vs (one (tree.loop (tree.for_loop [] (tree.change_deeds d)) x ms (other (to a)))) h
+        (ap₂ (λ z w. one (tree.loop (tree.for_loop [] (tree.change_deeds z)) x w 0)) i j)))))))
     kept_core inside (jumps j a b) st =
         same_then (Alike without_lines) (jumped inside a st) (jumped inside (to a) st) _ _ (kept_jumped inside a (to a) st)
         (λ now. alike_ok without_lines now _ _ refl)

@@ -5,6 +5,7 @@ use Rattle.std.proofs.lemmas.List.{take_all}
 use Rattle.lang_tree.specs.declared.limits.TheConstants.{MOST_HIDDEN}
 use Rattle.lang_tree.specs.Meaning.{State}
 use Rattle.lang_tree.specs.Tree.{Condition, Statements, check}
+use Rattle.lang_tree.specs.PointNumbers.{exit_of}
 use Rattle.lang_tree.specs.Runs.{Item, node, start_work, left_at, Configuration, IsAtCheck}
 use Rattle.flow_edges.specs.declared.edge.Action.TheVariants as action
 use Rattle.flow_edges.specs.Steps.{labelled}
@@ -24,16 +25,16 @@ module _ (variables : ℕ) (body : Statements) (run : List Configuration) where
       → CameAlong body run about now
   came_along now about c line n rest l s =
       let item = node (check about c line) n in
-      let h = work_comes rest l.2 l.1 in
+      let h = work_comes (exit_of body) rest l.2 l.1 in
       let later = action.Check about ∷ h.0 in
-      let ahead : Arrives (item ∷ rest) later h.1 h.2 =
+      let ahead : Arrives (exit_of body) (item ∷ rest) later h.1 h.2 =
       by_step item rest (labelled (action.Check about ∷ []) rest) h.0 h.1 h.2 (inl refl) h.3 in
       let path : Path body s.from (s.actions ++ later) h.1 = record {
         before = s.earlier;
         behind = s.behind;
         reached = s.reached;
         after = h.2;
-        arrives = part_arrives s.behind s.actions (item ∷ rest) later h.1 h.2 s.part ahead;
+        arrives = part_arrives (exit_of body) s.behind s.actions (item ∷ rest) later h.1 h.2 s.part ahead;
       } in
       record {
         edge = record { from = s.from; to = h.1; actions = s.actions ++ later };

@@ -1,13 +1,13 @@
 -- Counts are the same up to the limit where what they are made of is.
-use Rattle.std.proofs.Common.{◌≡◌, ◌∙◌, ℕ, ◌+◌, ◌*◌, ◌≤◌, Bool, true, false, min, refl, sym, ap, arith}
+use Rattle.std.proofs.Common.{◌≡◌, ◌∙◌, ℕ, ◌+◌, ◌*◌, ◌≤◌, Bool, true, false, List, [], ◌∷◌, min, refl, sym, ap, arith}
 use Rattle.std.specs.Prelude.{◌||◌, if◌then◌else◌}
-use Rattle.lang_tree.specs.Tree.{Condition, LoopKind, while_loop, for_loop, do_loop, breaks, continues}
+use Rattle.lang_tree.specs.Tree.{Condition, Deed, sets, havocs, wheres, checks, LoopKind, while_loop, for_loop, do_loop, breaks, continues, returns}
 use Rattle.lang_tree.specs.Tree.{Statement, Statements, set, havoc, assume, only_where, check, branch, loop, jump, label, nil, cons}
 use Rattle.lang_tree.specs.PointNumbers.{splits}
 use Rattle.flow_edges.specs.declared.edge_count.JumpCounts.{JumpCounts}
 use Rattle.flow_edges.specs.declared.saturated.TheConstants.{ENOUGH}
 use Rattle.flow_edges.specs.Edges.{complete, completes}
-use Rattle.flow_edges.specs.Counts.{case_count, end_count, loop_jump_counts, way_count_of, way_count_in, body_count, turn_count, head_count}
+use Rattle.flow_edges.specs.Counts.{case_count, deeds_count, test_count, end_count, loop_jump_counts, way_count_of, way_count_in, body_count, turn_count, head_count}
 use Rattle.flow_edges.specs.Counts.{edge_count_of, edge_count_in}
 use Rattle.flow_edges.proofs.count.Counting.{sum_counted, product_counted}
 
@@ -64,6 +64,7 @@ mutual
   same_ways_of (loop kind c body line) j k m n a h = same 1
   same_ways_of (jump breaks line) j k m n a h = a.broken
   same_ways_of (jump continues line) j k m n a h = a.continued
+  same_ways_of (jump returns line) j k m n a h = same 1
   same_ways_of (label name line) j k m n a h = same 1
 
   same_ways_in : (ss : Statements) (j k : JumpCounts) (m n : ℕ) → SameJumps j k → Same m n
@@ -72,11 +73,19 @@ mutual
   same_ways_in (cons s rest) j k m n a h = same_ways_of s j k (way_count_in rest j m) (way_count_in rest k n) a
       (same_ways_in rest j k m n a h)
 
+pub same_deeds : (ds : List Deed) (m n : ℕ) → Same m n → Same (deeds_count ds m) (deeds_count ds n)
+same_deeds [] m n h = h
+same_deeds (sets var form line ∷ ds) m n h = same_deeds ds m n h
+same_deeds (havocs var line ∷ ds) m n h = same_deeds ds m n h
+same_deeds (wheres c line ∷ ds) m n h = same_product (case_count true c) (deeds_count ds m) (deeds_count ds n) (same_deeds ds m n h)
+same_deeds (checks about c line ∷ ds) m n h = same_deeds ds m n h
+
 same_end : (kind : LoopKind) (c : Condition) (m n : ℕ) → Same m n → Same (end_count kind c m) (end_count kind c n)
-same_end while_loop c m n h = same 1
-same_end (for_loop g) c m n h = same 1
-same_end do_loop c m n h = same_sum (case_count true c) (case_count true c) _ _ (same (case_count true c))
-    (same_product (case_count false c) m n h)
+same_end (while_loop p) c m n h = same 1
+same_end (for_loop p g) c m n h = same (deeds_count g 1)
+same_end (do_loop p) c m n h =
+    same_deeds p (test_count c m) (test_count c n)
+    (same_sum (case_count true c) (case_count true c) _ _ (same (case_count true c)) (same_product (case_count false c) m n h))
 
 same_inner : (kind : LoopKind) (c : Condition) (m n : ℕ) → Same m n → SameJumps (loop_jump_counts kind c m) (loop_jump_counts kind c n)
 same_inner kind c m n h = record { broken = h; continued = same_end kind c m n h }
@@ -93,9 +102,9 @@ same_turn kind c body m n h = same_choice c (body_count kind c body m) (body_cou
 
 same_head : (kind : LoopKind) (c : Condition) (body : Statements) (m n : ℕ) → Same m n
     → Same (head_count kind c body m) (head_count kind c body n)
-same_head while_loop c body m n h = same_turn while_loop c body m n h
-same_head (for_loop g) c body m n h = same_turn (for_loop g) c body m n h
-same_head do_loop c body m n h = same_body do_loop c body m n h
+same_head (while_loop p) c body m n h = same_deeds p _ _ (same_turn (while_loop p) c body m n h)
+same_head (for_loop p g) c body m n h = same_deeds p _ _ (same_turn (for_loop p g) c body m n h)
+same_head (do_loop p) c body m n h = same_body (do_loop p) c body m n h
 
 mutual
   same_edges_of : (s : Statement) (j k : JumpCounts) (m n : ℕ) → SameJumps j k → Same m n → Same (edge_count_of s j m) (edge_count_of s k n)

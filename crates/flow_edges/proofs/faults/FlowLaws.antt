@@ -40,27 +40,27 @@ pub record Limits (n : ℕ) (body : Statements) : Type 0 where
   pub some_name : 1 ≤ n
   -- there are at most as many variables as allowed
   pub names : n ≤ MOST_VARIABLES
-  -- there are at most 512 nodes
-  pub nodes : nodes_in body ≤ 512
+  -- there are at most 4096 nodes
+  pub nodes : nodes_in body ≤ 4096
   -- the statements are within the limits
   pub statements : IsTrue (are_statements (n + MOST_HIDDEN) false body)
 
 -- a program within the limits has each of its parts within them
 pub limits : (n : ℕ) (body : Statements) → IsTrue (is_program n body) → Limits n body
 limits n body h =
-    let p = and_parts (nat_le 1 n) (nat_le n MOST_VARIABLES && (nat_le (nodes_in body) 512 && are_statements (n + MOST_HIDDEN) false body)) h in
-    let q = and_parts (nat_le n MOST_VARIABLES) (nat_le (nodes_in body) 512 && are_statements (n + MOST_HIDDEN) false body) p.1 in
-    let r = and_parts (nat_le (nodes_in body) 512) (are_statements (n + MOST_HIDDEN) false body) q.1 in
+    let p = and_parts (nat_le 1 n) (nat_le n MOST_VARIABLES && (nat_le (nodes_in body) 4096 && are_statements (n + MOST_HIDDEN) false body)) h in
+    let q = and_parts (nat_le n MOST_VARIABLES) (nat_le (nodes_in body) 4096 && are_statements (n + MOST_HIDDEN) false body) p.1 in
+    let r = and_parts (nat_le (nodes_in body) 4096) (are_statements (n + MOST_HIDDEN) false body) q.1 in
     record {
       some_name = leb-true 1 n p.0;
       names = leb-true n MOST_VARIABLES q.0;
-      nodes = leb-true (nodes_in body) 512 r.0;
+      nodes = leb-true (nodes_in body) 4096 r.0;
       statements =
           r.1;
     }
 
--- a program within the limits has at most 514 points
-pub few_points : (n : ℕ) (body : Statements) → IsTrue (is_program n body) → point_count body ≤ 514
+-- a program within the limits has at most 4098 points
+pub few_points : (n : ℕ) (body : Statements) → IsTrue (is_program n body) → point_count body ≤ 4098
 few_points n body h = let l = limits n body h in omega (arith, few_in body, l.nodes)
 
 -- ---- what is ruled out by counting

@@ -10,6 +10,7 @@ use Rattle.base_numbers.specs.Rational.{whole, zero_ℚ, ◌+ℚ◌, ◌*ℚ◌,
 use Rattle.base_numbers.specs.Extended.{fin, ◌≤ᴱ◌}
 use Rattle.base_numbers.proofs.rational.Laws.{whole-zero, whole_le}
 use Rattle.lang_tree.specs.Tree.{Statements}
+use Rattle.lang_tree.specs.PointNumbers.{exit_of}
 use Rattle.lang_tree.proofs.Put.{map-put}
 use Rattle.lang_tree.specs.Meaning.{State, put, value}
 use Rattle.lang_tree.specs.Runs.{Item, node, mark, turn, end, start_work, left_at, Does, Configuration, Step, Follows, IsAt}
@@ -58,12 +59,12 @@ acts_trace (Havoc var ∷ actions) x y h =
 acts_trace (Check about ∷ actions) x y h = acts_trace actions x y h
 
 -- a labelled step with the item that leaves this work, along which a trace leads from one state to the other
-abbrev Recorded : Item → List Item → State → List Item → State → Type 0
-Recorded item rest x work y = (s : Labelled) × In (steps_of item rest) s × (s.work ≡ work) × Traces s.actions (rational x) (rational y)
+abbrev Recorded : (exit : ℕ) → Item → List Item → State → List Item → State → Type 0
+Recorded exit item rest x work y = (s : Labelled) × In (steps_of exit item rest) s × (s.work ≡ work) × Traces s.actions (rational x) (rational y)
 
-recorded : (item : Item) (rest : List Item) (x : State) (work : List Item) (y : State) → ¬ (IsMark item) → Does item rest x work y
-    → Recorded item rest x work y
-recorded item rest x work y other d = let r = (steps_law item rest x work y other).0 d in (r.0, r.1, r.2, acts_trace r.0.actions x y r.3)
+recorded : (exit : ℕ) (item : Item) (rest : List Item) (x : State) (work : List Item) (y : State) → ¬ (IsMark item)
+    → Does exit item rest x work y → Recorded exit item rest x work y
+recorded exit item rest x work y other d = let r = (steps_law exit item rest x work y other).0 d in (r.0, r.1, r.2, acts_trace r.0.actions x y r.3)
 
 -- ---- what rows see of a state
 -- a row over the first variables doesn't see those behind
@@ -94,10 +95,13 @@ fits_visible system v p x over f r row listed =
 -- ---- since the last mark
 module _ (system : Equations) (body : Statements) (v : Vector) (over : IsTrue (is_over system.variables system.template))
     (paths : EdgesArePaths system.edges body) (post : PostSolution system v) where
+  abbrev exit : ℕ
+  exit = exit_of body
+
   -- the mark of a point that labelled steps reach, with a state that fits there
   record AtMark (p : ℕ) (behind : List Item) (x : RationalState) : Type 0 where
     before : List Action
-    reached : Leads (start_work body) before (mark p ∷ behind)
+    reached : Leads exit (start_work body) before (mark p ∷ behind)
     fits : Fits system v p x
 
   -- the last mark, and what was done since
@@ -108,7 +112,7 @@ module _ (system : Equations) (body : Statements) (v : Vector) (over : IsTrue (i
     last : AtMark from behind begin
     starts : length begin ≡ system.variables
     actions : List Action
-    part : Part behind actions work
+    part : Part exit behind actions work
     trace : Traces actions begin x
 
   -- what holds of a configuration in a run
@@ -123,7 +127,7 @@ module _ (system : Equations) (body : Statements) (v : Vector) (over : IsTrue (i
 
   arrived : (p : ℕ) (rest : List Item) (x : RationalState) → Since (mark p ∷ rest) x → AtMark p rest x
   arrived p rest x s =
-      let arrives = part_arrives s.behind s.actions (mark p ∷ rest) [] p rest s.part (at_mark p rest) in
+      let arrives = part_arrives exit s.behind s.actions (mark p ∷ rest) [] p rest s.part (at_mark p rest) in
       let path : Path body s.from (s.actions ++ []) p = record {
         before = s.last.before;
         behind = s.behind;
@@ -134,8 +138,8 @@ module _ (system : Equations) (body : Statements) (v : Vector) (over : IsTrue (i
       } in
       record {
         before = s.last.before ++ s.actions;
-        reached = leads_then (start_work body) (mark s.from ∷ s.behind) (mark p ∷ rest) s.last.before s.actions s.last.reached
-            (past s.from s.behind s.actions (mark p ∷ rest) (part_leads s.behind s.actions (mark p ∷ rest) s.part));
+        reached = leads_then exit (start_work body) (mark s.from ∷ s.behind) (mark p ∷ rest) s.last.before s.actions s.last.reached
+            (past s.from s.behind s.actions (mark p ∷ rest) (part_leads exit s.behind s.actions (mark p ∷ rest) s.part));
         fits = post.closed (record { from = s.from; to = p; actions = s.actions ++ [] }) s.begin x
             (record {
               listed = paths.complete s.from p (s.actions ++ []) path;
@@ -151,14 +155,14 @@ module _ (system : Equations) (body : Statements) (v : Vector) (over : IsTrue (i
       let zero_is : 0 ≡ p = cc in
       record {
         before = [];
-        reached = subst (λ w. Leads (start_work body) [] w) (sym e) (here (start_work body));
+        reached = subst (λ w. Leads exit (start_work body) [] w) (sym e) (here (start_work body));
         fits = subst (λ q. Fits system v q x) zero_is (fits_entry x);
       }
 
   marked : (p : ℕ) (rest : List Item) (x : RationalState) → (mark p ∷ rest ≡ start_work body) ⊎ Since (mark p ∷ rest) x → AtMark p rest x
   marked p rest x h = ⊎_elim (λ e. at_start p rest x e) (λ s. arrived p rest x s) h
 
-  went_on : (item : Item) (rest : List Item) (x : State) (work : List Item) (y : State) → Recorded item rest x work y
+  went_on : (item : Item) (rest : List Item) (x : State) (work : List Item) (y : State) → Recorded exit item rest x work y
       → Since (item ∷ rest) (rational x) → Since work (rational y)
   went_on item rest x work y r s =
       subst (λ w. Since w (rational y)) r.2
@@ -188,12 +192,12 @@ module _ (system : Equations) (body : Statements) (v : Vector) (over : IsTrue (i
   starts_with_mark (end k c b l n) rest other e = cc
 
   advanced_by : (item : Item) (rest : List Item) (z x : State) (work : List Item) (y : State) → ¬ (IsMark item) → z ≡ x
-      → Does item rest z work y → (item ∷ rest ≡ start_work body) ⊎ Since (item ∷ rest) (rational x) → Since work (rational y)
+      → Does exit item rest z work y → (item ∷ rest ≡ start_work body) ⊎ Since (item ∷ rest) (rational x) → Since work (rational y)
   advanced_by item rest z x work y other same d h =
-      let e = subst (λ w. Does item rest w work y) same d in
-      ⊎_elim (λ e. absurd (starts_with_mark item rest other e)) (λ s. went_on item rest x work y (recorded item rest x work y other e) s) h
+      let e = subst (λ w. Does exit item rest w work y) same d in
+      ⊎_elim (λ e. absurd (starts_with_mark item rest other e)) (λ s. went_on item rest x work y (recorded exit item rest x work y other e) s) h
 
-  advanced : (item : Item) (rest : List Item) (z x : State) (work : List Item) (y : State) → Does item rest z work y
+  advanced : (item : Item) (rest : List Item) (z x : State) (work : List Item) (y : State) → Does exit item rest z work y
       → system.variables ≤ length x → z ≡ left_at system.variables (item ∷ rest) x →
       (item ∷ rest ≡ start_work body) ⊎ Since (item ∷ rest) (rational x) → Since work (rational y)
   advanced (mark p) rest z x work y d size same h =
@@ -213,7 +217,7 @@ module _ (system : Equations) (body : Statements) (v : Vector) (over : IsTrue (i
   advanced (turn k c b l n) rest z x work y d size same h = advanced_by (turn k c b l n) rest z x work y (λ m. m) same d h
   advanced (end k c b l n) rest z x work y d size same h = advanced_by (end k c b l n) rest z x work y (λ m. m) same d h
 
-  known_step : (a b : Configuration) → Step system.variables a b → Known a → Known b
+  known_step : (a b : Configuration) → Step system.variables exit a b → Known a → Known b
   known_step a b step k =
       let x = k.reached in
       let past_first = subst (λ w. (w ≡ start_work body) ⊎ Since w (rational x)) step.first k.past_work in
@@ -221,12 +225,12 @@ module _ (system : Equations) (body : Statements) (v : Vector) (over : IsTrue (i
       ∙ ap (λ w. left_at system.variables w x) step.first in
       record {
         reached = step.reached;
-        enough = enough_after system.variables a b step x k.enough k.left;
+        enough = enough_after system.variables exit a b step x k.enough k.left;
         left = step.left;
         past_work = inr (advanced step.item step.rest a.state x b.work step.reached step.does k.enough same past_first);
       }
 
-  known_all : (a : Configuration) (cs : List Configuration) → Follows system.variables a cs → Known a → (c : Configuration) → In (a ∷ cs) c
+  known_all : (a : Configuration) (cs : List Configuration) → Follows system.variables exit a cs → Known a → (c : Configuration) → In (a ∷ cs) c
       → Known c
   known_all a [] f k c m = ⊎_elim (λ e. subst Known e k) (λ n. absurd n) m
   known_all a (b ∷ cs) f k c m = ⊎_elim (λ e. subst Known e k) (λ n. known_all b cs f.1 (known_step a b f.0 k) c n) m

@@ -40,7 +40,7 @@ acts_split (Check about ∷ a) b x z h = acts_split a b x z h
 abbrev recorded : Labelled → List Action
 recorded s = s.actions
 
-choices_are_steps : (n : ℕ) (s : Statement) → IsTrue (is_act n s) → choices_of s ≡ map recorded (steps_of (node s 0) [])
+choices_are_steps : (n : ℕ) (s : Statement) → IsTrue (is_act n s) → choices_of s ≡ map recorded (steps_of 0 (node s 0) [])
 choices_are_steps n (set var form line) h = refl
 choices_are_steps n (havoc var line) h = refl
 choices_are_steps n (assume c line) h = map_map (cases_of true c)
@@ -62,13 +62,13 @@ Chosen choices x y = (actions : List Action) × In choices actions × Acts actio
 
 act_chosen : (n : ℕ) (s : Statement) (x y : State) → IsTrue (is_act n s) → DoesAct s x y → Chosen (choices_of s) x y
 act_chosen n s x y h d =
-    let r = (steps_law (node s 0) [] x d.0 y (λ m. m)).0 d.1 in
-    (r.0.actions, subst (λ cs. In cs r.0.actions) (sym (choices_are_steps n s h)) (in_map recorded (steps_of (node s 0) []) r.0 r.1), r.3)
+    let r = (steps_law 0 (node s 0) [] x d.0 y (λ m. m)).0 d.1 in
+    (r.0.actions, subst (λ cs. In cs r.0.actions) (sym (choices_are_steps n s h)) (in_map recorded (steps_of 0 (node s 0) []) r.0 r.1), r.3)
 
 act_done : (n : ℕ) (s : Statement) (x y : State) → IsTrue (is_act n s) → Chosen (choices_of s) x y → DoesAct s x y
 act_done n s x y h c =
-    let r = of_map recorded (steps_of (node s 0) []) c.0 (subst (λ cs. In cs c.0) (choices_are_steps n s h) c.1) in
-    (r.0.work, (steps_law (node s 0) [] x r.0.work y (λ m. m)).1 (r.0, r.1, refl, subst (λ a. Acts a x y) (sym r.2) c.2))
+    let r = of_map recorded (steps_of 0 (node s 0) []) c.0 (subst (λ cs. In cs c.0) (choices_are_steps n s h) c.1) in
+    (r.0.work, (steps_law 0 (node s 0) [] x r.0.work y (λ m. m)).1 (r.0, r.1, refl, subst (λ a. Acts a x y) (sym r.2) c.2))
 
 -- ---- acts one after another
 abbrev then_later : Statements → List Action → List (List Action)

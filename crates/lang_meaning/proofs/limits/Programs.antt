@@ -213,15 +213,15 @@ module _ (line : ℕ → ℕ) (N : ℕ) where
   grows_for : (inside : Bool) (st now : State) (k d e : ℕ) (c : Condition) (a : ℕ) (r : State × Statements) (u : State × Change)
       (q : State × Statements)
       → Grows N inside st d r → TestFits N c → Counted r.0 now → Turns N now u → Grows N true u.0 e q
-      → Grows N inside st (d + e) (closed k q.0, followed_by r.1 (one (tree.loop (tree.for_loop u.1) c q.1 (line a))))
+      → Grows N inside st (d + e) (closed k q.0, followed_by r.1 (one (tree.loop (tree.for_loop [] (tree.change_deeds u.1)) c q.1 (line a))))
   grows_for inside st now k d e c a r u q h t (f, n, l) (v, w, x, y) i = record {
     fits = record { few_names = i.fits.few_names; few_nodes = i.fits.few_nodes };
     names = omega (arith, i.names, w, ap length n, h.names);
     nodes =
-        omega (arith, h.nodes, l, x, i.nodes, follow_count r.1 (one (tree.loop (tree.for_loop u.1) c q.1 (line a))));
-    good = λ j. follow_good N inside r.1 (one (tree.loop (tree.for_loop u.1) c q.1 (line a)))
+        omega (arith, h.nodes, l, x, i.nodes, follow_count r.1 (one (tree.loop (tree.for_loop [] (tree.change_deeds u.1)) c q.1 (line a))));
+    good = λ j. follow_good N inside r.1 (one (tree.loop (tree.for_loop [] (tree.change_deeds u.1)) c q.1 (line a)))
         (h.good (omega (arith, i.names, w, ap length n, j)))
-        (loop_good inside (tree.for_loop u.1) c q.1 (line a) (y (omega (arith, i.names, j))) t (i.good j));
+        (loop_good inside (tree.for_loop [] (tree.change_deeds u.1)) c q.1 (line a) (y (omega (arith, i.names, j))) t (i.good j));
   }
 
   grows_none : (inside : Bool) (st : State) → Fits st → Grows N inside st 0 (st, nil)
@@ -360,16 +360,16 @@ module _ (line : ℕ → ℕ) (N : ℕ) where
         (λ q i. grows_both inside st now (declared_sub s) (declared_sub u) x a r q t k h i)))
     core_fits inside (repeat a b e c s) st f =
         case_test inside e a (declared_sub s) (λ x now. walk_sub line N true s now
-        >>= λ r. Ok (r.0, one (tree.loop tree.while_loop x r.1 (line a)))) st f
+        >>= λ r. Ok (r.0, one (tree.loop (tree.while_loop []) x r.1 (line a)))) st f
         (λ x now t k. on_bind (Grows N true now (declared_sub s)) (Grows N inside st (declared_sub s)) (walk_sub line N true s now) _
-        (sub_fits true s now k.0) (λ r h. grows_loop inside st now (declared_sub s) tree.while_loop x a r refl refl t k h))
+        (sub_fits true s now k.0) (λ r h. grows_loop inside st now (declared_sub s) (tree.while_loop []) x a r refl refl t k h))
     core_fits inside (repeat_after a s b c e d i) st f =
         on_bind (Counted st) (Grows N inside st (declared_sub s)) (counted a st) _ (counted_fits a st f.few_names)
         (λ now k. on_bind (Grows N true now (declared_sub s)) (Grows N inside st (declared_sub s)) (walk_sub line N true s now) _
         (sub_fits true s now k.0)
         (λ r h. on_bind (ValueFits N) (Grows N inside st (declared_sub s)) (walk_expr line N r.0 e) _ (expr_fits r.0 e)
         (λ v j. on_bind (TestFits N) (Grows N inside st (declared_sub s)) (tested a v) _ (tested_fits N a v j)
-        (λ x t. grows_loop inside st now (declared_sub s) tree.do_loop x a r refl refl t k h))))
+        (λ x t. grows_loop inside st now (declared_sub s) (tree.do_loop []) x a r refl refl t k h))))
     core_fits inside (repeat_for a b y t l s) st f =
         on_bind (Grows N inside st (declared_before y)) (Grows N inside st (declared_before y + declared_sub s)) (walk_first line N y st) _
         (first_fits inside y st f) (λ r h. on_bind (TestFits N) (Grows N inside st (declared_before y + declared_sub s))
@@ -428,11 +428,11 @@ last_fits N d (x ∷ xs) q k h e =
     let m = length (x ∷ xs) + MOST_HIDDEN in
     let g : IsTrue (are_statements m false q.1) = statements_grow (length (x ∷ xs)) m false q.1 (omega arith) k in
     both_true (nat_le 1 (length (x ∷ xs))) (nat_le (length (x ∷ xs)) MOST_VARIABLES
-    && (nat_le (nodes_in q.1) 512 && are_statements m false q.1))
+    && (nat_le (nodes_in q.1) 4096 && are_statements m false q.1))
     (le-leb 1 (length (x ∷ xs)) (omega arith))
-    (both_true (nat_le (length (x ∷ xs)) MOST_VARIABLES) (nat_le (nodes_in q.1) 512 && are_statements m false q.1)
+    (both_true (nat_le (length (x ∷ xs)) MOST_VARIABLES) (nat_le (nodes_in q.1) 4096 && are_statements m false q.1)
     (le-leb (length (x ∷ xs)) MOST_VARIABLES (omega (arith, l, h.fits.few_names)))
-    (both_true (nat_le (nodes_in q.1) 512) (are_statements m false q.1) (le-leb (nodes_in q.1) 512 c) g))
+    (both_true (nat_le (nodes_in q.1) 4096) (are_statements m false q.1) (le-leb (nodes_in q.1) 4096 (omega (arith, c))) g))
 
 -- what the walk of a program's items gives, at the width of their declarations, is a program within the limits, or a fault
 pub program_fits : (line : ℕ → ℕ) (is : Items) → OnValue IsProgram (walk_items line (min MOST_VARIABLES (declared_items is)) false is

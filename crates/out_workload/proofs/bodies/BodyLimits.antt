@@ -138,7 +138,7 @@ loops_few n (l ∷ ls) p e =
     let head = p + 0 in
     let behind = head + (1 + (0 + (0 + 0))) in
     let next = ways_in (loops_body (n + 5) ls) behind no_jumps (arrived e) in
-    let jumps = loop_jumps while_loop (compare Lt (variable_form 3 l.variable (neg_ℤ (pos l.bound)))) head next in
+    let jumps = loop_jumps (while_loop []) (compare Lt (variable_form 3 l.variable (neg_ℤ (pos l.bound)))) head next in
     let through = by_case true (compare Lt (variable_form 3 l.variable (neg_ℤ (pos l.bound))))
     (ways_in (turn_of (n + 2) l) (head + 1) jumps (arrived head))
     ++ by_case false (compare Lt (variable_form 3 l.variable (neg_ℤ (pos l.bound)))) next in

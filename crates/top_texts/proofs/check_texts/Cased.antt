@@ -57,7 +57,7 @@ all_cased n (c ∷ cs) h =
 pub checks_cased : (n : ℕ) (body : Statements) → IsTrue (is_program n body)
     → IsTrue (list_all (λ (cases : CheckCases). list_all (is_case (n + MOST_HIDDEN)) cases.against) (checks_of_program body))
 checks_cased n body h =
-    let p = and_parts (nat_le 1 n) (nat_le n MOST_VARIABLES && (nat_le (nodes_in body) 512 && are_statements (n + MOST_HIDDEN) false body)) h in
-    let q = and_parts (nat_le n MOST_VARIABLES) (nat_le (nodes_in body) 512 && are_statements (n + MOST_HIDDEN) false body) p.1 in
-    let r = and_parts (nat_le (nodes_in body) 512) (are_statements (n + MOST_HIDDEN) false body) q.1 in
+    let p = and_parts (nat_le 1 n) (nat_le n MOST_VARIABLES && (nat_le (nodes_in body) 4096 && are_statements (n + MOST_HIDDEN) false body)) h in
+    let q = and_parts (nat_le n MOST_VARIABLES) (nat_le (nodes_in body) 4096 && are_statements (n + MOST_HIDDEN) false body) p.1 in
+    let r = and_parts (nat_le (nodes_in body) 4096) (are_statements (n + MOST_HIDDEN) false body) q.1 in
     all_cased (n + MOST_HIDDEN) (checks_in body) (λ c m. tested_in (n + MOST_HIDDEN) false body c r.1 m)

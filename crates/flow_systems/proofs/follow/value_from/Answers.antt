@@ -34,9 +34,9 @@ Sums cs x v = (v ≡ dotℚ cs x) × (first_wide long_limit (row_operations cs x
 pub follow-requires-clause-actions : goal.follow-requires-clause-actions
 follow-requires-clause-actions c =
     let within : c.args.edge < length c.as_slice-edges.result.now =
-    subst (λ es. c.args.edge < length es) (sym c.as_slice-edges.ensures) c.requires.edge in
+        subst (λ es. c.args.edge < length es) (sym c.as_slice-edges.ensures) c.requires.edge in
     let fits = edge_fits c.args.system.now.flow c.as_slice-edges.result.now c.args.edge c.index-edges-edge.result c.as_slice-edges.ensures within
-    c.index-edges-edge.is in
+        c.index-edges-edge.is in
     subst (λ actions. IsTrue (list_all (is_action MOST_VALUES) actions))
     (sym (c.as_slice.ensures ∙ ap (λ (x : Edge). x.actions) (sym c.index-edges-edge.is)))
     (few_values c.args.system.now.flow c.index-edges-edge.result.actions fits.actions_fit)
@@ -44,7 +44,7 @@ follow-requires-clause-actions c =
 pub follow-requires-clause-free : goal.follow-requires-clause-free
 follow-requires-clause-free c =
     let is : c.index-edges-edge.result ≡ get_or c.args.system.now.flow.edges c.args.edge c.index-edges-edge.result =
-    c.index-edges-edge.is ∙ ap (λ es. get_or es c.args.edge c.index-edges-edge.result) c.as_slice-edges.ensures in
+        c.index-edges-edge.is ∙ ap (λ es. get_or es c.args.edge c.index-edges-edge.result) c.as_slice-edges.ensures in
     c.requires.free c.index-edges-edge.result
     (slice_get_read c.args.system.now.flow.edges (length c.args.system.now.flow.edges) c.args.edge c.index-edges-edge.result refl c.requires.edge is)
     ∙ ap free_count (sym (c.as_slice.ensures ∙ ap (λ (x : Edge). x.actions) (sym c.index-edges-edge.is)))
@@ -55,41 +55,41 @@ returns-in_err-follow c = λ e cs f g.
     rw (p.1, p.2)
     (subst (λ actions. first_wide long_limit (trace_operations (map (action_with c.args.constants) actions) c.args.state.now c.args.free.now cs)
     ≡ Some (operation_of (λ (q : ℚ). q) c.in_err-follow.field-0.0)) (acts_are c.as_slice-edges.result.now c.args.system.now.flow.edges c.args.edge c.index-edges-edge.result e c.as_slice.result.now
-    c.as_slice.ensures c.as_slice-edges.ensures f) (c.in_err-follow.ensures cs))
+        c.as_slice.ensures c.as_slice-edges.ensures f) (c.in_err-follow.ensures cs))
 
 pub returns-then-not-branch : goal.returns-then-not-branch
 returns-then-not-branch c = λ e cs f g.
     let fails = subst (λ actions. FollowIs (map (action_with c.args.constants) actions) c.args.state.now c.args.free.now c.follow.new.state c.in_ok-follow.field-0)
-    (acts_are c.as_slice-edges.result.now c.args.system.now.flow.edges c.args.edge c.index-edges-edge.result e c.as_slice.result.now
-    c.as_slice.ensures c.as_slice-edges.ensures f) c.in_ok-follow.ensures in
+        (acts_are c.as_slice-edges.result.now c.args.system.now.flow.edges c.args.edge c.index-edges-edge.result e c.as_slice.result.now
+        c.as_slice.ensures c.as_slice-edges.ensures f) c.in_ok-follow.ensures in
     let is = subst (λ b. FollowIs (map (action_with c.args.constants) e.actions) c.args.state.now c.args.free.now c.follow.new.state b)
-    c.if-not-branch.true fails in
+        c.if-not-branch.true fails in
     (is.ends, is.first cs)
 
 pub returns-in_err-value : goal.returns-in_err-value
 returns-in_err-value c = λ e cs f g.
     let p = err_from_is_err_and c.from_residual-in_err-value.result c.from_residual-in_err-value.ensures.1 in
     let goes = subst (λ actions. FollowIs (map (action_with c.args.constants) actions) c.args.state.now c.args.free.now c.follow.new.state c.in_ok-follow.field-0)
-    (acts_are c.as_slice-edges.result.now c.args.system.now.flow.edges c.args.edge c.index-edges-edge.result e c.as_slice.result.now
-    c.as_slice.ensures c.as_slice-edges.ensures f) c.in_ok-follow.ensures in
+        (acts_are c.as_slice-edges.result.now c.args.system.now.flow.edges c.args.edge c.index-edges-edge.result e c.as_slice.result.now
+        c.as_slice.ensures c.as_slice-edges.ensures f) c.in_ok-follow.ensures in
     let is = subst (λ b. FollowIs (map (action_with c.args.constants) e.actions) c.args.state.now c.args.free.now c.follow.new.state b)
-    c.if-not-branch.false goes in
+        c.if-not-branch.false goes in
     let row = c.as_slice-2.ensures.list ∙ c.index-rows-row.is ∙ read_at c.as_slice-rows.result.now c.args.system.now.template c.args.row c.index-rows-row.result cs
-    c.as_slice-rows.ensures.rows g in
+        c.as_slice-rows.ensures.rows g in
     let o = operation_of (λ (q : ℚ). q) c.in_err-value.field-0.0 in
     let wide = subst (λ x. first_wide long_limit (row_operations cs x) ≡ Some o) c.as_slice-3.ensures
-    (subst (λ xs. first_wide long_limit (row_operations xs c.as_slice-3.result.now) ≡ Some o) row c.in_err-value.ensures) in
+        (subst (λ xs. first_wide long_limit (row_operations xs c.as_slice-3.result.now) ≡ Some o) row c.in_err-value.ensures) in
     rw (p.1, p.2) (is.first cs ∙ wide)
 
 pub returns : goal.returns
 returns c = λ e cs f g.
     let goes = subst (λ actions. FollowIs (map (action_with c.args.constants) actions) c.args.state.now c.args.free.now c.follow.new.state c.in_ok-follow.field-0)
-    (acts_are c.as_slice-edges.result.now c.args.system.now.flow.edges c.args.edge c.index-edges-edge.result e c.as_slice.result.now
-    c.as_slice.ensures c.as_slice-edges.ensures f) c.in_ok-follow.ensures in
+        (acts_are c.as_slice-edges.result.now c.args.system.now.flow.edges c.args.edge c.index-edges-edge.result e c.as_slice.result.now
+        c.as_slice.ensures c.as_slice-edges.ensures f) c.in_ok-follow.ensures in
     let is = subst (λ b. FollowIs (map (action_with c.args.constants) e.actions) c.args.state.now c.args.free.now c.follow.new.state b)
-    c.if-not-branch.false goes in
+        c.if-not-branch.false goes in
     let row = c.as_slice-2.ensures.list ∙ c.index-rows-row.is ∙ read_at c.as_slice-rows.result.now c.args.system.now.template c.args.row c.index-rows-row.result cs
-    c.as_slice-rows.ensures.rows g in
+        c.as_slice-rows.ensures.rows g in
     let sums = subst (λ x. Sums cs x c.in_ok-value.value) c.as_slice-3.ensures
-    (subst (λ xs. Sums xs c.as_slice-3.result.now c.in_ok-value.value) row c.in_ok-value.ensures) in
+        (subst (λ xs. Sums xs c.as_slice-3.result.now c.in_ok-value.value) row c.in_ok-value.ensures) in
     ((c.follow.new.state, (is.ends c.follow.new.state).1 refl, sums.0), is.first cs ∙ sums.1)

@@ -10,7 +10,7 @@ loop-i-preserved c =
     c.put.ensures
     ∙ ap (λ r. put zero_ℚ r c.loop-i.i c.index-start-i.result) c.loop-i.invariant
     ∙ put_next (take c.loop-i.i c.args.start.now) c.loop-i.i c.index-start-i.result
-    (length-take-le c.loop-i.i c.args.start.now (omega arith))
+      (length-take-le c.loop-i.i c.args.start.now (omega arith))
     ∙ sym (take_more c.args.start.now c.loop-i.i c.index-start-i.result (omega arith) ∙ ap (λ q. take c.loop-i.i c.args.start.now ++ q ∷ []) (sym c.index-start-i.is))
 
 pub returns : goal.returns

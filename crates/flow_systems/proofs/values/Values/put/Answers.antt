@@ -20,7 +20,7 @@ returns-then-self-variable c =
     let size = c.self.invariant.0 in
     let few = c.self.invariant.1 in
     put_after c.self.inside.len c.self.inside.list (omega (arith, size, few)) c.self.invariant.2 c.args.variable c.args.value c.if-self-variable.true
-    (omega (arith, size))
+        (omega (arith, size))
     ∙ ap (λ r. put zero_ℚ r c.args.variable c.args.value) c.self.view_is
 
 pub returns-else-self-variable : goal.returns-else-self-variable
