@@ -10,6 +10,7 @@
 - Each path and each name of code that a page of docs/ or the README cites exists.
 - Each rule of docs/FORMATS.md that has a name (in bold) names the file that has it.
 - Each crate that crates.txt names below another is cited there: a crate more is one more to be proved before it.
+- The words of each command stand in docs/ as the usage line and the pages of help have them.
 - The tables of crates and of edits are those of crates.txt, of the crates' first lines and of must-fail/.
 """
 import collections
@@ -214,6 +215,25 @@ def check_rules():
         files += re.findall(r"`[\w/]+\.(?:antt|rt)`", line)
 
 
+def check_words():
+    """docs/USING.md and docs/FORMATS.md have the words of each command, and docs/FORMATS.md the usage line, as their definitions have them."""
+    definitions, code = "crates/ask_words/specs/Help.antt", "crates/ask_words/src/help.rt"
+    heads = re.findall(r'^head_of page\.\w+ = codes "(.*)"$', "\n".join(lines_of(definitions)), re.M)
+    line = re.search(r'b"(usage: .*?)\\n"', "\n".join(lines_of(code)), re.S)
+    if not heads or not line:
+        say(definitions, "no words of commands")
+        return
+    using, formats = "\n".join(lines_of("docs/USING.md")), "\n".join(lines_of("docs/FORMATS.md"))
+    for head in heads:
+        if f"`./tmpl {head}" not in using:
+            say("docs/USING.md", f"`./tmpl {head}` isn't there")
+        if f"| `{head}" not in formats:
+            say("docs/FORMATS.md", f"`{head}` isn't there")
+    usage = re.sub(r"\\\n\s*", "", line[1]).replace(" | ", " \\| ")
+    if f"`{usage}`" not in formats:
+        say("docs/FORMATS.md", "the usage line isn't that of the program")
+
+
 def main():
     if sys.argv[1:] == ["--tables"]:
         with open(f"{TOP}/docs/DEVELOPING.md", encoding="utf-8") as it:
@@ -224,7 +244,7 @@ def main():
     if sys.argv[1:]:
         print(__doc__, file=sys.stderr)
         return 2
-    for check in (check_shape, check_heads, check_limits, check_pages, check_crates, check_tables, check_rules):
+    for check in (check_shape, check_heads, check_limits, check_pages, check_crates, check_tables, check_rules, check_words):
         check()
     for line in found:
         print(line)

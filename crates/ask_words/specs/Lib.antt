@@ -1,3 +1,4 @@
+pub mod Help
 pub mod Laws
 pub mod Request
 pub mod Values

@@ -1,12 +1,18 @@
--- The commands: what `clap` is given, one simple command with ten subcommands; and what a list of words asks for.
-use Rattle.std.specs.Prelude.{◌++◌, ℕ, List, [], ◌∷◌, Option, Some, None, true, codes, option_and_then, option_map, unwrap_or}
+-- The commands: what `clap` is given, one simple command with eleven subcommands; and what a list of words asks for.
+use Rattle.std.specs.Prelude.{ℕ, Bool, List, [], ◌∷◌, Option, Some, None, true, false, codes, option_and_then, option_map, unwrap_or}
 use Rattle.std.specs.Prelude.{if◌then◌else◌}
+use Rattle.std.specs.Option.{option_map_or}
 use Rattle.std.specs.Str.{bytes_eq}
 use Rattle.std.specs.Borrow.{Bor}
 use Rattle.base_limits.specs.declared.limits.TheConstants.{MOST_IMPROVEMENTS}
 use Rattle.clap.specs.Words.{App, Kinds, Row, Rule, Text, fault_of, first_of, new_app, new_rule, subcommand_of, with_rule, with_subcommand}
 use Rattle.clap.specs.Simple.{on_top}
-use Rattle.ask_words.specs.Values.{domain_in, meaning_in, number_in, policies}
+use Rattle.clap.specs.declared.builder.action.ArgAction.TheVariants.{SetTrue}
+use Rattle.ask_words.specs.Help.{topic_in}
+use Rattle.ask_words.specs.Values.{check_formats, domain_in, formats, meaning_in, number_in, policies}
+use Rattle.ask_words.specs.declared.format.Format.{Format}
+use Rattle.ask_words.specs.declared.format.Format.TheVariants as format
+use Rattle.ask_words.specs.declared.help.Topic.TheVariants as page
 use Rattle.ask_words.specs.declared.request.Analysis.{Analysis}
 use Rattle.ask_words.specs.declared.request.Domain.{Domain}
 use Rattle.ask_words.specs.declared.request.Domain.TheVariants.{Intervals, Zones, Octagons, Rows}
@@ -14,18 +20,9 @@ use Rattle.ask_words.specs.declared.request.Request.{Request}
 use Rattle.ask_words.specs.declared.request.Policy.{Policy}
 use Rattle.ask_words.specs.declared.request.Policy.TheVariants.{Best, First}
 use Rattle.ask_words.specs.declared.request.Request.TheVariants.{Analyse, Check, Bench, Upgrade, Prove, Transitions, Equations, Points}
-use Rattle.ask_words.specs.declared.request.Request.TheVariants.{Verify}
+use Rattle.ask_words.specs.declared.request.Request.TheVariants.{Verify, Help}
 use Rattle.ask_words.specs.declared.request.Purpose.{Purpose}
 use Rattle.ask_words.specs.declared.request.Purpose.TheVariants.{Report, Certificate}
-
--- ---- the line that a refusal of the words prints
-
--- the commands and their options, on one line
-abbrev pub usage_text : Text
-usage_text = codes "usage: tmpl solve PROGRAM [--domain D] [--rows FILE] [--improvements N] [--policy P] | certify (the same)"
-    ++ codes " | check PROGRAM CERT | bench --seed N --loops K | upgrade CERT"
-    ++ codes " | prove PROGRAM CLAIMS (the options of solve) | transitions FILE (the options of solve)"
-    ++ codes " | equations FILE [--improvements N] [--policy P] | points PROGRAM | verify PROGRAM (the options of solve)\n"
 
 -- ---- the command line, as `clap` sees it
 
@@ -33,21 +30,33 @@ usage_text = codes "usage: tmpl solve PROGRAM [--domain D] [--rows FILE] [--impr
 abbrev pub word_rule : Text → Rule
 word_rule id = record (new_rule id) { required = true }
 
+-- a positional word that may be left out
+abbrev pub optional_rule : Text → Rule
+optional_rule id = new_rule id
+
 -- an option of one value, which is given at most once
 abbrev pub option_rule : Text → Rule
 option_rule id = record (new_rule id) { long = Some id }
 
--- `solve PROGRAM`, `certify PROGRAM`, `transitions PROGRAM` and `verify PROGRAM`, with four options
+-- an option without a value, which is given at most once
+abbrev pub flag_rule : Text → Rule
+flag_rule id = record (new_rule id) { long = Some id; action = Some SetTrue }
+
+-- a command whose output has a format
+abbrev pub in_formats : App → App
+in_formats app = with_rule app (option_rule (codes "format"))
+
+-- `certify PROGRAM`, with five options; `solve PROGRAM`, `transitions PROGRAM` and `verify PROGRAM` have one more
 abbrev pub analysis_app : Text → App
 analysis_app name =
-    with_rule (with_rule (with_rule (with_rule (with_rule (new_app name)
+    with_rule (with_rule (with_rule (with_rule (with_rule (with_rule (new_app name)
     (word_rule (codes "program"))) (option_rule (codes "domain"))) (option_rule (codes "rows")))
-    (option_rule (codes "improvements"))) (option_rule (codes "policy"))
+    (option_rule (codes "improvements"))) (option_rule (codes "policy"))) (flag_rule (codes "progress"))
 
 -- `check PROGRAM CERT`
 abbrev pub check_app : App
-check_app = with_rule (with_rule (new_app (codes "check")) (word_rule (codes "program")))
-    (word_rule (codes "certificate"))
+check_app = in_formats (with_rule (with_rule (new_app (codes "check")) (word_rule (codes "program")))
+    (word_rule (codes "certificate")))
 
 -- `bench --seed N --loops K`
 abbrev pub bench_app : App
@@ -60,28 +69,34 @@ upgrade_app = with_rule (new_app (codes "upgrade")) (word_rule (codes "certifica
 
 -- `prove PROGRAM CLAIMS`, with the options of `solve`
 abbrev pub prove_app : App
-prove_app = with_rule (analysis_app (codes "prove")) (word_rule (codes "claims"))
+prove_app = in_formats (with_rule (analysis_app (codes "prove")) (word_rule (codes "claims")))
 
--- `equations FILE`, with two options
+-- `equations FILE`, with four options
 abbrev pub equations_app : App
-equations_app = with_rule (with_rule (with_rule (new_app (codes "equations")) (word_rule (codes "file")))
-    (option_rule (codes "improvements"))) (option_rule (codes "policy"))
+equations_app = in_formats (with_rule (with_rule (with_rule (with_rule (new_app (codes "equations")) (word_rule (codes "file")))
+    (option_rule (codes "improvements"))) (option_rule (codes "policy"))) (flag_rule (codes "progress")))
 
 -- `points PROGRAM`
 abbrev pub points_app : App
 points_app = with_rule (new_app (codes "points")) (word_rule (codes "program"))
 
--- the program's own name isn't among the words, and one of the commands has to be
+-- `help [COMMAND]`
+abbrev pub help_app : App
+help_app = with_rule (new_app (codes "help")) (optional_rule (codes "command"))
+
+-- the program's own name isn't among the words, and one of the commands has to be; `help` is one of these, and not that of `clap`
 abbrev pub top_app : App
-top_app = on_top (λ s. record s { no_binary_name = true; subcommand_required = true })
+top_app = on_top (λ s. record s { no_binary_name = true; subcommand_required = true; disable_help_subcommand = true })
     (new_app (codes "tmpl"))
 
 -- the whole command line
 abbrev pub tmpl_app : App
 tmpl_app = with_subcommand (with_subcommand (with_subcommand (with_subcommand (with_subcommand (with_subcommand (with_subcommand
-    (with_subcommand (with_subcommand (with_subcommand top_app (analysis_app (codes "solve")).top) (analysis_app (codes "certify")).top)
-    check_app.top) bench_app.top) upgrade_app.top) prove_app.top) (analysis_app (codes "transitions")).top) equations_app.top)
-    points_app.top) (analysis_app (codes "verify")).top
+    (with_subcommand (with_subcommand (with_subcommand (with_subcommand top_app (in_formats (analysis_app (codes "solve"))).top)
+    (analysis_app (codes "certify")).top) check_app.top) bench_app.top) upgrade_app.top) prove_app.top)
+    (in_formats (analysis_app (codes "transitions"))).top) equations_app.top) points_app.top)
+    (in_formats (analysis_app (codes "verify"))).top)
+    help_app.top
 
 -- ---- the texts of a request that borrows them
 
@@ -103,15 +118,16 @@ analysis_text a = record {
 
 -- the request with its names as texts
 abbrev pub request_text : Request (Bor Text) → Request Text
-request_text (Analyse purpose a) = Analyse purpose (analysis_text a)
-request_text (Check program certificate) = Check program.now certificate.now
+request_text (Analyse purpose a format) = Analyse purpose (analysis_text a) format
+request_text (Check program certificate format) = Check program.now certificate.now format
 request_text (Bench seed loops) = Bench seed loops
 request_text (Upgrade certificate) = Upgrade certificate.now
-request_text (Prove claims a) = Prove claims.now (analysis_text a)
-request_text (Transitions a) = Transitions (analysis_text a)
-request_text (Equations file improvements policy) = Equations file.now improvements policy
+request_text (Prove claims a format) = Prove claims.now (analysis_text a) format
+request_text (Transitions a format) = Transitions (analysis_text a) format
+request_text (Equations file improvements policy format) = Equations file.now improvements policy format
 request_text (Points program) = Points program.now
-request_text (Verify a) = Verify (analysis_text a)
+request_text (Verify name a format) = Verify name.now (analysis_text a) format
+request_text (Help topic) = Help topic
 
 -- ---- commands, by the words and options that were given
 
@@ -122,6 +138,10 @@ improvements_in given = number_in 0 MOST_IMPROVEMENTS (unwrap_or (first_of (code
 -- by which rule an edge is picked
 abbrev pub policy_in : List Row → Option Policy
 policy_in given = meaning_in policies (unwrap_or (first_of (codes "policy") given) (codes "best"))
+
+-- in which of these formats the output is written
+abbrev pub format_in : List (Text × Format) → List Row → Option Format
+format_in table given = meaning_in table (unwrap_or (first_of (codes "format") given) (codes "text"))
 
 -- what is analysed, and how
 abbrev pub analysis_in : List Row → Option (Analysis Text)
@@ -139,14 +159,18 @@ analysis_in given =
     (domain_in (unwrap_or (first_of (codes "domain") given) (codes "intervals")) (first_of (codes "rows") given)))
     (first_of (codes "program") given)
 
--- `solve` and `certify`: an analysis for this purpose
-abbrev pub analyse_in : Purpose → List Row → Option (Request Text)
-analyse_in purpose given = option_map (λ a. Analyse purpose a) (analysis_in given)
+-- `solve`: the report of an analysis, in a format
+abbrev pub solve_in : List Row → Option (Request Text)
+solve_in given = option_and_then (λ a. option_map (λ format. Analyse Report a format) (format_in formats given)) (analysis_in given)
+
+-- `certify`: the certificate of an analysis
+abbrev pub certify_in : List Row → Option (Request Text)
+certify_in given = option_map (λ a. Analyse Certificate a format.Text) (analysis_in given)
 
 -- `check`: a program and a certificate
 abbrev pub check_in : List Row → Option (Request Text)
-check_in given = option_and_then (λ program. option_map (λ certificate. Check program certificate)
-    (first_of (codes "certificate") given)) (first_of (codes "program") given)
+check_in given = option_and_then (λ program. option_and_then (λ certificate. option_map (λ format. Check program certificate format)
+    (format_in formats given)) (first_of (codes "certificate") given)) (first_of (codes "program") given)
 
 -- `bench`: a seed up to 2^31 - 1, and 1 to 46 loops
 abbrev pub bench_in : List Row → Option (Request Text)
@@ -160,18 +184,21 @@ upgrade_in given = option_map (λ certificate. Upgrade certificate) (first_of (c
 
 -- `prove`: claims and an analysis
 abbrev pub prove_in : List Row → Option (Request Text)
-prove_in given = option_and_then (λ a. option_map (λ claims. Prove claims a) (first_of (codes "claims") given)) (analysis_in given)
+prove_in given = option_and_then (λ a. option_and_then (λ claims. option_map (λ format. Prove claims a format)
+    (format_in formats given)) (first_of (codes "claims") given)) (analysis_in given)
 
 -- `transitions`: an analysis of a file of transitions
 abbrev pub transitions_in : List Row → Option (Request Text)
-transitions_in given = option_map (λ a. Transitions a) (analysis_in given)
+transitions_in given = option_and_then (λ a. option_map (λ format. Transitions a format) (format_in formats given)) (analysis_in given)
 
 -- `equations`: a file of equations, how many improvements at most, and by which rule
 abbrev pub equations_in : List Row → Option (Request Text)
 equations_in given =
     option_and_then (λ file.
     option_and_then (λ improvements.
-    option_map (λ policy. Equations file improvements policy) (policy_in given))
+    option_and_then (λ policy.
+    option_map (λ format. Equations file improvements policy format) (format_in formats given))
+    (policy_in given))
     (improvements_in given))
     (first_of (codes "file") given)
 
@@ -179,14 +206,19 @@ equations_in given =
 abbrev pub points_in : List Row → Option (Request Text)
 points_in given = option_map (λ program. Points program) (first_of (codes "program") given)
 
--- `verify`: an analysis whose program has checks
+-- `verify`: an analysis whose program has checks; the name of its file stays with it
 abbrev pub verify_in : List Row → Option (Request Text)
-verify_in given = option_map (λ a. Verify a) (analysis_in given)
+verify_in given =
+    option_and_then (λ a. option_map (λ format. Verify a.program a format) (format_in check_formats given)) (analysis_in given)
+
+-- `help`: a page
+abbrev pub help_in : List Row → Option (Request Text)
+help_in given = option_map (λ topic. Help topic) (topic_in (first_of (codes "command") given))
 
 -- the request of a command by its name
 abbrev pub command_in : Text × List Row → Option (Request Text)
-command_in (name, given) = if bytes_eq name (codes "solve") then analyse_in Report given
-    else (if bytes_eq name (codes "certify") then analyse_in Certificate given
+command_in (name, given) = if bytes_eq name (codes "solve") then solve_in given
+    else (if bytes_eq name (codes "certify") then certify_in given
     else (if bytes_eq name (codes "check") then check_in given
     else (if bytes_eq name (codes "bench") then bench_in given
     else (if bytes_eq name (codes "upgrade") then upgrade_in given
@@ -194,7 +226,8 @@ command_in (name, given) = if bytes_eq name (codes "solve") then analyse_in Repo
     else (if bytes_eq name (codes "transitions") then transitions_in given
     else (if bytes_eq name (codes "equations") then equations_in given
     else (if bytes_eq name (codes "points") then points_in given
-    else (if bytes_eq name (codes "verify") then verify_in given else None)))))))))
+    else (if bytes_eq name (codes "verify") then verify_in given
+    else (if bytes_eq name (codes "help") then help_in given else None))))))))))
 
 -- what is asked, where `clap` finds no fault
 abbrev pub unless_fault : Kinds → Option (Request Text) → Option (Request Text)
@@ -206,6 +239,25 @@ unfoldable pub request_of : List Text → Option (Request Text)
 request_of words = unless_fault (fault_of tmpl_app words)
     (option_and_then command_in (subcommand_of tmpl_app words))
 
+-- ---- progress
+
+-- the option `--progress` is among the words of a command
+abbrev pub has_progress : List Row → Bool
+has_progress given = option_map_or (λ text. bytes_eq text (codes "true")) (first_of (codes "progress") given) false
+
+-- it is among those of a subcommand
+abbrev pub progress_in : Option (Text × List Row) → Bool
+progress_in found = option_map_or has_progress (option_map (λ command. command.1) found) false
+
+-- what is asked of progress, where `clap` finds no fault
+abbrev pub told_unless_fault : Kinds → Bool → Bool
+told_unless_fault [] told = told
+told_unless_fault (kind ∷ kinds) told = false
+
+-- the words ask that rounds, turns and pivots are told; this is no part of their request
+unfoldable pub wants_progress : List Text → Bool
+wants_progress words = told_unless_fault (fault_of tmpl_app words) (progress_in (subcommand_of tmpl_app words))
+
 -- ---- examples
 
 -- the analysis of a program over a domain, with the other options left out
@@ -216,18 +268,27 @@ plain_analysis program domain = record { program = program; domain = domain; imp
 abbrev pub examples : List (List Text × Request Text)
 examples =
     -- the file of the program comes first
-    (codes "check" ∷ codes "p" ∷ codes "c" ∷ [], Check (codes "p") (codes "c"))
+    (codes "check" ∷ codes "p" ∷ codes "c" ∷ [], Check (codes "p") (codes "c") format.Text)
     ∷ (codes "bench" ∷ codes "--loops" ∷ codes "3" ∷ codes "--seed" ∷ codes "7" ∷ [], Bench 7 3)
     -- the file of a certificate alone is upgraded
     ∷ (codes "upgrade" ∷ codes "c" ∷ [], Upgrade (codes "c"))
     -- the program comes before its claims, wherever the options stand
-    ∷ (codes "prove" ∷ codes "p" ∷ codes "--domain=zones" ∷ codes "c" ∷ [], Prove (codes "c") (plain_analysis (codes "p") Zones))
+    ∷ (
+      codes "prove" ∷ codes "p" ∷ codes "--domain=zones" ∷ codes "c" ∷ [],
+      Prove (codes "c") (plain_analysis (codes "p") Zones) format.Text,
+    )
     -- a transition system is analysed as a program is
-    ∷ (codes "transitions" ∷ codes "s" ∷ codes "--domain" ∷ codes "zones" ∷ [], Transitions (plain_analysis (codes "s") Zones))
+    ∷ (codes "transitions" ∷ codes "s" ∷ codes "--domain" ∷ codes "zones" ∷ [], Transitions (plain_analysis (codes "s") Zones) format.Text)
     -- equations are solved by the policy that is named, and by 1,000 improvements where none are
-    ∷ (codes "equations" ∷ codes "e" ∷ codes "--policy=first" ∷ [], Equations (codes "e") 1000 First)
+    ∷ (codes "equations" ∷ codes "e" ∷ codes "--policy=first" ∷ codes "--format=json" ∷ [], Equations (codes "e") 1000 First format.Json)
     -- the program alone has its points written
     ∷ (codes "points" ∷ codes "p" ∷ [], Points (codes "p"))
     -- the checks of a program are judged by the bounds of its analysis
-    ∷ (codes "verify" ∷ codes "p" ∷ codes "--domain=octagons" ∷ [], Verify (plain_analysis (codes "p") Octagons))
+    ∷ (
+      codes "verify" ∷ codes "p" ∷ codes "--domain=octagons" ∷ codes "--format" ∷ codes "sarif" ∷ [],
+      Verify (codes "p") (plain_analysis (codes "p") Octagons) format.Sarif,
+    )
+    -- help is given on itself, and on a command
+    ∷ (codes "help" ∷ [], Help page.Overview)
+    ∷ (codes "help" ∷ codes "prove" ∷ [], Help page.Prove)
     ∷ []

@@ -1,9 +1,9 @@
 //! The words, read by `clap`.
 
 ghost use Rattle.std.specs.Prelude.{◌≡◌, IfOk, IsErrOf, None, Some, map, string_bytes};
-ghost use Rattle.ask_words.specs.Request.{request_of, request_text};
+ghost use Rattle.ask_words.specs.Request.{request_of, request_text, wants_progress};
 
-use crate::request::{Request, command_line, request_in};
+use crate::request::{Request, command_line, progress_in, request_in};
 use clap::error::ErrorKind;
 use std::alloc::{AllocError, Global};
 
@@ -44,6 +44,25 @@ pub fn read_words<'a>(alloc: Global, words: &'a [String]) -> Result<Request<&'a 
         Err(error) => match error.kind() {
             ErrorKind::OutOfMemory => Err(WordsFault::NoMemory),
             _ => Err(WordsFault::Usage),
+        },
+    }
+}
+
+/// Whether the words ask that the progress of their command is told: rounds, turns and pivots (docs/FORMATS.md, "Progress"). What
+/// they ask for beside it is the same with this option and without it.
+///
+/// # Errors
+///
+/// There was no memory.
+pub fn wants_progress(alloc: Global, words: &[String]) -> Result<bool, AllocError>
+    ensures { IfOk result (λ wants. wants ≡ wants_progress (map string_bytes words.now)) }
+{
+    let parser = command_line(alloc)?;
+    match parser.try_get_matches_from(words) {
+        Ok(matches) => Ok(progress_in(&matches)),
+        Err(error) => match error.kind() {
+            ErrorKind::OutOfMemory => Err(AllocError),
+            _ => Ok(false),
         },
     }
 }

@@ -2,6 +2,7 @@
 
 use acsl_annotate::annotate;
 use base_files::MemSink;
+use base_watch::Unwatched;
 use std::alloc::{AllocError, Global};
 use test_cases::{Written, is_as_wanted, shelf, words_of};
 
@@ -42,7 +43,7 @@ fn run_words(
     let mut shelf = shelf(alloc, text, rows, outside.loads)?;
     let mut out = MemSink::new(alloc, outside.puts.to_vec(alloc)?);
     let mut err = MemSink::new(alloc, outside.messages.to_vec(alloc)?);
-    let code = annotate(alloc, words, &mut shelf, &mut out, &mut err).code();
+    let code = annotate(alloc, words, &mut shelf, &mut out, &mut err, &mut Unwatched).code();
     Ok(Written { code, out, err })
 }
 

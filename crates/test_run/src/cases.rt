@@ -1,6 +1,7 @@
 //! Runs of the top call over files and streams in memory, and what is wanted of them.
 
 use base_files::{MemShelf, MemSink};
+use base_watch::Unwatched;
 use std::alloc::{AllocError, Global};
 use test_cases::{Written, is_as_wanted, repeated, shelf, words_of};
 use top_run::run;
@@ -26,7 +27,7 @@ pub(crate) fn run_over(
 ) -> Result<Written, AllocError> {
     let mut out = MemSink::new(alloc, puts.to_vec(alloc)?);
     let mut err = MemSink::new(alloc, messages.to_vec(alloc)?);
-    let code = run(alloc, words, shelf, &mut out, &mut err).code();
+    let code = run(alloc, words, shelf, &mut out, &mut err, &mut Unwatched).code();
     Ok(Written { code, out, err })
 }
 
@@ -53,8 +54,8 @@ pub(crate) enum Ending<'a> {
     Start(&'a [u8]),
 }
 
-// Whether a run has this ending.
-fn has_ending(written: &Written, ending: Ending) -> bool {
+/// Whether a run has this ending.
+pub(crate) fn has_ending(written: &Written, ending: Ending) -> bool {
     let out = written.out.bytes();
     match ending {
         Ending::Refused(code, message) => is_as_wanted(written, code, b"", message),

@@ -1,7 +1,9 @@
 //! Words of the command line, and what they ask for.
 
 use crate::texts::{Case, first_wrong};
-use ask_words::{Analysis, Domain, Policy, Purpose, Request, WordsFault, read_words, usage_line};
+use ask_words::{
+    Analysis, Domain, Format, Policy, Purpose, Request, Topic, WordsFault, read_words, usage_line,
+};
 use std::alloc::{AllocError, Global};
 
 // The words of a line, one behind each blank; the empty line has none.
@@ -33,6 +35,7 @@ impl Case for (&str, Analysis<&str>) {
         let request = Request::Analyse {
             purpose: Purpose::Report,
             analysis: self.1,
+            format: Format::Text,
         };
         asks(alloc, self.0, Some(request))
     }
@@ -114,6 +117,7 @@ const OTHERS: &[(&str, Request<&str>)] = &[
                 improvements: 1_000_000,
                 policy: Policy::First,
             },
+            format: Format::Text,
         },
     ),
     (
@@ -121,6 +125,7 @@ const OTHERS: &[(&str, Request<&str>)] = &[
         Request::Check {
             program: "p",
             certificate: "c",
+            format: Format::Text,
         },
     ),
     (
@@ -142,6 +147,7 @@ const OTHERS: &[(&str, Request<&str>)] = &[
                 improvements: 1000,
                 policy: Policy::Best,
             },
+            format: Format::Text,
         },
     ),
     (
@@ -154,6 +160,7 @@ const OTHERS: &[(&str, Request<&str>)] = &[
                 improvements: 0,
                 policy: Policy::First,
             },
+            format: Format::Text,
         },
     ),
     (
@@ -165,6 +172,7 @@ const OTHERS: &[(&str, Request<&str>)] = &[
                 improvements: 1000,
                 policy: Policy::Best,
             },
+            format: Format::Text,
         },
     ),
     (
@@ -173,6 +181,7 @@ const OTHERS: &[(&str, Request<&str>)] = &[
             file: "e",
             improvements: 1000,
             policy: Policy::Best,
+            format: Format::Text,
         },
     ),
     (
@@ -181,6 +190,31 @@ const OTHERS: &[(&str, Request<&str>)] = &[
             file: "e",
             improvements: 5,
             policy: Policy::First,
+            format: Format::Text,
+        },
+    ),
+    (
+        "solve --format=json p",
+        Request::Analyse {
+            purpose: Purpose::Report,
+            analysis: PLAIN,
+            format: Format::Json,
+        },
+    ),
+    (
+        "check p --format json c",
+        Request::Check {
+            program: "p",
+            certificate: "c",
+            format: Format::Json,
+        },
+    ),
+    (
+        "verify p --format sarif",
+        Request::Verify {
+            name: "p",
+            analysis: PLAIN,
+            format: Format::Sarif,
         },
     ),
     ("points p", Request::Points { program: "p" }),
@@ -188,12 +222,32 @@ const OTHERS: &[(&str, Request<&str>)] = &[
     (
         "verify --domain octagons p --improvements 7",
         Request::Verify {
+            name: "p",
             analysis: Analysis {
                 program: "p",
                 domain: Domain::Octagons,
                 improvements: 7,
                 policy: Policy::Best,
             },
+            format: Format::Text,
+        },
+    ),
+    (
+        "help",
+        Request::Help {
+            topic: Topic::Overview,
+        },
+    ),
+    (
+        "help help",
+        Request::Help {
+            topic: Topic::Overview,
+        },
+    ),
+    (
+        "help transitions",
+        Request::Help {
+            topic: Topic::Transitions,
         },
     ),
 ];
@@ -228,6 +282,13 @@ const REFUSED: &[&str] = &[
     "solve p --improvements +1",
     "solve p --improvements -1",
     "check p",
+    "check p c --format sarif",
+    "certify p --format json",
+    "points p --format json",
+    "solve p --format",
+    "solve p --format Text",
+    "solve p --format text --format text",
+    "solve p --format=",
     "check p c --domain zones",
     "bench --seed 1",
     "bench --seed 2147483648 --loops 1",
@@ -255,7 +316,11 @@ const REFUSED: &[&str] = &[
     "verify p c",
     "verify p --domain rows",
     "--help",
-    "help",
+    "help solve prove",
+    "help annotate",
+    "help --domain zones",
+    "help --help",
+    "help ",
     "solve p -h",
     "--version",
     "-V",
@@ -269,5 +334,5 @@ fn other_words_ask_for_nothing(rt: HostRuntime) {
 #[test]
 fn usage(rt: HostRuntime) {
     assert!(rt; usage_line().starts_with(b"usage: tmpl solve PROGRAM [--domain D]"));
-    assert!(rt; usage_line().len() == 363);
+    assert!(rt; usage_line().len() == 518);
 }

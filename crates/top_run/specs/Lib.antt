@@ -3,6 +3,7 @@ pub mod Lines
 pub mod Loading
 pub mod Outputs
 pub mod Messages
+pub mod Progress
 pub mod Parts
 pub mod Run
 pub mod Headline

@@ -8,6 +8,7 @@ mod memory;
 mod messages;
 mod output;
 mod program;
+mod progress;
 mod promise;
 
 pub use interface::{Program, Tmpl};
@@ -15,6 +16,7 @@ pub use laws::read_is_whole;
 pub use memory::run_in_memory;
 pub use out_workload::generate;
 pub use program::{run, run_as, run_without_words};
+pub use progress::Teller;
 pub use promise::headline;
 pub use top_answer::{Answer, Exact, Meaning, answer};
 pub use top_status::{CertCause, ReadCause, Status, TextCause, Which};

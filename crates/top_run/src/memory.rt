@@ -9,6 +9,7 @@ ghost use Rattle.top_status.specs.declared.status.Status.{Status as StatusValue}
 
 use crate::program::run;
 use base_files::{PlainShelf, PlainSink, Shelf, Sink};
+use base_watch::Unwatched;
 use std::alloc::Global;
 use top_answer::{Exact, Meaning};
 use top_status::Status;
@@ -38,5 +39,5 @@ pub fn run_in_memory<L: Sink>(
         (contents_for files (map string_bytes words.now))
         ending result }
 {
-    run(alloc, words, shelf, out, err)
+    run(alloc, words, shelf, out, err, &mut Unwatched)
 }

@@ -6,6 +6,7 @@ ghost use Rattle.ask_words.specs.Request.{request_of};
 ghost use Rattle.top_answer.specs.Commands.{command_of};
 ghost use Rattle.top_run.specs.Lines.{pieces_of};
 ghost use Rattle.top_run.specs.Parts.{IsAnswerOver, PutsAnswer};
+ghost use Rattle.top_run.specs.Progress.{IsUntold};
 ghost use Rattle.top_run.specs.Run.{IsRun};
 ghost use Rattle.top_run.specs.Seen.{shelf_with, sink_with};
 ghost use Rattle.top_status.specs.Status.{has_output};
@@ -16,6 +17,7 @@ use crate::messages::tell;
 use crate::output::{Pieces, pieces_of, put_pieces};
 use ask_words::read_words;
 use base_files::{Shelf, Sink};
+use base_watch::Watch;
 use std::alloc::Global;
 use top_answer::{Answer, Exact, Meaning, plain_answer};
 use top_status::Status;
@@ -28,7 +30,12 @@ struct Piecewise {
 }
 
 // The answer to the words over the files that they name, as they are loaded.
-fn answer_words<P: Program, S: Shelf>(alloc: Global, words: &[String], shelf: &mut S) -> Piecewise
+fn answer_words<P: Program, S: Shelf, W: Watch>(
+    alloc: Global,
+    words: &[String],
+    shelf: &mut S,
+    watch: &mut W,
+) -> Piecewise
     requires { P.takes (map string_bytes words.now) }
     ensures answer { IsAnswerOver P.commands P.means (map string_bytes words.now)
         (shelf_with (S.files shelf.old) (S.loads shelf.old) (S.faults shelf.old) (S.last_failed shelf.old))
@@ -36,10 +43,11 @@ fn answer_words<P: Program, S: Shelf>(alloc: Global, words: &[String], shelf: &m
         result.answer.status result.answer.bytes.items result.answer.message }
     ensures pieces { (request : NamedRequest) → request_of (map string_bytes words.now) ≡ Some request
         → IsTrue (has_output result.answer.status) → result.pieces ≡ pieces_of request }
+    ensures untold { IsUntold (map string_bytes words.now) watch.old watch.new }
 {
     match read_words(alloc, words) {
         Ok(request) => Piecewise {
-            answer: answer_request::<P, S>(alloc, words, request, shelf),
+            answer: answer_request::<P, S, W>(alloc, words, request, shelf, watch),
             pieces: pieces_of(request),
         },
         Err(fault) => Piecewise {
@@ -69,25 +77,29 @@ fn put_answer<K: Sink>(alloc: Global, given: Piecewise, out: &mut K) -> Answer
 /// loaded, each once, up to the first that isn't read; their contents are answered as the program answers them; what is written goes to
 /// `out`, and the message of every other ending to `err`.
 ///
+/// Where the words ask for progress, `watch` is told of rounds, turns and pivots while the program answers, before anything is put.
+///
 /// The order of causes is that of the answer. `Memory` may come at any time, and takes the place of any other answer; `Write` takes that of
 /// `Done` and of `Open`.
-pub fn run_as<P: Program, S: Shelf, K: Sink, L: Sink>(
+pub fn run_as<P: Program, S: Shelf, K: Sink, L: Sink, W: Watch>(
     alloc: Global,
     words: &[String],
     shelf: &mut S,
     out: &mut K,
     err: &mut L,
+    watch: &mut W,
 ) -> Status
     requires { P.takes (map string_bytes words.now) }
-    ensures { IsRun P.commands P.means (map string_bytes words.now)
+    ensures run { IsRun P.commands P.means (map string_bytes words.now)
         (shelf_with (S.files shelf.old) (S.loads shelf.old) (S.faults shelf.old) (S.last_failed shelf.old))
         (shelf_with (S.files shelf.new) (S.loads shelf.new) (S.faults shelf.new) (S.last_failed shelf.new))
         (sink_with (K.held out.old) (K.taken out.old) (K.faults out.old) (K.spare out.old))
         (sink_with (K.held out.new) (K.taken out.new) (K.faults out.new) (K.spare out.new))
         (sink_with (L.held err.old) (L.taken err.old) (L.faults err.old) (L.spare err.old))
         (sink_with (L.held err.new) (L.taken err.new) (L.faults err.new) (L.spare err.new)) result }
+    ensures untold { IsUntold (map string_bytes words.now) watch.old watch.new }
 {
-    let answered = answer_words::<P, S>(alloc, words, shelf);
+    let answered = answer_words::<P, S, W>(alloc, words, shelf, watch);
     let ended = put_answer(alloc, answered, out);
     tell(&ended.status, &ended.message, err);
     ended.status
@@ -117,22 +129,27 @@ pub fn run_without_words<P: Program, S: Shelf, K: Sink, L: Sink>(
 /// loaded, each once, up to the first that isn't read; their contents are answered as `answer` says; a report, a certificate or a summary
 /// goes to `out`, and the message of every other ending to `err` (docs/FORMATS.md, "Messages").
 ///
+/// Where the words ask for progress, `watch` is told of rounds, turns and pivots while it answers, before anything is put. `main` hands
+/// over a `Teller` of the stream of messages, so that the message stays the last line there; nothing else depends on it.
+///
 /// The order of causes is that of `answer`. `Memory` may come at any time, and takes the place of any other answer; `Write` takes that of
 /// `Done` and of `Open`.
-pub fn run<S: Shelf, K: Sink, L: Sink>(
+pub fn run<S: Shelf, K: Sink, L: Sink, W: Watch>(
     alloc: Global,
     words: &[String],
     shelf: &mut S,
     out: &mut K,
     err: &mut L,
+    watch: &mut W,
 ) -> Status
-    ensures { IsRun (command_of ⟦<Exact as Meaning>⟧.means) ⟦<Exact as Meaning>⟧.means (map string_bytes words.now)
+    ensures run { IsRun (command_of ⟦<Exact as Meaning>⟧.means) ⟦<Exact as Meaning>⟧.means (map string_bytes words.now)
         (shelf_with (S.files shelf.old) (S.loads shelf.old) (S.faults shelf.old) (S.last_failed shelf.old))
         (shelf_with (S.files shelf.new) (S.loads shelf.new) (S.faults shelf.new) (S.last_failed shelf.new))
         (sink_with (K.held out.old) (K.taken out.old) (K.faults out.old) (K.spare out.old))
         (sink_with (K.held out.new) (K.taken out.new) (K.faults out.new) (K.spare out.new))
         (sink_with (L.held err.old) (L.taken err.old) (L.faults err.old) (L.spare err.old))
         (sink_with (L.held err.new) (L.taken err.new) (L.faults err.new) (L.spare err.new)) result }
+    ensures untold { IsUntold (map string_bytes words.now) watch.old watch.new }
 {
-    run_as::<Tmpl, S, K, L>(alloc, words, shelf, out, err)
+    run_as::<Tmpl, S, K, L, W>(alloc, words, shelf, out, err, watch)
 }

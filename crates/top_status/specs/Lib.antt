@@ -2,3 +2,4 @@ pub mod Status
 pub mod CheckMessages
 pub mod Messages
 pub mod Parts
+pub mod Events

@@ -17,7 +17,7 @@ use Rattle.flow_rationals.specs.declared.fault.EquFault.{EquFault}
 use Rattle.flow_rationals.specs.declared.fault.EquFault.TheVariants as equ
 use Rattle.flow_transitions.specs.declared.fault.AutoFault.{AutoFault}
 use Rattle.flow_transitions.specs.declared.fault.AutoFault.TheVariants as auto
-use Rattle.ask_words.specs.Request.{usage_text}
+use Rattle.ask_words.specs.Help.{usage_text}
 use Rattle.top_status.specs.CheckMessages.{certificate_message, wide_message}
 use Rattle.ask_files.specs.declared.which.Which.TheVariants as which
 use Rattle.ask_files.specs.declared.which.ReadCause.{ReadCause}

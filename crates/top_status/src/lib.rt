@@ -7,6 +7,7 @@ mod status;
 
 pub use ask_files::{ReadCause, Which};
 pub use ending::{Ending, plain_ending};
+pub use message::event::{Event, event_line};
 pub use message::place::{answer_line, answer_rows};
 pub use message::{Message, make_message};
 pub use status::{CertCause, Excess, Status, TextCause};

@@ -7,6 +7,7 @@ ghost use Rattle.top_status.specs.Messages.{line_text, message_of, parse_words, 
 ghost use Rattle.top_status.specs.Parts.{told};
 
 mod check;
+pub(crate) mod event;
 pub(crate) mod place;
 
 use crate::status::{Excess, Status, TextCause};
@@ -255,10 +256,10 @@ fn make_parts(line: u32, status: &Status) -> Parts
     }
 }
 
-/// A message of at most 512 bytes, which takes no memory.
+/// A message of at most 1024 bytes, which takes no memory.
 #[derive(Drop)]
 pub struct Message {
-    bytes: [u8; 512],
+    bytes: [u8; 1024],
     len: usize,
 }
 
@@ -269,7 +270,7 @@ impl Model for Message {
 
     ghost view = { λ m. take m.len m.bytes };
 
-    ghost invariant = { λ m. m.len ≤ 512 };
+    ghost invariant = { λ m. m.len ≤ 1024 };
 }
 
 impl Message {
@@ -277,14 +278,14 @@ impl Message {
         ensures { result ≡ [] }
     {
         Message {
-            bytes: [0; 512],
+            bytes: [0; 1024],
             len: 0,
         }
     }
 
     // Adds a piece at the end.
     pub(crate) fn append(&mut self, piece: &[u8])
-        requires { length self.old + length piece.now ≤ 512 }
+        requires { length self.old + length piece.now ≤ 1024 }
         ensures { self.new ≡ self.old ++ piece.now }
     {
         let end = self.len + piece.len();
@@ -294,7 +295,7 @@ impl Message {
 
     /// The message of these bytes.
     pub fn of(text: &[u8]) -> Message
-        requires { length text.now ≤ 512 }
+        requires { length text.now ≤ 1024 }
         ensures { result ≡ text.now }
     {
         let mut message = Message::new();
@@ -305,7 +306,7 @@ impl Message {
     /// The bytes of the message.
     pub fn bytes(&self) -> &[u8]
         ensures bytes { result.now ≡ self.now }
-        ensures short { length result.now ≤ 512 }
+        ensures short { length result.now ≤ 1024 }
     {
         &self.bytes[..self.len]
     }

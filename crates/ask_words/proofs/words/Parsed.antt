@@ -1,5 +1,5 @@
 -- What a parse by `clap` says of the request.
-use Rattle.std.proofs.Common.{◌≡◌, true, List, [], ◌∷◌, Option, Some, None, Result, refl, sym, ap, option_and_then, option_map, IfOk}
+use Rattle.std.proofs.Common.{◌≡◌, true, false, List, [], ◌∷◌, Option, Some, None, Result, refl, sym, ap, option_and_then, option_map, IfOk}
 use Rattle.std.specs.Prelude.{IsErrOf, ok_or}
 use Rattle.std.specs.Borrow.{Bor}
 use Rattle.ask_words.specs.declared.request.Request.{Request}
@@ -9,7 +9,7 @@ use Rattle.clap.specs.Words.{IsAmong, Text, fault_of, is_simple, is_simple_and_f
 use Rattle.clap.specs.declared.error.ErrorKind.{ErrorKind}
 use Rattle.clap.proofs.OnLiterals.{clap_on_literals}
 use Rattle.ask_words.specs.Request.{tmpl_app}
-use Rattle.ask_words.specs.Request.{command_in, request_of, request_text, unless_fault}
+use Rattle.ask_words.specs.Request.{command_in, progress_in, request_of, request_text, told_unless_fault, unless_fault, wants_progress}
 
 -- the command line is simple: the words alone give its matches
 pub simple : is_simple tmpl_app ≡ true
@@ -45,3 +45,16 @@ pub absent : (o : Option (Request (Bor Text))) (r : Result (Request (Bor Text)) 
     → r ≡ ok_or o Usage → option_map request_text o ≡ asked → IsErrOf r Usage → asked ≡ None
 absent None r asked e s is = sym s
 absent (Some x) r asked e s is = let bad : IsErrOf (ok_or (Some x) Usage) Usage = rw e at is in cc
+
+-- where no step fails, progress is asked for by the option
+pub told : (words : List Text) → fault_of tmpl_app words ≡ [] → wants_progress words ≡ progress_in (subcommand_of tmpl_app words)
+unfolding wants_progress
+told words e = ap (λ kinds. told_unless_fault kinds (progress_in (subcommand_of tmpl_app words))) e
+
+-- where some step fails, it isn't
+pub untold : (words : List Text) (kind : ErrorKind) (kinds : List ErrorKind) → fault_of tmpl_app words ≡ kinds → IsAmong kind kinds
+    → wants_progress words ≡ false
+unfolding wants_progress
+untold words kind [] e among = absurd among
+untold words kind (k ∷ ks) e among =
+    ap (λ kinds. told_unless_fault kinds (progress_in (subcommand_of tmpl_app words))) e

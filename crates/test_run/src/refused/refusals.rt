@@ -9,20 +9,29 @@ pub(crate) const USAGE: &[u8] =
     b"usage: tmpl solve PROGRAM [--domain D] [--rows FILE] [--improvements N] [--policy P] | certify (the same) \
       | check PROGRAM CERT | bench --seed N --loops K | upgrade CERT \
       | prove PROGRAM CLAIMS (the options of solve) | transitions FILE (the options of solve) \
-      | equations FILE [--improvements N] [--policy P] | points PROGRAM | verify PROGRAM (the options of solve)\n";
+      | equations FILE [--improvements N] [--policy P] | points PROGRAM | verify PROGRAM (the options of solve) \
+      | solve, check, transitions, equations, prove, verify: [--format F] \
+      | solve, certify, prove, verify, transitions, equations: [--progress] | help [COMMAND]\n";
 
 // Lines of words that ask for nothing.
 const NO_REQUESTS: &[&str] = &[
     "",
     "bench --seed 1 --loops 47",
+    "check p f --progress",
     "equations p --domain zones",
     "equations",
+    "help annotate",
+    "help solve p",
+    "help --domain zones",
     "points p --domain zones",
     "points p f",
     "points",
     "prove p f f",
     "prove p",
+    "points p --progress",
     "solve p --domain rows",
+    "solve p --progress --progress",
+    "solve p --progress=true",
     "solve p --improvements 1000001",
     "solve",
     "transitions",

@@ -55,3 +55,10 @@ pub same_contents : (commands : Commands) (m : Meanings) (words contents others 
 same_contents commands m words contents others status bytes message same answer output complete names =
     subst (λ texts. IsAnswerTo commands m words texts status bytes message) same
     (record { answer = answer; output = output; complete = complete; names = names })
+
+-- the same of all that an answer promises
+pub over_contents : (commands : Commands) (m : Meanings) (words contents others : List (List ℕ)) (status : Status) (bytes message : List ℕ)
+    → contents ≡ others → IsAnswerTo commands m words contents status bytes message
+    → IsAnswerTo commands m words others status bytes message
+over_contents commands m words contents others status bytes message same h =
+    subst (λ texts. IsAnswerTo commands m words texts status bytes message) same h

@@ -13,8 +13,8 @@ use cert_text::{Field, FormFault};
 use flow_systems::{Part, Site, Spot};
 use itoa::Buffer;
 
-// Adds some words at the end.
-fn push_words(message: &mut Message, words: &[u8])
+/// Adds some words at the end.
+pub(crate) fn push_words(message: &mut Message, words: &[u8])
     requires few { length words.now ≤ 24 }
     requires room { length message.old ≤ 480 }
     ensures text { message.new ≡ message.old ++ words.now }
@@ -33,8 +33,8 @@ fn push_number(message: &mut Message, number: u64)
     message.append(buffer.format(number).as_bytes());
 }
 
-// Adds words and a number behind them.
-fn push_numbered(message: &mut Message, words: &[u8], number: u64)
+/// Adds words and a number behind them.
+pub(crate) fn push_numbered(message: &mut Message, words: &[u8], number: u64)
     requires few { length words.now ≤ 24 }
     requires room { length message.old ≤ 440 }
     ensures text { message.new ≡ message.old ++ numbered words.now number }
