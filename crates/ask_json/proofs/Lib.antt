@@ -1,4 +1,2 @@
 pub mod Rests
-pub mod Pushed
 pub mod told
-pub mod log

@@ -1,2 +1,2 @@
 pub mod AnyName
-pub mod OfSolve
+pub mod Solve

@@ -125,8 +125,7 @@ const ASSERTS_JSON: &[u8] = b"{\"checks\":[\
     \"verdict\":\"open\"}\
     ],\"improvements\":0,\"proved\":1}\n";
 
-const ASSERTS_SARIF: &[u8] =
-    b"{\"$schema\":\"https://json.schemastore.org/sarif-2.1.0.json\",\"runs\":[{\"results\":[\
+const ASSERTS_SARIF: &[u8] = b"{\"$schema\":\"https://json.schemastore.org/sarif-2.1.0.json\",\"runs\":[{\"results\":[\
     {\"level\":\"warning\",\"locations\":[{\"physicalLocation\":{\"artifactLocation\":{\"uri\":\"a%20b/%C3%BC-1.c\"},\
     \"region\":{\"startColumn\":5,\"startLine\":5}}}],\
     \"message\":{\"text\":\"assert: open at b = 11, _ = 7, a2 = 10, a = -1, B = 0\"},\"ruleId\":\"assert\"},\
@@ -159,10 +158,11 @@ const OUTPUTS: &[Case] = &[
     ),
     (
         Asked::Equations,
-        b"a = max(1, 2*a); b = max(1:2, 0*a);",
+        b"a = max(0);\nb = max(2*a - 1:2, a);\nc = max(0, c + 1);",
         b"",
         Format::Json,
-        b"{\"improvements\":2,\"values\":[{\"name\":\"a\",\"value\":\"+inf\"},{\"name\":\"b\",\"value\":\"1/2\"}]}\n",
+        b"{\"improvements\":2,\"values\":[{\"name\":\"a\",\"value\":\"0\"},{\"name\":\"b\",\"value\":\"0\"},\
+        {\"name\":\"c\",\"value\":\"+inf\"}]}\n",
     ),
     (
         Asked::Prove,

@@ -1,5 +1,5 @@
 -- What a stream gets that is told of long work.
-use Rattle.std.specs.Prelude.{◌≡◌, ◌≤◌, ⊥, ℕ, Bool, false, List, take}
+use Rattle.std.specs.Prelude.{◌≡◌, ◌≤◌, ℕ, Bool, false, List, take}
 use Rattle.std.specs.Io.KnownBytes.{Appends}
 use Rattle.base_files.specs.Faults.{Rose}
 use Rattle.ask_words.specs.Request.{wants_progress}

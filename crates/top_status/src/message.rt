@@ -5,6 +5,7 @@ ghost use Rattle.top_status.specs.Messages.{auto_words, claim_words, counted, co
 ghost use Rattle.top_status.specs.Messages.{limit_words};
 ghost use Rattle.top_status.specs.Messages.{line_text, message_of, parse_words, plain, read_words, row_words, text_words, words, words_of};
 ghost use Rattle.top_status.specs.Parts.{told};
+ghost use Rattle.top_status.specs.declared.status.Status.TheVariants as StatusValue;
 
 mod check;
 pub(crate) mod event;
@@ -328,13 +329,23 @@ fn plain_message(line: u32, status: &Status) -> Message
     message
 }
 
+// The message where more came up than exact work may take.
+fn excess_message(line: u32, rows: usize, excess: Excess) -> Message
+    ensures { result ≡ message_of line rows (StatusValue.Exceeded excess) }
+{
+    match excess {
+        Excess::Wide(spot) => wide_message(rows, &spot),
+        Excess::Large(_) => plain_message(line, &Status::Exceeded(excess)),
+    }
+}
+
 /// The message of an ending whose cause stands at this line, from 1, where each point has so many rows (docs/FORMATS.md, "Messages").
 pub fn make_message(line: u32, rows: usize, status: &Status) -> Message
     ensures { result ≡ message_of line rows status.now }
 {
     match status {
         Status::Certificate(cause) => certificate_message(rows, cause),
-        Status::Exceeded(Excess::Wide(spot)) => wide_message(rows, spot),
+        Status::Exceeded(excess) => excess_message(line, rows, *excess),
         _ => plain_message(line, status),
     }
 }

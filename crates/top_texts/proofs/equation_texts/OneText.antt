@@ -1,6 +1,6 @@
 -- A text of equations has one list of values.
 use Rattle.std.proofs.Common.{◌≡◌, ◌∙◌, ◌++◌, ℕ, suc, ◌+◌, ◌<◌, ◌≤◌, List, [], ◌∷◌, length, map, refl, sym, ap₂, subst, arith}
-use Rattle.std.specs.Prelude.{Ok, codes}
+use Rattle.std.specs.Prelude.{Ok}
 use Rattle.std.proofs.lemmas.List.{length-map}
 use Rattle.base_numbers.specs.Extended.{Ext}
 use Rattle.flow_systems.specs.declared.footer.Footer.TheVariants.{Improvements}

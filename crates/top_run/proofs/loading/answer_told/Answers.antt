@@ -8,5 +8,5 @@ returns-then-told-clause-answer g c =
 
 pub returns-else-told-clause-answer : goal.returns-else-told-clause-answer
 returns-else-told-clause-answer g c =
-    same_contents _ _ _ _ _ _ _ _ refl c.answer-2.ensures.answer c.answer-2.ensures.output c.answer-2.ensures.complete
-    c.answer-2.ensures.message
+    same_contents _ _ _ _ _ _ _ _ refl c.answer-else-told.ensures.answer c.answer-else-told.ensures.output
+    c.answer-else-told.ensures.complete c.answer-else-told.ensures.message
