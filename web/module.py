@@ -31,6 +31,23 @@ HEAP = ["-O2", "-std=c11", "-ffreestanding", "-nostdinc", "-fno-builtin-malloc",
 OTHERS = r' ?"(?:target-cpu|probe-stack|stack-probe-size)"="[^"]*"'
 WASM = ' "no-builtin-bcmp" "no-builtin-memcmp" "no-builtin-strlen" "target-cpu"="lime1"'
 STACK = 4 * 1024 * 1024
+# The one instruction of x86-64 that std uses (where it tests for UTF-8): of 16 bytes, those at the places that 16 others give by their
+# last four bits, and 0 where such a byte's first bit is set. This function stands in its place.
+SHUFFLE = "llvm.x86.ssse3.pshuf.b.128"
+
+
+def shuffle():
+    """That function in LLVM's language."""
+    lines = ["define internal <16 x i8> @shuffled_bytes(<16 x i8> %bytes, <16 x i8> %places) {", "  %room = alloca [16 x i8], align 16",
+             "  store <16 x i8> %bytes, ptr %room, align 16"]
+    for k in range(16):
+        before = f"%all{k - 1}" if k else "zeroinitializer"
+        lines += [f"  %place{k} = extractelement <16 x i8> %places, i32 {k}", f"  %low{k} = and i8 %place{k}, 15",
+                  f"  %index{k} = zext i8 %low{k} to i64", f"  %at{k} = getelementptr i8, ptr %room, i64 %index{k}",
+                  f"  %byte{k} = load i8, ptr %at{k}, align 1", f"  %none{k} = icmp slt i8 %place{k}, 0",
+                  f"  %here{k} = select i1 %none{k}, i8 0, i8 %byte{k}",
+                  f"  %all{k} = insertelement <16 x i8> {before}, i8 %here{k}, i32 {k}"]
+    return "\n".join([*lines, "  ret <16 x i8> %all15", "}"])
 
 
 def kit():
@@ -43,6 +60,8 @@ def for_wasm(text):
     layout = re.search(r'^target datalayout = "(.*)"$', text, re.M)[1]
     if not layout.startswith("e-m:e-") or "i64:64" not in layout or "i128:128" not in layout or "x86_64" not in text[:2000]:
         sys.exit("module.py: the library isn't laid out as for x86-64")
+    text = re.sub(rf"^declare <16 x i8> @{re.escape(SHUFFLE)}\(.*$", lambda found: shuffle(), text, flags=re.M)
+    text = text.replace(f"@{SHUFFLE}(", "@shuffled_bytes(")
     if re.search(r"@llvm\.x86|\basm\b(?! *=)", re.sub(r'"[^"]*"', "", text)):
         sys.exit("module.py: the library has code for x86-64 alone")
     text = re.sub(r'^target datalayout = ".*"$', f'target datalayout = "{LAYOUT}"', text, count=1, flags=re.M)
