@@ -12,7 +12,7 @@ pub struct Told {
     pub raised: u32,
     /// The turn of the round, from 0.
     pub turn: u32,
-    /// How many pivots the joint problem of the turn has taken, in thousands.
+    /// How many pivots the joint problem of the turn has taken, as told at each further thousand.
     pub pivots: u32,
     /// The length of the output in bytes.
     pub output: usize,
