@@ -4,6 +4,7 @@ ghost use Rattle.std.specs.Prelude.{◌≡◌, ◌≤◌, ◌⊎◌, List, ℕ, 
 ghost use Rattle.base_limits.specs.declared.limits.TheConstants.{MOST_IMPROVEMENTS, MOST_TEXT_BYTES};
 ghost use Rattle.ask_files.specs.Files.{texts_of};
 ghost use Rattle.ask_words.specs.Request.{analysis_text};
+ghost use Rattle.ask_words.specs.declared.format.Format.{Format as FormatValue};
 ghost use Rattle.ask_words.specs.declared.request.Domain.{Domain};
 ghost use Rattle.ask_words.specs.declared.request.Policy.{Policy as PolicyValue};
 ghost use Rattle.ask_words.specs.declared.request.Purpose.TheVariants.{Report};
@@ -23,7 +24,7 @@ use crate::usage::usage_line;
 use crate::words::{read_analysis, solve_words};
 use crate::write::annotated_text;
 use ask_files::{analysis_with, first_unread};
-use ask_words::{Analysis, Purpose, Request, WordsFault};
+use ask_words::{Analysis, Format, Purpose, Request, WordsFault};
 use base_watch::Watch;
 use std::alloc::Global;
 use top_answer::{Answer, Exact, Meaning, plain_answer};
@@ -62,9 +63,9 @@ fn refused_answer(alloc: Global, ending: Ending) -> Answer
 fn written(alloc: Global, text: &[u8], least: &LeastBounds) -> Answer
     requires short { length text.now ≤ MOST_TEXT_BYTES }
     requires found { (rows : Domain (List ℕ)) × (policy : PolicyValue) × (limit : ℕ) × IsFoundIn text.now rows policy limit least.now }
-    ensures says { (analysis : Analysis (List ℕ)) → analysis.program ≡ text.now
+    ensures says { (analysis : Analysis (List ℕ)) (format : FormatValue) → analysis.program ≡ text.now
         → IsFoundIn analysis.program analysis.domain analysis.policy analysis.improvements least.now
-        → Says (annotating exact (Analyse Report analysis)) result.status result.bytes.items }
+        → Says (annotating exact (Analyse Report analysis format)) result.status result.bytes.items }
     ensures message { result.message ≡ message_of 0 0 result.status }
     ensures ends { (result.status ≡ Status.Done) ⊎ (result.status ≡ Status.Memory) }
 {
@@ -75,10 +76,15 @@ fn written(alloc: Global, text: &[u8], least: &LeastBounds) -> Answer
 }
 
 // The annotated text of what an analysis reads.
-fn annotated<W: Watch>(alloc: Global, analysis: Analysis<&[u8]>, watch: &mut W) -> Answer
+fn annotated<W: Watch>(
+    alloc: Global,
+    analysis: Analysis<&[u8]>,
+    _format: Format,
+    watch: &mut W,
+) -> Answer
     requires { IsWithin (analysis_text analysis) }
-    ensures says { Says (annotating exact (Analyse Report (analysis_text analysis.entry))) result.status result.bytes.items }
-    ensures names { NamesPlace (Analyse Report (analysis_text analysis.entry)) result.status result.message }
+    ensures says { Says (annotating exact (Analyse Report (analysis_text analysis.entry) _format)) result.status result.bytes.items }
+    ensures names { NamesPlace (Analyse Report (analysis_text analysis.entry) _format) result.status result.message }
 {
     match least_on(
         alloc,
@@ -97,19 +103,21 @@ fn annotated<W: Watch>(alloc: Global, analysis: Analysis<&[u8]>, watch: &mut W) 
 fn annotation_of<W: Watch>(
     alloc: Global,
     analysis: Analysis<&str>,
+    format: Format,
     contents: &[&[u8]],
     watch: &mut W,
 ) -> Answer
     requires { analysis.improvements ≤ MOST_IMPROVEMENTS }
-    ensures { AnswersRequest (annotating exact) (Analyse Report (analysis_text analysis.entry)) (texts_of contents.now) result.status
+    ensures { AnswersRequest (annotating exact) (Analyse Report (analysis_text analysis.entry) format) (texts_of contents.now) result.status
         result.bytes.items result.message }
 {
     let request = Request::Analyse {
         purpose: Purpose::Report,
         analysis,
+        format,
     };
     match first_unread(alloc, request, contents) {
-        Ok(None) => annotated(alloc, analysis_with(analysis, contents), watch),
+        Ok(None) => annotated(alloc, analysis_with(analysis, contents), format, watch),
         Ok(Some(cause)) => plain_answer(alloc, Status::Read(cause)),
         Err(_) => plain_answer(alloc, Status::Memory),
     }
@@ -127,7 +135,7 @@ fn annotation_by<W: Watch>(
         result.bytes.items result.message }
 {
     match read_analysis(alloc, words) {
-        Ok(analysis) => annotation_of(alloc, analysis, contents, watch),
+        Ok(asked) => annotation_of(alloc, asked.analysis, asked.format, contents, watch),
         Err(WordsFault::Usage) => plain_answer(alloc, Status::Usage),
         Err(WordsFault::NoMemory) => plain_answer(alloc, Status::Memory),
     }

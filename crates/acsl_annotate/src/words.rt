@@ -7,7 +7,7 @@ ghost use Rattle.ask_words.specs.declared.request.Request.TheVariants.{Analyse};
 ghost use Rattle.acsl_annotate.specs.Words.{IsSolve, as_solve};
 
 use ask_words::laws::solve_reports;
-use ask_words::{Analysis, Purpose, Request, WordsFault, read_words};
+use ask_words::{Analysis, Format, Purpose, Request, WordsFault, read_words};
 use std::alloc::{AllocError, Global};
 
 // The words with `solve` before them.
@@ -22,14 +22,21 @@ pub(crate) fn solve_words(alloc: Global, words: &[String]) -> Result<Vec<String>
     Ok(all)
 }
 
+// An analysis, and the format that is asked for beside it, which changes nothing here.
+#[derive(Clone, Copy)]
+pub(crate) struct Worded<'a> {
+    pub analysis: Analysis<&'a str>,
+    pub format: Format,
+}
+
 // What words that begin with `solve` ask for.
 pub(crate) fn read_analysis<'a>(
     alloc: Global,
     words: &'a [String],
-) -> Result<Analysis<&'a str>, WordsFault>
+) -> Result<Worded<'a>, WordsFault>
     requires { IsSolve (map string_bytes words.now) }
-    ensures ok { IfOk result (λ analysis.
-        request_of (map string_bytes words.entry.now) ≡ Some (Analyse Report (analysis_text analysis))) }
+    ensures ok { IfOk result (λ asked.
+        request_of (map string_bytes words.entry.now) ≡ Some (Analyse Report (analysis_text asked.analysis) asked.format)) }
     ensures usage { IsErrOf result WordsFault.Usage → request_of (map string_bytes words.entry.now) ≡ None }
 {
     solve_reports();
@@ -38,8 +45,9 @@ pub(crate) fn read_analysis<'a>(
             Request::Analyse {
                 purpose: Purpose::Report,
                 analysis,
+                format,
             },
-        ) => Ok(analysis),
+        ) => Ok(Worded { analysis, format }),
         // `solve` asks for nothing else.
         Ok(_) => Err(WordsFault::Usage),
         Err(fault) => Err(fault),

@@ -13,3 +13,6 @@ pub use law::{
 pub use lines::checks_text;
 pub use list::{check_verdicts, has_open};
 pub use outcome::ChecksFault;
+
+// For what other outputs have in common with the text of verdicts.
+pub use lines::{column_of, kind_text};

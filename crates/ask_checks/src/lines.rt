@@ -13,7 +13,7 @@ use out_report::{push_footer, push_number};
 use std::alloc::{AllocError, Global};
 
 /// The column of the byte at a place, counted from 1 in bytes since its line begins; `at` counts the bytes before it.
-fn column_of(text: &[u8], at: u32) -> u32
+pub fn column_of(text: &[u8], at: u32) -> u32
     requires { length text.now ≤ MOST_TEXT_BYTES }
     ensures { result ≡ column_at text.now at }
 {
@@ -26,7 +26,7 @@ fn column_of(text: &[u8], at: u32) -> u32
 }
 
 /// What a check is for.
-fn kind_text(kind: CheckKind) -> &'static [u8]
+pub fn kind_text(kind: CheckKind) -> &'static [u8]
     ensures { result.now ≡ kind_text kind }
 {
     match kind {

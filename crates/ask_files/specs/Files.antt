@@ -30,15 +30,15 @@ rows_before Octagons rest = rest
 
 -- the files of a request, in the order in which they are loaded
 abbrev pub files_of : Request → List NamedFile
-files_of (Analyse purpose analysis) = (which.Program, analysis.program) ∷ rows_before analysis.domain []
-files_of (Check program certificate) = (which.Program, program) ∷ (which.Certificate, certificate) ∷ []
+files_of (Analyse purpose analysis format) = (which.Program, analysis.program) ∷ rows_before analysis.domain []
+files_of (Check program certificate format) = (which.Program, program) ∷ (which.Certificate, certificate) ∷ []
 files_of (Bench seed loops) = []
 files_of (Upgrade certificate) = (which.Certificate, certificate) ∷ []
-files_of (Prove claims analysis) = (which.Program, analysis.program) ∷ rows_before analysis.domain ((which.Claims, claims) ∷ [])
-files_of (Transitions analysis) = (which.System, analysis.program) ∷ rows_before analysis.domain []
-files_of (Equations file improvements policy) = (which.Equations, file) ∷ []
+files_of (Prove claims analysis format) = (which.Program, analysis.program) ∷ rows_before analysis.domain ((which.Claims, claims) ∷ [])
+files_of (Transitions analysis format) = (which.System, analysis.program) ∷ rows_before analysis.domain []
+files_of (Equations file improvements policy format) = (which.Equations, file) ∷ []
 files_of (Points program) = (which.Program, program) ∷ []
-files_of (Verify analysis) = (which.Program, analysis.program) ∷ rows_before analysis.domain []
+files_of (Verify name analysis format) = (which.Program, analysis.program) ∷ rows_before analysis.domain []
 files_of (Help topic) = []
 
 -- how many bytes a file may have: 65,536, and a certificate 16,777,216
@@ -91,15 +91,16 @@ analysis_with analysis contents = record {
   policy = analysis.policy;
 }
 
--- a request with these texts in place of its files' names, in the order of their loads
+-- a request with these texts in place of its files' names, in the order of their loads; the name of a file that is written stays
 abbrev pub with_texts : Request → List (List ℕ) → Request
-with_texts (Analyse purpose analysis) contents = Analyse purpose (analysis_with analysis contents)
-with_texts (Check program certificate) contents = Check (text_at contents 0) (text_at contents 1)
+with_texts (Analyse purpose analysis format) contents = Analyse purpose (analysis_with analysis contents) format
+with_texts (Check program certificate format) contents = Check (text_at contents 0) (text_at contents 1) format
 with_texts (Bench seed loops) contents = Bench seed loops
 with_texts (Upgrade certificate) contents = Upgrade (text_at contents 0)
-with_texts (Prove claims analysis) contents = Prove (text_at contents (1 + rows_files analysis.domain)) (analysis_with analysis contents)
-with_texts (Transitions analysis) contents = Transitions (analysis_with analysis contents)
-with_texts (Equations file improvements policy) contents = Equations (text_at contents 0) improvements policy
+with_texts (Prove claims analysis format) contents =
+    Prove (text_at contents (1 + rows_files analysis.domain)) (analysis_with analysis contents) format
+with_texts (Transitions analysis format) contents = Transitions (analysis_with analysis contents) format
+with_texts (Equations file improvements policy format) contents = Equations (text_at contents 0) improvements policy format
 with_texts (Points program) contents = Points (text_at contents 0)
-with_texts (Verify analysis) contents = Verify (analysis_with analysis contents)
+with_texts (Verify name analysis format) contents = Verify name (analysis_with analysis contents) format
 with_texts (Help topic) contents = Help topic

@@ -88,6 +88,7 @@ pub fn request_files<'a>(
         Request::Check {
             program,
             certificate,
+            ..
         } => Ok(vec![in alloc;
             named(Which::Program, program),
             named(Which::Certificate, certificate),
@@ -96,11 +97,15 @@ pub fn request_files<'a>(
         Request::Upgrade { certificate } => Ok(vec![in alloc;
             named(Which::Certificate, certificate),
         ]?),
-        Request::Prove { claims, analysis } => proof_files(alloc, claims, analysis),
-        Request::Transitions { analysis } => analysis_files(alloc, Which::System, analysis),
+        Request::Prove {
+            claims,
+            analysis,
+            ..
+        } => proof_files(alloc, claims, analysis),
+        Request::Transitions { analysis, .. } => analysis_files(alloc, Which::System, analysis),
         Request::Equations { file, .. } => Ok(vec![in alloc; named(Which::Equations, file)]?),
         Request::Points { program } => Ok(vec![in alloc; named(Which::Program, program)]?),
-        Request::Verify { analysis } => analysis_files(alloc, Which::Program, analysis),
+        Request::Verify { analysis, .. } => analysis_files(alloc, Which::Program, analysis),
     }
 }
 
@@ -197,44 +202,64 @@ pub fn analysis_with<'a>(analysis: Analysis<&str>, contents: &[&'a [u8]]) -> Ana
     }
 }
 
-/// A request with these texts in place of its files' names, in the order of their loads.
-pub fn with_texts<'a>(request: Request<&str>, contents: &[&'a [u8]]) -> Request<&'a [u8]>
+/// A request with these texts in place of its files' names, in the order of their loads. The name of a file that is written stays.
+pub fn with_texts<'a>(request: Request<&'a str>, contents: &[&'a [u8]]) -> Request<&'a [u8]>
     ensures { request_text result ≡ with_texts (request_text request.entry) (texts_of contents.now) }
 {
     match request {
-        Request::Analyse { purpose, analysis } => Request::Analyse {
+        Request::Analyse {
+            purpose,
+            analysis,
+            format,
+        } => Request::Analyse {
             purpose,
             analysis: analysis_with(analysis, contents),
+            format,
         },
-        Request::Check { .. } => Request::Check {
+        Request::Check { format, .. } => Request::Check {
             program: text_at(contents, 0),
             certificate: text_at(contents, 1),
+            format,
         },
         Request::Bench { seed, loops } => Request::Bench { seed, loops },
         Request::Upgrade { .. } => Request::Upgrade {
             certificate: text_at(contents, 0),
         },
-        Request::Prove { analysis, .. } => Request::Prove {
+        Request::Prove {
+            analysis,
+            format,
+            ..
+        } => Request::Prove {
             claims: text_at(contents, 1 + rows_files(analysis.domain)),
             analysis: analysis_with(analysis, contents),
+            format,
         },
-        Request::Transitions { analysis } => Request::Transitions {
+        Request::Transitions { analysis, format } => Request::Transitions {
             analysis: analysis_with(analysis, contents),
+            format,
         },
         Request::Equations {
             improvements,
             policy,
+            format,
             ..
         } => Request::Equations {
             file: text_at(contents, 0),
             improvements,
             policy,
+            format,
         },
         Request::Points { .. } => Request::Points {
             program: text_at(contents, 0),
         },
-        Request::Verify { analysis } => Request::Verify {
+        Request::Verify {
+            name,
+            analysis,
+            format,
+        } => Request::Verify {
+            name: name.as_bytes(),
             analysis: analysis_with(analysis, contents),
+            format,
         },
         Request::Help { topic } => Request::Help { topic },
     }

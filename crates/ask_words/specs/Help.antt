@@ -34,6 +34,10 @@ equation_options = codes "[--improvements N] [--policy P]"
 abbrev pub progress_option : Text
 progress_option = codes "[--progress]"
 
+-- the option of commands whose output has a format
+abbrev pub format_option : Text
+format_option = codes "[--format F]"
+
 -- a command that has the options of `solve`
 abbrev pub as_solve : Topic → Text
 as_solve topic = head_of topic ++ codes " (the options of solve)"
@@ -44,7 +48,8 @@ usage_text = codes "usage: tmpl " ++ head_of page.Solve ++ codes " " ++ analysis
     ++ codes " | " ++ head_of page.Check ++ codes " | " ++ head_of page.Bench ++ codes " | " ++ head_of page.Upgrade
     ++ codes " | " ++ as_solve page.Prove ++ codes " | " ++ as_solve page.Transitions
     ++ codes " | " ++ head_of page.Equations ++ codes " " ++ equation_options ++ codes " | " ++ head_of page.Points
-    ++ codes " | " ++ as_solve page.Verify ++ codes " | solve, certify, prove, verify, transitions, equations: " ++ progress_option
+    ++ codes " | " ++ as_solve page.Verify ++ codes " | solve, check, transitions, equations, prove, verify: " ++ format_option
+    ++ codes " | solve, certify, prove, verify, transitions, equations: " ++ progress_option
     ++ codes " | " ++ head_of page.Overview ++ codes "\n"
 
 -- ---- the pages
@@ -90,16 +95,16 @@ on_a_line options = codes "\n         " ++ options
 -- the options of a command, where it has some
 abbrev pub options_of : Topic → Text
 options_of page.Overview = []
-options_of page.Solve = on_a_line analysis_options ++ on_a_line progress_option
+options_of page.Solve = on_a_line analysis_options ++ on_a_line format_option ++ codes " " ++ progress_option
 options_of page.Certify = on_a_line analysis_options ++ on_a_line progress_option
-options_of page.Check = []
+options_of page.Check = on_a_line format_option
 options_of page.Bench = []
 options_of page.Upgrade = []
-options_of page.Prove = on_a_line analysis_options ++ on_a_line progress_option
-options_of page.Transitions = on_a_line analysis_options ++ on_a_line progress_option
-options_of page.Equations = on_a_line equation_options ++ codes " " ++ progress_option
+options_of page.Prove = on_a_line analysis_options ++ on_a_line format_option ++ codes " " ++ progress_option
+options_of page.Transitions = on_a_line analysis_options ++ on_a_line format_option ++ codes " " ++ progress_option
+options_of page.Equations = on_a_line equation_options ++ codes " " ++ format_option ++ codes " " ++ progress_option
 options_of page.Points = []
-options_of page.Verify = on_a_line analysis_options ++ on_a_line progress_option
+options_of page.Verify = on_a_line analysis_options ++ on_a_line format_option ++ codes " " ++ progress_option
 
 -- the options of improvements
 abbrev pub about_improvements : Text
@@ -113,28 +118,34 @@ about_analysis = codes "  --domain D        the rows: intervals if absent, zones
     ++ codes "  --rows FILE       with the domain rows, the file that has them\n"
     ++ about_improvements
 
+-- the format of an output that has no SARIF
+abbrev pub about_format : Text
+about_format = codes "  --format F        how it is written: text if absent, or json\n"
+
 -- what the words of a command stand for
 abbrev pub about : Topic → Text
 about page.Overview = codes "  COMMAND  says what this command takes, with an example and its exit codes\n"
 about page.Solve = codes "  PROGRAM           a file in a small subset of C\n"
-    ++ about_analysis
+    ++ about_analysis ++ about_format
 about page.Certify = codes "  PROGRAM           a file in a small subset of C\n"
     ++ about_analysis
-about page.Check = codes "  PROGRAM  a file in a small subset of C\n"
-    ++ codes "  CERT     a certificate, as certify writes it\n"
+about page.Check = codes "  PROGRAM     a file in a small subset of C\n"
+    ++ codes "  CERT        a certificate, as certify writes it\n"
+    ++ codes "  --format F  how it is written: text if absent, or json\n"
 about page.Bench = codes "  --seed N   from which the program is drawn, 0 to 2147483647\n"
     ++ codes "  --loops K  how many loops it has, 1 to 46\n"
 about page.Upgrade = codes "  CERT  a certificate, in any format\n"
 about page.Prove = codes "  PROGRAM           a file in a small subset of C\n"
     ++ codes "  CLAIMS            a file of claims, as LABEL: x <= 10;\n"
-    ++ about_analysis
+    ++ about_analysis ++ about_format
 about page.Transitions = codes "  FILE              points and edges, instead of a program\n"
-    ++ about_analysis
+    ++ about_analysis ++ about_format
 about page.Equations = codes "  FILE              equations, as x = max(0, 1:2*y + 1);\n"
-    ++ about_improvements
+    ++ about_improvements ++ about_format
 about page.Points = codes "  PROGRAM  a file in a small subset of C\n"
 about page.Verify = codes "  PROGRAM           a file in a small subset of C\n"
     ++ about_analysis
+    ++ codes "  --format F        how it is written: text if absent, json or sarif\n"
 
 -- an option in examples
 abbrev pub over_octagons : Text

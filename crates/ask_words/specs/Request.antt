@@ -9,7 +9,9 @@ use Rattle.clap.specs.Words.{App, Kinds, Row, Rule, Text, fault_of, first_of, ne
 use Rattle.clap.specs.Simple.{on_top}
 use Rattle.clap.specs.declared.builder.action.ArgAction.TheVariants.{SetTrue}
 use Rattle.ask_words.specs.Help.{topic_in}
-use Rattle.ask_words.specs.Values.{domain_in, meaning_in, number_in, policies}
+use Rattle.ask_words.specs.Values.{check_formats, domain_in, formats, meaning_in, number_in, policies}
+use Rattle.ask_words.specs.declared.format.Format.{Format}
+use Rattle.ask_words.specs.declared.format.Format.TheVariants as format
 use Rattle.ask_words.specs.declared.help.Topic.TheVariants as page
 use Rattle.ask_words.specs.declared.request.Analysis.{Analysis}
 use Rattle.ask_words.specs.declared.request.Domain.{Domain}
@@ -40,7 +42,11 @@ option_rule id = record (new_rule id) { long = Some id }
 abbrev pub flag_rule : Text → Rule
 flag_rule id = record (new_rule id) { long = Some id; action = Some SetTrue }
 
--- `solve PROGRAM`, `certify PROGRAM`, `transitions PROGRAM` and `verify PROGRAM`, with five options
+-- a command whose output has a format
+abbrev pub in_formats : App → App
+in_formats app = with_rule app (option_rule (codes "format"))
+
+-- `certify PROGRAM`, with five options; `solve PROGRAM`, `transitions PROGRAM` and `verify PROGRAM` have one more
 abbrev pub analysis_app : Text → App
 analysis_app name =
     with_rule (with_rule (with_rule (with_rule (with_rule (with_rule (new_app name)
@@ -49,8 +55,8 @@ analysis_app name =
 
 -- `check PROGRAM CERT`
 abbrev pub check_app : App
-check_app = with_rule (with_rule (new_app (codes "check")) (word_rule (codes "program")))
-    (word_rule (codes "certificate"))
+check_app = in_formats (with_rule (with_rule (new_app (codes "check")) (word_rule (codes "program")))
+    (word_rule (codes "certificate")))
 
 -- `bench --seed N --loops K`
 abbrev pub bench_app : App
@@ -63,12 +69,12 @@ upgrade_app = with_rule (new_app (codes "upgrade")) (word_rule (codes "certifica
 
 -- `prove PROGRAM CLAIMS`, with the options of `solve`
 abbrev pub prove_app : App
-prove_app = with_rule (analysis_app (codes "prove")) (word_rule (codes "claims"))
+prove_app = in_formats (with_rule (analysis_app (codes "prove")) (word_rule (codes "claims")))
 
--- `equations FILE`, with three options
+-- `equations FILE`, with four options
 abbrev pub equations_app : App
-equations_app = with_rule (with_rule (with_rule (with_rule (new_app (codes "equations")) (word_rule (codes "file")))
-    (option_rule (codes "improvements"))) (option_rule (codes "policy"))) (flag_rule (codes "progress"))
+equations_app = in_formats (with_rule (with_rule (with_rule (with_rule (new_app (codes "equations")) (word_rule (codes "file")))
+    (option_rule (codes "improvements"))) (option_rule (codes "policy"))) (flag_rule (codes "progress")))
 
 -- `points PROGRAM`
 abbrev pub points_app : App
@@ -86,9 +92,11 @@ top_app = on_top (λ s. record s { no_binary_name = true; subcommand_required = 
 -- the whole command line
 abbrev pub tmpl_app : App
 tmpl_app = with_subcommand (with_subcommand (with_subcommand (with_subcommand (with_subcommand (with_subcommand (with_subcommand
-    (with_subcommand (with_subcommand (with_subcommand (with_subcommand top_app (analysis_app (codes "solve")).top)
+    (with_subcommand (with_subcommand (with_subcommand (with_subcommand top_app (in_formats (analysis_app (codes "solve"))).top)
     (analysis_app (codes "certify")).top) check_app.top) bench_app.top) upgrade_app.top) prove_app.top)
-    (analysis_app (codes "transitions")).top) equations_app.top) points_app.top) (analysis_app (codes "verify")).top) help_app.top
+    (in_formats (analysis_app (codes "transitions"))).top) equations_app.top) points_app.top)
+    (in_formats (analysis_app (codes "verify"))).top)
+    help_app.top
 
 -- ---- the texts of a request that borrows them
 
@@ -110,15 +118,15 @@ analysis_text a = record {
 
 -- the request with its names as texts
 abbrev pub request_text : Request (Bor Text) → Request Text
-request_text (Analyse purpose a) = Analyse purpose (analysis_text a)
-request_text (Check program certificate) = Check program.now certificate.now
+request_text (Analyse purpose a format) = Analyse purpose (analysis_text a) format
+request_text (Check program certificate format) = Check program.now certificate.now format
 request_text (Bench seed loops) = Bench seed loops
 request_text (Upgrade certificate) = Upgrade certificate.now
-request_text (Prove claims a) = Prove claims.now (analysis_text a)
-request_text (Transitions a) = Transitions (analysis_text a)
-request_text (Equations file improvements policy) = Equations file.now improvements policy
+request_text (Prove claims a format) = Prove claims.now (analysis_text a) format
+request_text (Transitions a format) = Transitions (analysis_text a) format
+request_text (Equations file improvements policy format) = Equations file.now improvements policy format
 request_text (Points program) = Points program.now
-request_text (Verify a) = Verify (analysis_text a)
+request_text (Verify name a format) = Verify name.now (analysis_text a) format
 request_text (Help topic) = Help topic
 
 -- ---- commands, by the words and options that were given
@@ -130,6 +138,10 @@ improvements_in given = number_in 0 MOST_IMPROVEMENTS (unwrap_or (first_of (code
 -- by which rule an edge is picked
 abbrev pub policy_in : List Row → Option Policy
 policy_in given = meaning_in policies (unwrap_or (first_of (codes "policy") given) (codes "best"))
+
+-- in which of these formats the output is written
+abbrev pub format_in : List (Text × Format) → List Row → Option Format
+format_in table given = meaning_in table (unwrap_or (first_of (codes "format") given) (codes "text"))
 
 -- what is analysed, and how
 abbrev pub analysis_in : List Row → Option (Analysis Text)
@@ -147,14 +159,18 @@ analysis_in given =
     (domain_in (unwrap_or (first_of (codes "domain") given) (codes "intervals")) (first_of (codes "rows") given)))
     (first_of (codes "program") given)
 
--- `solve` and `certify`: an analysis for this purpose
-abbrev pub analyse_in : Purpose → List Row → Option (Request Text)
-analyse_in purpose given = option_map (λ a. Analyse purpose a) (analysis_in given)
+-- `solve`: the report of an analysis, in a format
+abbrev pub solve_in : List Row → Option (Request Text)
+solve_in given = option_and_then (λ a. option_map (λ format. Analyse Report a format) (format_in formats given)) (analysis_in given)
+
+-- `certify`: the certificate of an analysis
+abbrev pub certify_in : List Row → Option (Request Text)
+certify_in given = option_map (λ a. Analyse Certificate a format.Text) (analysis_in given)
 
 -- `check`: a program and a certificate
 abbrev pub check_in : List Row → Option (Request Text)
-check_in given = option_and_then (λ program. option_map (λ certificate. Check program certificate)
-    (first_of (codes "certificate") given)) (first_of (codes "program") given)
+check_in given = option_and_then (λ program. option_and_then (λ certificate. option_map (λ format. Check program certificate format)
+    (format_in formats given)) (first_of (codes "certificate") given)) (first_of (codes "program") given)
 
 -- `bench`: a seed up to 2^31 - 1, and 1 to 46 loops
 abbrev pub bench_in : List Row → Option (Request Text)
@@ -168,18 +184,21 @@ upgrade_in given = option_map (λ certificate. Upgrade certificate) (first_of (c
 
 -- `prove`: claims and an analysis
 abbrev pub prove_in : List Row → Option (Request Text)
-prove_in given = option_and_then (λ a. option_map (λ claims. Prove claims a) (first_of (codes "claims") given)) (analysis_in given)
+prove_in given = option_and_then (λ a. option_and_then (λ claims. option_map (λ format. Prove claims a format)
+    (format_in formats given)) (first_of (codes "claims") given)) (analysis_in given)
 
 -- `transitions`: an analysis of a file of transitions
 abbrev pub transitions_in : List Row → Option (Request Text)
-transitions_in given = option_map (λ a. Transitions a) (analysis_in given)
+transitions_in given = option_and_then (λ a. option_map (λ format. Transitions a format) (format_in formats given)) (analysis_in given)
 
 -- `equations`: a file of equations, how many improvements at most, and by which rule
 abbrev pub equations_in : List Row → Option (Request Text)
 equations_in given =
     option_and_then (λ file.
     option_and_then (λ improvements.
-    option_map (λ policy. Equations file improvements policy) (policy_in given))
+    option_and_then (λ policy.
+    option_map (λ format. Equations file improvements policy format) (format_in formats given))
+    (policy_in given))
     (improvements_in given))
     (first_of (codes "file") given)
 
@@ -187,9 +206,10 @@ equations_in given =
 abbrev pub points_in : List Row → Option (Request Text)
 points_in given = option_map (λ program. Points program) (first_of (codes "program") given)
 
--- `verify`: an analysis whose program has checks
+-- `verify`: an analysis whose program has checks; the name of its file stays with it
 abbrev pub verify_in : List Row → Option (Request Text)
-verify_in given = option_map (λ a. Verify a) (analysis_in given)
+verify_in given =
+    option_and_then (λ a. option_map (λ format. Verify a.program a format) (format_in check_formats given)) (analysis_in given)
 
 -- `help`: a page
 abbrev pub help_in : List Row → Option (Request Text)
@@ -197,8 +217,8 @@ help_in given = option_map (λ topic. Help topic) (topic_in (first_of (codes "co
 
 -- the request of a command by its name
 abbrev pub command_in : Text × List Row → Option (Request Text)
-command_in (name, given) = if bytes_eq name (codes "solve") then analyse_in Report given
-    else (if bytes_eq name (codes "certify") then analyse_in Certificate given
+command_in (name, given) = if bytes_eq name (codes "solve") then solve_in given
+    else (if bytes_eq name (codes "certify") then certify_in given
     else (if bytes_eq name (codes "check") then check_in given
     else (if bytes_eq name (codes "bench") then bench_in given
     else (if bytes_eq name (codes "upgrade") then upgrade_in given
@@ -248,20 +268,26 @@ plain_analysis program domain = record { program = program; domain = domain; imp
 abbrev pub examples : List (List Text × Request Text)
 examples =
     -- the file of the program comes first
-    (codes "check" ∷ codes "p" ∷ codes "c" ∷ [], Check (codes "p") (codes "c"))
+    (codes "check" ∷ codes "p" ∷ codes "c" ∷ [], Check (codes "p") (codes "c") format.Text)
     ∷ (codes "bench" ∷ codes "--loops" ∷ codes "3" ∷ codes "--seed" ∷ codes "7" ∷ [], Bench 7 3)
     -- the file of a certificate alone is upgraded
     ∷ (codes "upgrade" ∷ codes "c" ∷ [], Upgrade (codes "c"))
     -- the program comes before its claims, wherever the options stand
-    ∷ (codes "prove" ∷ codes "p" ∷ codes "--domain=zones" ∷ codes "c" ∷ [], Prove (codes "c") (plain_analysis (codes "p") Zones))
+    ∷ (
+      codes "prove" ∷ codes "p" ∷ codes "--domain=zones" ∷ codes "c" ∷ [],
+      Prove (codes "c") (plain_analysis (codes "p") Zones) format.Text,
+    )
     -- a transition system is analysed as a program is
-    ∷ (codes "transitions" ∷ codes "s" ∷ codes "--domain" ∷ codes "zones" ∷ [], Transitions (plain_analysis (codes "s") Zones))
+    ∷ (codes "transitions" ∷ codes "s" ∷ codes "--domain" ∷ codes "zones" ∷ [], Transitions (plain_analysis (codes "s") Zones) format.Text)
     -- equations are solved by the policy that is named, and by 1,000 improvements where none are
-    ∷ (codes "equations" ∷ codes "e" ∷ codes "--policy=first" ∷ [], Equations (codes "e") 1000 First)
+    ∷ (codes "equations" ∷ codes "e" ∷ codes "--policy=first" ∷ codes "--format=json" ∷ [], Equations (codes "e") 1000 First format.Json)
     -- the program alone has its points written
     ∷ (codes "points" ∷ codes "p" ∷ [], Points (codes "p"))
     -- the checks of a program are judged by the bounds of its analysis
-    ∷ (codes "verify" ∷ codes "p" ∷ codes "--domain=octagons" ∷ [], Verify (plain_analysis (codes "p") Octagons))
+    ∷ (
+      codes "verify" ∷ codes "p" ∷ codes "--domain=octagons" ∷ codes "--format" ∷ codes "sarif" ∷ [],
+      Verify (codes "p") (plain_analysis (codes "p") Octagons) format.Sarif,
+    )
     -- help is given on itself, and on a command
     ∷ (codes "help" ∷ [], Help page.Overview)
     ∷ (codes "help" ∷ codes "prove" ∷ [], Help page.Prove)

@@ -5,6 +5,8 @@ use Rattle.std.specs.List.{list_all}
 use Rattle.std.specs.Str.{bytes_eq}
 use Rattle.std.specs.Str.Parse.{digits_value}
 use Rattle.clap.specs.Words.{Text}
+use Rattle.ask_words.specs.declared.format.Format.{Format}
+use Rattle.ask_words.specs.declared.format.Format.TheVariants as format
 use Rattle.ask_words.specs.declared.request.Policy.{Policy}
 use Rattle.ask_words.specs.declared.request.Policy.TheVariants.{Best, First}
 use Rattle.ask_words.specs.declared.request.Domain.{Domain}
@@ -24,6 +26,14 @@ meaning_in table word = option_map (λ row. row.1) (find (λ row. bytes_eq word 
 -- the rules by which an edge is picked
 abbrev pub policies : List (Text × Policy)
 policies = (codes "best", Best) ∷ (codes "first", First) ∷ []
+
+-- the formats of an output
+abbrev pub formats : List (Text × Format)
+formats = (codes "text", format.Text) ∷ (codes "json", format.Json) ∷ []
+
+-- the formats of verdicts on checks
+abbrev pub check_formats : List (Text × Format)
+check_formats = (codes "text", format.Text) ∷ (codes "json", format.Json) ∷ (codes "sarif", format.Sarif) ∷ []
 
 -- the domains that need no file
 abbrev pub built_in_domains : List (Text × Domain Text)

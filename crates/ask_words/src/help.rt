@@ -52,7 +52,7 @@ never exceeds there.
 
 usage: tmpl solve PROGRAM
          [--domain D] [--rows FILE] [--improvements N] [--policy P]
-         [--progress]
+         [--format F] [--progress]
 
   PROGRAM           a file in a small subset of C
   --domain D        the rows: intervals if absent, zones, octagons or rows
@@ -60,6 +60,7 @@ usage: tmpl solve PROGRAM
   --improvements N  up to N rounds of improvements, 1000 if absent
   --policy P        which edge a round picks: best if absent, or first
   --progress        tells rounds, turns and pivots on standard error
+  --format F        how it is written: text if absent, or json
 
 example: tmpl solve examples/sum.c --domain octagons
 
@@ -94,9 +95,11 @@ const CHECK: &[u8] = b"Checks a certificate, whoever made it, and prints the bou
 valid: they are the least bounds of the program over the certificate's rows.
 
 usage: tmpl check PROGRAM CERT
+         [--format F]
 
-  PROGRAM  a file in a small subset of C
-  CERT     a certificate, as certify writes it
+  PROGRAM     a file in a small subset of C
+  CERT        a certificate, as certify writes it
+  --format F  how it is written: text if absent, or json
 
 example: tmpl check examples/sum.c sum.cert
 
@@ -136,7 +139,7 @@ program prove it, with a state that they allow where it is open.
 
 usage: tmpl prove PROGRAM CLAIMS
          [--domain D] [--rows FILE] [--improvements N] [--policy P]
-         [--progress]
+         [--format F] [--progress]
 
   PROGRAM           a file in a small subset of C
   CLAIMS            a file of claims, as LABEL: x <= 10;
@@ -145,6 +148,7 @@ usage: tmpl prove PROGRAM CLAIMS
   --improvements N  up to N rounds of improvements, 1000 if absent
   --policy P        which edge a round picks: best if absent, or first
   --progress        tells rounds, turns and pivots on standard error
+  --format F        how it is written: text if absent, or json
 
 example: tmpl prove examples/pair.c examples/pair.claims
 
@@ -159,7 +163,7 @@ between them, as another tool may write them down.
 
 usage: tmpl transitions FILE
          [--domain D] [--rows FILE] [--improvements N] [--policy P]
-         [--progress]
+         [--format F] [--progress]
 
   FILE              points and edges, instead of a program
   --domain D        the rows: intervals if absent, zones, octagons or rows
@@ -167,6 +171,7 @@ usage: tmpl transitions FILE
   --improvements N  up to N rounds of improvements, 1000 if absent
   --policy P        which edge a round picks: best if absent, or first
   --progress        tells rounds, turns and pivots on standard error
+  --format F        how it is written: text if absent, or json
 
 example: tmpl transitions examples/buffer.tsys
 
@@ -178,12 +183,13 @@ exit codes: 0 written, 2 wrong words, 3 file not read, 4 text refused or too
 const EQUATIONS: &[u8] = b"Prints the least solution of rational equations with maxima and minima.
 
 usage: tmpl equations FILE
-         [--improvements N] [--policy P] [--progress]
+         [--improvements N] [--policy P] [--format F] [--progress]
 
   FILE              equations, as x = max(0, 1:2*y + 1);
   --improvements N  up to N rounds of improvements, 1000 if absent
   --policy P        which edge a round picks: best if absent, or first
   --progress        tells rounds, turns and pivots on standard error
+  --format F        how it is written: text if absent, or json
 
 example: tmpl equations examples/fair.equ
 
@@ -210,7 +216,7 @@ state that they allow where it is open.
 
 usage: tmpl verify PROGRAM
          [--domain D] [--rows FILE] [--improvements N] [--policy P]
-         [--progress]
+         [--format F] [--progress]
 
   PROGRAM           a file in a small subset of C
   --domain D        the rows: intervals if absent, zones, octagons or rows
@@ -218,6 +224,7 @@ usage: tmpl verify PROGRAM
   --improvements N  up to N rounds of improvements, 1000 if absent
   --policy P        which edge a round picks: best if absent, or first
   --progress        tells rounds, turns and pivots on standard error
+  --format F        how it is written: text if absent, json or sarif
 
 example: tmpl verify examples/assertions.c --domain octagons
 
@@ -294,5 +301,6 @@ pub fn usage_line() -> &'static [u8]
       | check PROGRAM CERT | bench --seed N --loops K | upgrade CERT \
       | prove PROGRAM CLAIMS (the options of solve) | transitions FILE (the options of solve) \
       | equations FILE [--improvements N] [--policy P] | points PROGRAM | verify PROGRAM (the options of solve) \
+      | solve, check, transitions, equations, prove, verify: [--format F] \
       | solve, certify, prove, verify, transitions, equations: [--progress] | help [COMMAND]\n"
 }

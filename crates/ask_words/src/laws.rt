@@ -6,6 +6,7 @@ ghost use Rattle.clap.specs.Words.{Text};
 ghost use Rattle.ask_words.specs.Help.{head_of, help_text, is_screen, options_of, stands_in, topics};
 ghost use Rattle.ask_words.specs.Laws.{SolveReports};
 ghost use Rattle.ask_words.specs.Request.{examples, plain_analysis, request_of, tmpl_app, wants_progress};
+ghost use Rattle.ask_words.specs.declared.format.Format.TheVariants as Format;
 ghost use Rattle.ask_words.specs.declared.help.Topic.{Topic};
 ghost use Rattle.ask_words.specs.declared.help.Topic.TheVariants as page;
 ghost use Rattle.ask_words.specs.declared.request.Domain.TheVariants.{Intervals, Zones};
@@ -18,17 +19,23 @@ pub fn request_laws()
     // A word that doesn't begin with a hyphen names the program, whatever it is.
     ensures any_name { (first : ℕ) (rest : List ℕ) → first ≢ 45
         → request_of (codes "solve" ∷ (first ∷ rest) ∷ [])
-        ≡ Some (Analyse Report (plain_analysis (first ∷ rest) Intervals)) }
+        ≡ Some (Analyse Report (plain_analysis (first ∷ rest) Intervals) Format.Text) }
 
     // An option and its value are one word or two, before the program or after it.
     ensures one_word { request_of (codes "solve" ∷ codes "--domain=zones" ∷ codes "p" ∷ [])
-        ≡ Some (Analyse Report (plain_analysis (codes "p") Zones)) }
+        ≡ Some (Analyse Report (plain_analysis (codes "p") Zones) Format.Text) }
     ensures two_words { request_of (codes "solve" ∷ codes "p" ∷ codes "--domain" ∷ codes "zones" ∷ [])
-        ≡ Some (Analyse Report (plain_analysis (codes "p") Zones)) }
+        ≡ Some (Analyse Report (plain_analysis (codes "p") Zones) Format.Text) }
+
+    // The format of an output is one that it has.
+    ensures json { request_of (codes "solve" ∷ codes "p" ∷ codes "--format=json" ∷ [])
+        ≡ Some (Analyse Report (plain_analysis (codes "p") Intervals) Format.Json) }
+    ensures sarif { request_of (codes "solve" ∷ codes "p" ∷ codes "--format=sarif" ∷ []) ≡ None }
+    ensures certificate { request_of (codes "certify" ∷ codes "p" ∷ codes "--format=json" ∷ []) ≡ None }
 
     // Two hyphens end the options.
     ensures dashes { request_of (codes "solve" ∷ codes "--" ∷ codes "--domain" ∷ [])
-        ≡ Some (Analyse Report (plain_analysis (codes "--domain") Intervals)) }
+        ≡ Some (Analyse Report (plain_analysis (codes "--domain") Intervals) Format.Text) }
 
     // Each other command is asked for by words of its own.
     ensures commands { map (λ (line : List Text × Request Text). request_of line.0) examples ≡ map (λ line. Some line.1) examples }

@@ -4,14 +4,16 @@ ghost use Rattle.std.specs.Prelude.{◌≡◌, IfOk, false, option_and_then, opt
 ghost use Rattle.clap.specs.Words.{app_of, first_of, found_of, rows_of, rule_of, subcommand_rows_of};
 ghost use Rattle.clap.specs.declared.Command.TheViews.{out-Command};
 ghost use Rattle.ask_words.specs.Help.{topic_in};
-ghost use Rattle.ask_words.specs.Request.{analyse_in, analysis_app, analysis_in, analysis_text, bench_app, bench_in, check_app, check_in};
-ghost use Rattle.ask_words.specs.Request.{command_in, equations_app, equations_in, flag_rule, has_progress, help_app, help_in};
-ghost use Rattle.ask_words.specs.Request.{improvements_in, option_rule, optional_rule, points_app, points_in, policy_in, progress_in};
-ghost use Rattle.ask_words.specs.Request.{prove_app, prove_in, request_text, tmpl_app, top_app, transitions_in, upgrade_app, upgrade_in};
-ghost use Rattle.ask_words.specs.Request.{verify_in, word_rule};
+ghost use Rattle.ask_words.specs.Request.{analysis_app, analysis_in, analysis_text, bench_app, bench_in, certify_in, check_app, check_in};
+ghost use Rattle.ask_words.specs.Request.{command_in, equations_app, equations_in, flag_rule, format_in, has_progress, help_app, help_in};
+ghost use Rattle.ask_words.specs.Request.{improvements_in, in_formats, option_rule, optional_rule, points_app, points_in, policy_in};
+ghost use Rattle.ask_words.specs.Request.{progress_in, prove_app, prove_in, request_text, solve_in, tmpl_app, top_app, transitions_in};
+ghost use Rattle.ask_words.specs.Request.{upgrade_app, upgrade_in, verify_in, word_rule};
+ghost use Rattle.ask_words.specs.Values.{check_formats, formats};
 
+use crate::format::Format;
 use crate::help::{Topic, topic_of};
-use crate::values::{domain, number, policy};
+use crate::values::{check_format, domain, number, plain_format, policy};
 use base_limits::MOST_IMPROVEMENTS;
 use clap::{Arg, ArgAction, ArgMatches, Command};
 use std::alloc::{AllocError, Global};
@@ -61,11 +63,13 @@ pub enum Request<T> {
     Analyse {
         purpose: Purpose,
         analysis: Analysis<T>,
+        format: Format,
     },
     /// Check a certificate of a program.
     Check {
         program: T,
         certificate: T,
+        format: Format,
     },
     /// Solve a generated program. The seed is below 2^31, and there are 1 to 46 loops.
     Bench {
@@ -80,24 +84,30 @@ pub enum Request<T> {
     Prove {
         claims: T,
         analysis: Analysis<T>,
+        format: Format,
     },
     /// Analyse a transition system, and write its report.
     Transitions {
         analysis: Analysis<T>,
+        format: Format,
     },
     /// Solve the equations of a file, by at most so many improvements: at most 1,000,000, and 1,000 by default.
     Equations {
         file: T,
         improvements: u32,
         policy: Policy,
+        format: Format,
     },
     /// Write the points of a program.
     Points {
         program: T,
     },
-    /// Analyse a program, and say of each of its checks whether the least bounds prove it.
+    /// Analyse a program, and say of each of its checks whether the least bounds prove it. The name of its file is one, whatever
+    /// stands in place of the names of files.
     Verify {
+        name: T,
         analysis: Analysis<T>,
+        format: Format,
     },
     /// Write the page of a command.
     Help {
@@ -109,16 +119,16 @@ pub enum Request<T> {
 pub(crate) fn command_line<'a>(alloc: Global) -> Result<Command<'a>, AllocError>
     ensures { IfOk result (λ command. app_of command ≡ tmpl_app) }
 {
-    let solve = top_command(alloc).subcommand(analysis_command(alloc, "solve")?)?;
+    let solve = top_command(alloc).subcommand(formatted_command(alloc, "solve")?)?;
     let certify = solve.subcommand(analysis_command(alloc, "certify")?)?;
     let check = certify.subcommand(check_command(alloc)?)?;
     let bench = check.subcommand(bench_command(alloc)?)?;
     let upgrade = bench.subcommand(upgrade_command(alloc)?)?;
     let prove = upgrade.subcommand(prove_command(alloc)?)?;
-    let transitions = prove.subcommand(analysis_command(alloc, "transitions")?)?;
+    let transitions = prove.subcommand(formatted_command(alloc, "transitions")?)?;
     let equations = transitions.subcommand(equations_command(alloc)?)?;
     let points = equations.subcommand(points_command(alloc)?)?;
-    let verify = points.subcommand(analysis_command(alloc, "verify")?)?;
+    let verify = points.subcommand(formatted_command(alloc, "verify")?)?;
     Ok(verify.subcommand(help_command(alloc)?)?)
 }
 
@@ -132,7 +142,15 @@ fn top_command<'a>(alloc: Global) -> Command<'a>
         .disable_help_subcommand(true)
 }
 
-// `solve`, `certify`, `transitions` or `verify`.
+// `solve`, `transitions` or `verify`, whose output has a format.
+fn formatted_command<'a>(alloc: Global, name: &'a str) -> Result<Command<'a>, AllocError>
+    ensures app { IfOk result (λ command. app_of command ≡ in_formats (analysis_app name.entry.now)) }
+    ensures local { IfOk result (λ command. (out-Command command).has_globals ≡ false) }
+{
+    Ok(analysis_command(alloc, name)?.arg(option(alloc, "format"))?)
+}
+
+// `certify`, or one of the others without their format.
 fn analysis_command<'a>(alloc: Global, name: &'a str) -> Result<Command<'a>, AllocError>
     ensures app { IfOk result (λ command. app_of command ≡ analysis_app name.entry.now) }
     ensures local { IfOk result (λ command. (out-Command command).has_globals ≡ false) }
@@ -150,7 +168,8 @@ fn check_command<'a>(alloc: Global) -> Result<Command<'a>, AllocError>
     ensures local { IfOk result (λ command. (out-Command command).has_globals ≡ false) }
 {
     let program = Command::new(alloc, "check").arg(word(alloc, "program"))?;
-    Ok(program.arg(word(alloc, "certificate"))?)
+    let certificate = program.arg(word(alloc, "certificate"))?;
+    Ok(certificate.arg(option(alloc, "format"))?)
 }
 
 fn bench_command<'a>(alloc: Global) -> Result<Command<'a>, AllocError>
@@ -172,7 +191,8 @@ fn prove_command<'a>(alloc: Global) -> Result<Command<'a>, AllocError>
     ensures app { IfOk result (λ command. app_of command ≡ prove_app) }
     ensures local { IfOk result (λ command. (out-Command command).has_globals ≡ false) }
 {
-    Ok(analysis_command(alloc, "prove")?.arg(word(alloc, "claims"))?)
+    let claims = analysis_command(alloc, "prove")?.arg(word(alloc, "claims"))?;
+    Ok(claims.arg(option(alloc, "format"))?)
 }
 
 fn equations_command<'a>(alloc: Global) -> Result<Command<'a>, AllocError>
@@ -182,7 +202,8 @@ fn equations_command<'a>(alloc: Global) -> Result<Command<'a>, AllocError>
     let file = Command::new(alloc, "equations").arg(word(alloc, "file"))?;
     let improvements = file.arg(option(alloc, "improvements"))?;
     let policy = improvements.arg(option(alloc, "policy"))?;
-    Ok(policy.arg(flag(alloc, "progress"))?)
+    let progress = policy.arg(flag(alloc, "progress"))?;
+    Ok(progress.arg(option(alloc, "format"))?)
 }
 
 fn points_command<'a>(alloc: Global) -> Result<Command<'a>, AllocError>
@@ -265,9 +286,9 @@ fn command<'a>(name: &str, given: &ArgMatches<'a>) -> Option<Request<&'a str>>
     ensures { option_map request_text result ≡ command_in (name.now, rows_of (found_of given.now)) }
 {
     if name == "solve" {
-        analyse(Purpose::Report, given)
+        solve(given)
     } else if name == "certify" {
-        analyse(Purpose::Certificate, given)
+        certify(given)
     } else if name == "check" {
         check(given)
     } else if name == "bench" {
@@ -291,12 +312,27 @@ fn command<'a>(name: &str, given: &ArgMatches<'a>) -> Option<Request<&'a str>>
     }
 }
 
-// The request of `solve` or of `certify`.
-fn analyse<'a>(purpose: Purpose, given: &ArgMatches<'a>) -> Option<Request<&'a str>>
-    ensures { option_map request_text result ≡ analyse_in purpose (rows_of (found_of given.now)) }
+fn solve<'a>(given: &ArgMatches<'a>) -> Option<Request<&'a str>>
+    ensures { option_map request_text result ≡ solve_in (rows_of (found_of given.now)) }
 {
     let analysis = analysis_in(given)?;
-    Some(Request::Analyse { purpose, analysis })
+    let format = format_in(given)?;
+    Some(Request::Analyse {
+        purpose: Purpose::Report,
+        analysis,
+        format,
+    })
+}
+
+fn certify<'a>(given: &ArgMatches<'a>) -> Option<Request<&'a str>>
+    ensures { option_map request_text result ≡ certify_in (rows_of (found_of given.now)) }
+{
+    let analysis = analysis_in(given)?;
+    Some(Request::Analyse {
+        purpose: Purpose::Certificate,
+        analysis,
+        format: Format::Text,
+    })
 }
 
 // What is analysed, and how.
@@ -320,9 +356,11 @@ fn check<'a>(given: &ArgMatches<'a>) -> Option<Request<&'a str>>
 {
     let program = value(given, "program")?;
     let certificate = value(given, "certificate")?;
+    let format = format_in(given)?;
     Some(Request::Check {
         program,
         certificate,
+        format,
     })
 }
 
@@ -346,14 +384,20 @@ fn prove<'a>(given: &ArgMatches<'a>) -> Option<Request<&'a str>>
 {
     let analysis = analysis_in(given)?;
     let claims = value(given, "claims")?;
-    Some(Request::Prove { claims, analysis })
+    let format = format_in(given)?;
+    Some(Request::Prove {
+        claims,
+        analysis,
+        format,
+    })
 }
 
 fn transitions<'a>(given: &ArgMatches<'a>) -> Option<Request<&'a str>>
     ensures { option_map request_text result ≡ transitions_in (rows_of (found_of given.now)) }
 {
     let analysis = analysis_in(given)?;
-    Some(Request::Transitions { analysis })
+    let format = format_in(given)?;
+    Some(Request::Transitions { analysis, format })
 }
 
 fn equations<'a>(given: &ArgMatches<'a>) -> Option<Request<&'a str>>
@@ -362,10 +406,12 @@ fn equations<'a>(given: &ArgMatches<'a>) -> Option<Request<&'a str>>
     let file = value(given, "file")?;
     let improvements = improvements(given)?;
     let policy = policy_in(given)?;
+    let format = format_in(given)?;
     Some(Request::Equations {
         file,
         improvements,
         policy,
+        format,
     })
 }
 
@@ -380,7 +426,12 @@ fn verify<'a>(given: &ArgMatches<'a>) -> Option<Request<&'a str>>
     ensures { option_map request_text result ≡ verify_in (rows_of (found_of given.now)) }
 {
     let analysis = analysis_in(given)?;
-    Some(Request::Verify { analysis })
+    let format = check_format(value_or(given, "format", "text"))?;
+    Some(Request::Verify {
+        name: analysis.program,
+        analysis,
+        format,
+    })
 }
 
 fn help<'a>(given: &ArgMatches<'_>) -> Option<Request<&'a str>>
@@ -399,6 +450,13 @@ fn improvements(given: &ArgMatches<'_>) -> Option<u32>
         0,
         MOST_IMPROVEMENTS,
     )
+}
+
+// In which format the output is written, where there is no SARIF of it.
+fn format_in(given: &ArgMatches<'_>) -> Option<Format>
+    ensures { result ≡ format_in formats (rows_of (found_of given.now)) }
+{
+    plain_format(value_or(given, "format", "text"))
 }
 
 // By which rule an edge is picked.

@@ -4,8 +4,9 @@ ghost use Rattle.std.specs.Prelude.{◌≡◌, codes, option_map};
 ghost use Rattle.std.specs.List.{list_all};
 ghost use Rattle.std.specs.Char.{is_ascii_digit};
 ghost use Rattle.ask_words.specs.Request.{domain_text};
-ghost use Rattle.ask_words.specs.Values.{built_in_domains, domain_in, meaning_in, number_in, policies};
+ghost use Rattle.ask_words.specs.Values.{built_in_domains, check_formats, domain_in, formats, meaning_in, number_in, policies};
 
+use crate::format::Format;
 use crate::request::{Domain, Policy};
 
 /// The number of one to ten decimal digits, where it lies between `least` and `most`.
@@ -42,6 +43,34 @@ pub(crate) fn policy(name: &str) -> Option<Policy>
         Some(Policy::Best)
     } else if name == "first" {
         Some(Policy::First)
+    } else {
+        None
+    }
+}
+
+/// The format of this name, where there is no SARIF of the output.
+pub(crate) fn plain_format(name: &str) -> Option<Format>
+    ensures { result ≡ meaning_in formats name.now }
+{
+    if name == "text" {
+        Some(Format::Text)
+    } else if name == "json" {
+        Some(Format::Json)
+    } else {
+        None
+    }
+}
+
+/// The format of this name, of verdicts on checks.
+pub(crate) fn check_format(name: &str) -> Option<Format>
+    ensures { result ≡ meaning_in check_formats name.now }
+{
+    if name == "text" {
+        Some(Format::Text)
+    } else if name == "json" {
+        Some(Format::Json)
+    } else if name == "sarif" {
+        Some(Format::Sarif)
     } else {
         None
     }

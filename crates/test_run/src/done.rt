@@ -4,6 +4,7 @@ mod certified;
 mod checks;
 mod claims;
 mod equations;
+mod formats;
 mod generated;
 mod loops;
 mod pages;

@@ -2,7 +2,7 @@
 
 use crate::texts::{Case, first_wrong};
 use ask_words::{
-    Analysis, Domain, Policy, Purpose, Request, Topic, WordsFault, read_words, usage_line,
+    Analysis, Domain, Format, Policy, Purpose, Request, Topic, WordsFault, read_words, usage_line,
 };
 use std::alloc::{AllocError, Global};
 
@@ -35,6 +35,7 @@ impl Case for (&str, Analysis<&str>) {
         let request = Request::Analyse {
             purpose: Purpose::Report,
             analysis: self.1,
+            format: Format::Text,
         };
         asks(alloc, self.0, Some(request))
     }
@@ -116,6 +117,7 @@ const OTHERS: &[(&str, Request<&str>)] = &[
                 improvements: 1_000_000,
                 policy: Policy::First,
             },
+            format: Format::Text,
         },
     ),
     (
@@ -123,6 +125,7 @@ const OTHERS: &[(&str, Request<&str>)] = &[
         Request::Check {
             program: "p",
             certificate: "c",
+            format: Format::Text,
         },
     ),
     (
@@ -144,6 +147,7 @@ const OTHERS: &[(&str, Request<&str>)] = &[
                 improvements: 1000,
                 policy: Policy::Best,
             },
+            format: Format::Text,
         },
     ),
     (
@@ -156,6 +160,7 @@ const OTHERS: &[(&str, Request<&str>)] = &[
                 improvements: 0,
                 policy: Policy::First,
             },
+            format: Format::Text,
         },
     ),
     (
@@ -167,6 +172,7 @@ const OTHERS: &[(&str, Request<&str>)] = &[
                 improvements: 1000,
                 policy: Policy::Best,
             },
+            format: Format::Text,
         },
     ),
     (
@@ -175,6 +181,7 @@ const OTHERS: &[(&str, Request<&str>)] = &[
             file: "e",
             improvements: 1000,
             policy: Policy::Best,
+            format: Format::Text,
         },
     ),
     (
@@ -183,6 +190,31 @@ const OTHERS: &[(&str, Request<&str>)] = &[
             file: "e",
             improvements: 5,
             policy: Policy::First,
+            format: Format::Text,
+        },
+    ),
+    (
+        "solve --format=json p",
+        Request::Analyse {
+            purpose: Purpose::Report,
+            analysis: PLAIN,
+            format: Format::Json,
+        },
+    ),
+    (
+        "check p --format json c",
+        Request::Check {
+            program: "p",
+            certificate: "c",
+            format: Format::Json,
+        },
+    ),
+    (
+        "verify p --format sarif",
+        Request::Verify {
+            name: "p",
+            analysis: PLAIN,
+            format: Format::Sarif,
         },
     ),
     ("points p", Request::Points { program: "p" }),
@@ -190,12 +222,14 @@ const OTHERS: &[(&str, Request<&str>)] = &[
     (
         "verify --domain octagons p --improvements 7",
         Request::Verify {
+            name: "p",
             analysis: Analysis {
                 program: "p",
                 domain: Domain::Octagons,
                 improvements: 7,
                 policy: Policy::Best,
             },
+            format: Format::Text,
         },
     ),
     (
@@ -248,6 +282,13 @@ const REFUSED: &[&str] = &[
     "solve p --improvements +1",
     "solve p --improvements -1",
     "check p",
+    "check p c --format sarif",
+    "certify p --format json",
+    "points p --format json",
+    "solve p --format",
+    "solve p --format Text",
+    "solve p --format text --format text",
+    "solve p --format=",
     "check p c --domain zones",
     "bench --seed 1",
     "bench --seed 2147483648 --loops 1",
@@ -293,5 +334,5 @@ fn other_words_ask_for_nothing(rt: HostRuntime) {
 #[test]
 fn usage(rt: HostRuntime) {
     assert!(rt; usage_line().starts_with(b"usage: tmpl solve PROGRAM [--domain D]"));
-    assert!(rt; usage_line().len() == 450);
+    assert!(rt; usage_line().len() == 518);
 }

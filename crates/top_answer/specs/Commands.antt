@@ -10,6 +10,7 @@ use Rattle.flow_systems.specs.Equations.{Least, Vector}
 use Rattle.flow_systems.specs.Solutions.{equations_of_program}
 use Rattle.flow_systems.specs.View.{equations_of}
 use Rattle.ask_words.specs.Help.{help_text}
+use Rattle.ask_words.specs.declared.format.Format.{Format}
 use Rattle.ask_words.specs.declared.request.Analysis.{Analysis}
 use Rattle.ask_words.specs.declared.request.Domain.{Domain}
 use Rattle.ask_words.specs.declared.request.Policy.{Policy}
@@ -86,14 +87,14 @@ pub record IsCertificate (m : Meanings) (text : List ℕ) (rows : Domain (List �
   pub accepted : (m.refuses text bytes (Form Expanded) → ⊥) → m.accepts text bytes names body template vector
   pub least : Least (equations_of_program (length names) body template) vector
 
--- they are the report of the bounds of a certificate that is accepted; these are the least vector
-pub record IsChecked (m : Meanings) (text certificate bytes : List ℕ) : Type 0 where
+-- they are the report in a format of the bounds of a certificate that is accepted; these are the least vector
+pub record IsChecked (m : Meanings) (text certificate : List ℕ) (format : Format) (bytes : List ℕ) : Type 0 where
   pub names : List (List ℕ)
   pub body : Statements
   pub rows : List (List ℤ)
   pub vector : Vector
   pub accepted : m.accepts text certificate names body rows vector
-  pub least : IsLeastReport names body rows vector Accepted bytes
+  pub least : IsLeastReport names body rows vector Accepted format bytes
 
 -- they are the summary of the least vector of a generated program, with the number of improvements by `best`
 pub record IsSummary (m : Meanings) (seed loops : ℕ) (bytes : List ℕ) : Type 0 where
@@ -106,10 +107,10 @@ pub record IsSummary (m : Meanings) (seed loops : ℕ) (bytes : List ℕ) : Type
   pub least : Least (equations_of system) vector
   pub summary : bytes ≡ m.summary seed loops system vector rounds
 
--- what is written of an analysis, by its purpose
-abbrev pub IsPut : Meanings → Purpose → Analysis (List ℕ) → List ℕ → Type 0
-IsPut m Report a bytes = IsReportOf a.program a.domain a.policy a.improvements bytes
-IsPut m AsCertificate a bytes = IsCertificate m a.program a.domain a.policy a.improvements bytes
+-- what is written of an analysis, by its purpose; a certificate has one format
+abbrev pub IsPut : Meanings → Purpose → Analysis (List ℕ) → Format → List ℕ → Type 0
+IsPut m Report a format bytes = IsReportOf a.program a.domain a.policy a.improvements format bytes
+IsPut m AsCertificate a format bytes = IsCertificate m a.program a.domain a.policy a.improvements bytes
 
 -- ---- limits
 
@@ -172,15 +173,15 @@ asking question writes =
 
 -- the commands of the program
 abbrev pub command_of : Meanings → Commands
-command_of m (Analyse purpose a) =
-    record (asking (analysis_question m purpose a.program a.domain a.policy a.improvements) (λ bytes. IsPut m purpose a bytes)) {
+command_of m (Analyse purpose a format) =
+    record (asking (analysis_question m purpose a.program a.domain a.policy a.improvements) (λ bytes. IsPut m purpose a format bytes)) {
       named = λ status. a.program;
       has_rows = λ count. (system : System) × IsSolvedSystem a.program a.domain system × (count ≡ length system.template);
       in_range = a.improvements ≤ MOST_IMPROVEMENTS;
       in_limits = IsWithin a;
     }
-command_of m (Check text certificate) =
-    record (deciding (λ status. CheckEnds m text certificate status) (λ bytes. IsChecked m text certificate bytes)) {
+command_of m (Check text certificate format) =
+    record (deciding (λ status. CheckEnds m text certificate status) (λ bytes. IsChecked m text certificate format bytes)) {
       named = λ status. text;
       has_rows = λ count. m.has_rows certificate count;
       in_limits = IsShort text;
@@ -190,22 +191,22 @@ command_of m (Bench seed loops) = record (asking (bench_question m seed loops) (
   in_limits = AreGenerable seed loops;
 }
 command_of m (Upgrade certificate) = deciding (λ status. UpgradeEnds m certificate status) (λ bytes. m.upgrades certificate bytes)
-command_of m (Prove given a) =
+command_of m (Prove given a format) =
     record (asking (claims_question m a.program a.domain given a.policy a.improvements)
-    (λ bytes. AreVerdictsOf m a.program a.domain given a.policy a.improvements bytes)) {
+    (λ bytes. AreVerdictsOf m a.program a.domain given a.policy a.improvements format bytes)) {
       named = λ status. text_of_proof a.program given status;
       in_range = a.improvements ≤ MOST_IMPROVEMENTS;
       in_limits = IsWithin a × IsShort given;
     }
-command_of m (Transitions a) =
+command_of m (Transitions a format) =
     record (asking (transitions_question m a.program a.domain a.policy a.improvements)
-    (λ bytes. IsAutoReport a.program a.domain a.policy a.improvements bytes)) {
+    (λ bytes. IsAutoReport a.program a.domain a.policy a.improvements format bytes)) {
       named = λ status. a.program;
       in_range = a.improvements ≤ MOST_IMPROVEMENTS;
       in_limits = IsWithin a;
     }
-command_of m (Equations text limit policy) =
-    record (asking (equations_question m text policy limit) (λ bytes. AreValuesOf text policy limit bytes)) {
+command_of m (Equations text limit policy format) =
+    record (asking (equations_question m text policy limit) (λ bytes. AreValuesOf text policy limit format bytes)) {
       named = λ status. text;
       in_range = limit ≤ MOST_IMPROVEMENTS;
       in_limits = IsShort text × (limit ≤ MOST_IMPROVEMENTS);
@@ -214,9 +215,9 @@ command_of m (Points text) = record (deciding (λ status. PointsEnd text status)
   named = λ status. text;
   in_limits = IsShort text;
 }
-command_of m (Verify a) = record (deciding (λ status. VerifyEnds m a status) (λ bytes. ⊥)) {
+command_of m (Verify name a format) = record (deciding (λ status. VerifyEnds m a status) (λ bytes. ⊥)) {
   exceeds = λ excess. IsExcessIn (checks_question m a.program a.domain a.policy a.improvements) excess;
-  writes = λ status bytes. AreCheckVerdictsOf m a.program a.domain a.policy a.improvements status bytes;
+  writes = λ status bytes. AreCheckVerdictsOf m name a.program a.domain a.policy a.improvements format status bytes;
   named = λ status. a.program;
   in_range = a.improvements ≤ MOST_IMPROVEMENTS;
   in_limits = IsWithin a;

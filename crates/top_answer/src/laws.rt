@@ -8,6 +8,7 @@ ghost use Rattle.flow_systems.specs.Solutions.{equations_of_program};
 ghost use Rattle.flow_systems.specs.View.{equations_of};
 ghost use Rattle.theory_strategy.specs.PickCount.{pick_count};
 ghost use Rattle.ask_words.specs.Request.{request_of};
+ghost use Rattle.ask_words.specs.declared.format.Format.{Format};
 ghost use Rattle.ask_words.specs.declared.request.Analysis.{Analysis};
 ghost use Rattle.ask_words.specs.declared.request.Domain.{Domain};
 ghost use Rattle.ask_words.specs.declared.request.Policy.{Policy};
@@ -43,7 +44,7 @@ pub fn ending_is_one()
 /// said. It is written at one ending alone, the one that words and contents have.
 pub fn output_is_one()
     ensures bytes { (words contents : List (List ℕ)) (ending another : Status) (one other : List ℕ)
-        → ((analysis : Analysis (List ℕ)) → request_of words ≢ Some (Analyse Certificate analysis))
+        → ((analysis : Analysis (List ℕ)) (format : Format) → request_of words ≢ Some (Analyse Certificate analysis format))
         → IsOutput (command_of ⟦<Exact as Meaning>⟧.means) words contents ending one
         → IsOutput (command_of ⟦<Exact as Meaning>⟧.means) words contents another other → one ≡ other }
     ensures ending { (words contents : List (List ℕ)) (ending : Status) (bytes : List ℕ)
@@ -57,25 +58,26 @@ pub fn upgrade_is_one()
         → (⟦<Exact as Meaning>⟧.means).upgrades bytes other → one ≡ other }
 {}
 
-/// A text of equations has one list of values.
+/// A text of equations has one list of values in a format.
 pub fn values_are_one()
-    ensures { (text : List ℕ) (policy : Policy) (limit : ℕ) (one other : List ℕ) → AreValuesOf text policy limit one
-        → AreValuesOf text policy limit other → one ≡ other }
+    ensures { (text : List ℕ) (policy : Policy) (limit : ℕ) (format : Format) (one other : List ℕ)
+        → AreValuesOf text policy limit format one → AreValuesOf text policy limit format other → one ≡ other }
 {}
 
-/// The texts of a program, of its rows and of claims have one list of verdicts.
+/// The texts of a program, of its rows and of claims have one list of verdicts in a format.
 pub fn verdicts_are_one()
-    ensures { (text : List ℕ) (rows : Domain (List ℕ)) (given : List ℕ) (policy : Policy) (limit : ℕ) (one other : List ℕ)
-        → AreVerdictsOf ⟦<Exact as Meaning>⟧.means text rows given policy limit one
-        → AreVerdictsOf ⟦<Exact as Meaning>⟧.means text rows given policy limit other → one ≡ other }
+    ensures { (text : List ℕ) (rows : Domain (List ℕ)) (given : List ℕ) (policy : Policy) (limit : ℕ) (format : Format)
+        (one other : List ℕ) → AreVerdictsOf ⟦<Exact as Meaning>⟧.means text rows given policy limit format one
+        → AreVerdictsOf ⟦<Exact as Meaning>⟧.means text rows given policy limit format other → one ≡ other }
 {}
 
-/// The texts of a program and of its rows have one list of verdicts on the program's checks, and one ending by them: `Done` where each is
-/// proved, `Open` where one is open.
+/// The texts of a program and of its rows have one list of verdicts on the program's checks in a format, where the program's file has this
+/// name, and one ending by them: `Done` where each is proved, `Open` where one is open.
 pub fn check_verdicts_are_one()
-    ensures bytes { (text : List ℕ) (rows : Domain (List ℕ)) (policy : Policy) (limit : ℕ) (ending another : Status) (one other : List ℕ)
-        → AreCheckVerdictsOf ⟦<Exact as Meaning>⟧.means text rows policy limit ending one
-        → AreCheckVerdictsOf ⟦<Exact as Meaning>⟧.means text rows policy limit another other → one ≡ other }
+    ensures bytes { (file text : List ℕ) (rows : Domain (List ℕ)) (policy : Policy) (limit : ℕ) (format : Format)
+        (ending another : Status) (one other : List ℕ)
+        → AreCheckVerdictsOf ⟦<Exact as Meaning>⟧.means file text rows policy limit format ending one
+        → AreCheckVerdictsOf ⟦<Exact as Meaning>⟧.means file text rows policy limit format another other → one ≡ other }
     ensures ending { (text : List ℕ) (rows : Domain (List ℕ)) (policy : Policy) (limit : ℕ) (one other : Status)
         → IsJudged text rows policy limit one → IsJudged text rows policy limit other → one ≡ other }
 {}
@@ -84,10 +86,11 @@ pub fn check_verdicts_are_one()
 /// improvements end within the limit it has one of the endings `Done` and `Open`: it isn't so that it has neither.
 pub fn open_is_of_checks()
     ensures verify { (asked : Request) → (command_of ⟦<Exact as Meaning>⟧.means asked).ends Open
-        → (a : Analysis (List ℕ)) × (asked ≡ Verify a) × IsJudged a.program a.domain a.policy a.improvements Open }
-    ensures judged { (a : Analysis (List ℕ)) → IsSolvable a.program a.domain a.policy a.improvements
-        → ((command_of ⟦<Exact as Meaning>⟧.means (Verify a)).ends Done → ⊥)
-        → ((command_of ⟦<Exact as Meaning>⟧.means (Verify a)).ends Open → ⊥) → ⊥ }
+        → (name : List ℕ) × (a : Analysis (List ℕ)) × (format : Format) × (asked ≡ Verify name a format)
+        × IsJudged a.program a.domain a.policy a.improvements Open }
+    ensures judged { (name : List ℕ) (a : Analysis (List ℕ)) (format : Format) → IsSolvable a.program a.domain a.policy a.improvements
+        → ((command_of ⟦<Exact as Meaning>⟧.means (Verify name a format)).ends Done → ⊥)
+        → ((command_of ⟦<Exact as Meaning>⟧.means (Verify name a format)).ends Open → ⊥) → ⊥ }
 {}
 
 /// Improvements that are spent are fewer than the picks of the system: a limit of as many as the picks is never spent.

@@ -18,7 +18,7 @@ ghost use Rattle.top_texts.specs.Exact.{exact};
 ghost use Rattle.top_texts.specs.Outcomes.{IsHalted, IsOutputOf};
 ghost use Rattle.top_texts.specs.Texts.{IsSolvedSystem};
 
-use ask_words::{Analysis, Policy, Purpose, Request, Topic, help_text};
+use ask_words::{Analysis, Format, Policy, Purpose, Request, Topic, help_text};
 use base_watch::Watch;
 use flow_systems::System;
 use std::alloc::Global;
@@ -96,21 +96,22 @@ fn outcome_by(alloc: Global, made: Result<Judged, Refusal>) -> Outcome
     }
 }
 
-// The report of a system or its certificate.
+// The report of a system in a format, or its certificate. It has as many parameters as a report has, and the purpose.
 fn made_of<W: Watch>(
     alloc: Global,
     purpose: Purpose,
     system: &System,
     policy: Policy,
     limit: u32,
+    format: Format,
     watch: &mut W,
 ) -> Result<Vec<u8>, Refusal>
     requires limit { limit ≤ MOST_IMPROVEMENTS }
-    ensures ok { IfOk result (λ bytes. IsOutputOf purpose system.now policy limit bytes.items) }
+    ensures ok { IfOk result (λ bytes. IsOutputOf purpose system.now policy limit format bytes.items) }
     ensures err { IfErr result (λ refusal. IsHalted purpose system.now policy limit refusal) }
 {
     match purpose {
-        Purpose::Report => report_of(alloc, system, policy, limit, watch),
+        Purpose::Report => report_of(alloc, system, policy, limit, format, watch),
         Purpose::Certificate => certificate_of(alloc, system, policy, limit, watch),
     }
 }
@@ -120,11 +121,12 @@ fn analysed<W: Watch>(
     alloc: Global,
     purpose: Purpose,
     analysis: Analysis<&[u8]>,
+    format: Format,
     watch: &mut W,
 ) -> Outcome
     requires { IsWithin (analysis_text analysis) }
-    ensures says { Says (command_of exact (Analyse purpose (analysis_text analysis.entry))) result.status result.bytes.items }
-    ensures rows { (count : ℕ) → (command_of exact (Analyse purpose (analysis_text analysis.entry))).has_rows count
+    ensures says { Says (command_of exact (Analyse purpose (analysis_text analysis.entry) format)) result.status result.bytes.items }
+    ensures rows { (count : ℕ) → (command_of exact (Analyse purpose (analysis_text analysis.entry) format)).has_rows count
         → result.rows ≡ rows_of count result.status }
 {
     match system_on(alloc, analysis.program, analysis.domain) {
@@ -135,6 +137,7 @@ fn analysed<W: Watch>(
                 &system,
                 analysis.policy,
                 analysis.improvements,
+                format,
                 watch,
             );
             outcome_from(alloc, made, system.template.as_slice().len())
@@ -144,12 +147,12 @@ fn analysed<W: Watch>(
 }
 
 // The report of a certificate of a program, where it is valid.
-fn accepted(alloc: Global, given: Given) -> Outcome
+fn accepted(alloc: Global, given: Given, format: Format) -> Outcome
     requires names { given.flow.names ≡ given.program.names }
     requires points { given.flow.points ≡ points_of_program given.program.body }
     requires edges { given.flow.edges ≡ edges_of_program given.program.body }
     ensures says { (text bytes : List ℕ) → IsSpelt text bytes given.program.names given.program.body given.cert
-        → Says (command_of exact (Check text bytes)) result.status result.bytes.items }
+        → Says (command_of exact (Check text bytes format)) result.status result.bytes.items }
     ensures rows { result.rows ≡ rows_of (length given.cert.rows) result.status }
 {
     let Given {
@@ -157,18 +160,18 @@ fn accepted(alloc: Global, given: Given) -> Outcome
         flow,
         cert,
     } = given;
-    let made = report_by(alloc, &program, flow, &cert);
+    let made = report_by(alloc, &program, flow, &cert, format);
     outcome_from(alloc, made, cert.rows.as_slice().len())
 }
 
 // The check of a certificate of a program.
-fn checked(alloc: Global, text: &[u8], certificate: &[u8]) -> Outcome
+fn checked(alloc: Global, text: &[u8], certificate: &[u8], format: Format) -> Outcome
     requires { length text.now ≤ MOST_TEXT_BYTES }
-    ensures says { Says (command_of exact (Check text.now certificate.now)) result.status result.bytes.items }
+    ensures says { Says (command_of exact (Check text.now certificate.now format)) result.status result.bytes.items }
     ensures rows { (count : ℕ) → HasRowCount certificate.now count → result.rows ≡ rows_of count result.status }
 {
     match read_given(alloc, text, certificate) {
-        Ok(given) => accepted(alloc, given),
+        Ok(given) => accepted(alloc, given, format),
         Err(refusal) => outcome_from(alloc, Err(refusal), 0),
     }
 }
@@ -188,11 +191,16 @@ pub(crate) fn outcome_of<W: Watch>(alloc: Global, asked: Request<&[u8]>, watch: 
     ensures rows { (count : ℕ) → (command_of exact (request_text asked.entry)).has_rows count → result.rows ≡ rows_of count result.status }
 {
     match asked {
-        Request::Analyse { purpose, analysis } => analysed(alloc, purpose, analysis, watch),
+        Request::Analyse {
+            purpose,
+            analysis,
+            format,
+        } => analysed(alloc, purpose, analysis, format, watch),
         Request::Check {
             program,
             certificate,
-        } => checked(alloc, program, certificate),
+            format,
+        } => checked(alloc, program, certificate, format),
         Request::Bench { seed, loops } => outcome_from(
             alloc,
             bench_text(alloc, seed, loops, watch),
@@ -203,7 +211,11 @@ pub(crate) fn outcome_of<W: Watch>(alloc: Global, asked: Request<&[u8]>, watch: 
             upgrade_text(alloc, certificate),
             0,
         ),
-        Request::Prove { claims, analysis } => {
+        Request::Prove {
+            claims,
+            analysis,
+            format,
+        } => {
             let made = prove_text(
                 alloc,
                 analysis.program,
@@ -211,17 +223,19 @@ pub(crate) fn outcome_of<W: Watch>(alloc: Global, asked: Request<&[u8]>, watch: 
                 claims,
                 analysis.policy,
                 analysis.improvements,
+                format,
                 watch,
             );
             outcome_from(alloc, made, 0)
         }
-        Request::Transitions { analysis } => {
+        Request::Transitions { analysis, format } => {
             let made = transitions_text(
                 alloc,
                 analysis.program,
                 analysis.domain,
                 analysis.policy,
                 analysis.improvements,
+                format,
                 watch,
             );
             outcome_from(alloc, made, 0)
@@ -230,19 +244,26 @@ pub(crate) fn outcome_of<W: Watch>(alloc: Global, asked: Request<&[u8]>, watch: 
             file,
             improvements,
             policy,
+            format,
         } => outcome_from(
             alloc,
-            equations_text(alloc, file, policy, improvements, watch),
+            equations_text(alloc, file, policy, improvements, format, watch),
             0,
         ),
         Request::Points { program } => outcome_from(alloc, points_text(alloc, program), 0),
-        Request::Verify { analysis } => {
+        Request::Verify {
+            name,
+            analysis,
+            format,
+        } => {
             let made = verify_text(
                 alloc,
+                name,
                 analysis.program,
                 analysis.domain,
                 analysis.policy,
                 analysis.improvements,
+                format,
                 watch,
             );
             outcome_by(alloc, made)
@@ -271,10 +292,14 @@ pub(crate) fn named_text<'a>(asked: Request<&'a [u8]>, status: &Status) -> &'a [
         Request::Analyse { analysis, .. } => analysis.program,
         Request::Check { program, .. } => program,
         Request::Bench { .. } | Request::Upgrade { .. } | Request::Help { .. } => &[],
-        Request::Prove { claims, analysis } => text_of_proof(analysis.program, claims, status),
-        Request::Transitions { analysis } => analysis.program,
+        Request::Prove {
+            claims,
+            analysis,
+            ..
+        } => text_of_proof(analysis.program, claims, status),
+        Request::Transitions { analysis, .. } => analysis.program,
         Request::Equations { file, .. } => file,
         Request::Points { program } => program,
-        Request::Verify { analysis } => analysis.program,
+        Request::Verify { analysis, .. } => analysis.program,
     }
 }

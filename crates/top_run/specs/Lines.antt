@@ -24,6 +24,6 @@ cut_by Whole bytes = as_pieces bytes
 
 -- what a request puts: a certificate in one piece, all else line by line
 abbrev pub pieces_of : Request → Pieces
-pieces_of (Analyse AsCertificate analysis) = Whole
+pieces_of (Analyse AsCertificate analysis format) = Whole
 pieces_of (Upgrade certificate) = Whole
 pieces_of _ = Lines

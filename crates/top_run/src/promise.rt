@@ -2,6 +2,7 @@
 
 ghost use Rattle.std.specs.Prelude.{◌≡◌, ℕ, List, Some, map, string_bytes};
 ghost use Rattle.ask_words.specs.Request.{request_of};
+ghost use Rattle.ask_words.specs.declared.format.Format.{Format};
 ghost use Rattle.ask_words.specs.declared.request.Analysis.{Analysis};
 ghost use Rattle.ask_words.specs.declared.request.Purpose.TheVariants.{Report};
 ghost use Rattle.ask_words.specs.declared.request.Request.TheVariants.{Analyse};
@@ -18,10 +19,11 @@ use top_status::Status;
 /// The headline: `run` where the words ask for the report of a program. It does nothing else than `run`, whose contract says this
 /// and more; here stand the definitions alone, of programs, their runs, and least vectors.
 ///
-/// The files are loaded in this call. Where all are read, these are the texts: where it is done, the output gets the report of the least
-/// vector over the template, which every run of the program keeps to, with the number of improvements by the policy. Where the
-/// improvements end within the limit, it is done, but for want of memory, a fraction that is too wide, a joint problem that is too large,
-/// or an output that failed in this call. Where they aren't all read, a file failed in this call or is too long, or memory was wanted.
+/// The files are loaded in this call. Where all are read, these are the texts: where it is done, the output gets the report, in the format
+/// of the words, of the least vector over the template, which every run of the program keeps to, with the number of improvements by the
+/// policy. Where the improvements end within the limit, it is done, but for want of memory, a fraction that is too wide, a joint problem
+/// that is too large, or an output that failed in this call. Where they aren't all read, a file failed in this call or is too long, or
+/// memory was wanted.
 pub fn headline<S: Shelf, K: Sink, L: Sink, W: Watch>(
     alloc: Global,
     words: &[String],
@@ -30,8 +32,9 @@ pub fn headline<S: Shelf, K: Sink, L: Sink, W: Watch>(
     err: &mut L,
     watch: &mut W,
 ) -> Status
-    ensures { (analysis : Analysis (List ℕ)) → request_of (map string_bytes words.now) ≡ Some (Analyse Report analysis)
-        → IsHeadline ⟦<Exact as Meaning>⟧.means analysis
+    ensures { (analysis : Analysis (List ℕ)) (format : Format)
+        → request_of (map string_bytes words.now) ≡ Some (Analyse Report analysis format)
+        → IsHeadline ⟦<Exact as Meaning>⟧.means analysis format
         (shelf_with (S.files shelf.old) (S.loads shelf.old) (S.faults shelf.old) (S.last_failed shelf.old))
         (shelf_with (S.files shelf.new) (S.loads shelf.new) (S.faults shelf.new) (S.last_failed shelf.new))
         (sink_with (K.held out.old) (K.taken out.old) (K.faults out.old) (K.spare out.old))

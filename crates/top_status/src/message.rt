@@ -257,10 +257,10 @@ fn make_parts(line: u32, status: &Status) -> Parts
     }
 }
 
-/// A message of at most 512 bytes, which takes no memory.
+/// A message of at most 1024 bytes, which takes no memory.
 #[derive(Drop)]
 pub struct Message {
-    bytes: [u8; 512],
+    bytes: [u8; 1024],
     len: usize,
 }
 
@@ -271,7 +271,7 @@ impl Model for Message {
 
     ghost view = { λ m. take m.len m.bytes };
 
-    ghost invariant = { λ m. m.len ≤ 512 };
+    ghost invariant = { λ m. m.len ≤ 1024 };
 }
 
 impl Message {
@@ -279,14 +279,14 @@ impl Message {
         ensures { result ≡ [] }
     {
         Message {
-            bytes: [0; 512],
+            bytes: [0; 1024],
             len: 0,
         }
     }
 
     // Adds a piece at the end.
     pub(crate) fn append(&mut self, piece: &[u8])
-        requires { length self.old + length piece.now ≤ 512 }
+        requires { length self.old + length piece.now ≤ 1024 }
         ensures { self.new ≡ self.old ++ piece.now }
     {
         let end = self.len + piece.len();
@@ -296,7 +296,7 @@ impl Message {
 
     /// The message of these bytes.
     pub fn of(text: &[u8]) -> Message
-        requires { length text.now ≤ 512 }
+        requires { length text.now ≤ 1024 }
         ensures { result ≡ text.now }
     {
         let mut message = Message::new();
@@ -307,7 +307,7 @@ impl Message {
     /// The bytes of the message.
     pub fn bytes(&self) -> &[u8]
         ensures bytes { result.now ≡ self.now }
-        ensures short { length result.now ≤ 512 }
+        ensures short { length result.now ≤ 1024 }
     {
         &self.bytes[..self.len]
     }

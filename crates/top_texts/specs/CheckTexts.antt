@@ -11,10 +11,11 @@ use Rattle.flow_systems.specs.States.{RationalState}
 use Rattle.flow_systems.specs.declared.system.System.{System}
 use Rattle.ask_verdicts.specs.declared.outcome.Verdict.{Verdict}
 use Rattle.ask_verdicts.specs.declared.outcome.Verdict.TheVariants as verdict
-use Rattle.ask_checks.specs.Lines.{checks_text}
 use Rattle.ask_checks.specs.Places.{BreaksCheck, NoneBreaksCheck}
+use Rattle.ask_words.specs.declared.format.Format.{Format}
 use Rattle.ask_words.specs.declared.request.Domain.{Domain}
 use Rattle.ask_words.specs.declared.request.Policy.{Policy}
+use Rattle.top_texts.specs.Formats.{checks_in}
 use Rattle.top_texts.specs.Meanings.{Meanings}
 use Rattle.top_texts.specs.Rounds.{HasRounds}
 use Rattle.top_texts.specs.Texts.{IsSolvedSystem}
@@ -80,9 +81,10 @@ pub record IsJudged (text : List ℕ) (rows : Domain (List ℕ)) (policy : Polic
   pub least : Least (equations_of_program (length solved.names) solved.body solved.template) vector
   pub ends : ChecksEnd solved.body (equations_of_program (length solved.names) solved.body solved.template) vector ending
 
--- the bytes are the verdicts of this vector on the checks of the program, with the number of improvements
-pub record AreCheckVerdictsOf (m : Meanings) (text : List ℕ) (rows : Domain (List ℕ)) (policy : Policy) (limit : ℕ) (ending : Status)
-    (bytes : List ℕ) : Type 0 where
+-- the bytes are the verdicts of this vector on the checks of the program, which is in the file of this name, in a format, with the number
+-- of improvements
+pub record AreCheckVerdictsOf (m : Meanings) (file text : List ℕ) (rows : Domain (List ℕ)) (policy : Policy) (limit : ℕ) (format : Format)
+    (ending : Status) (bytes : List ℕ) : Type 0 where
   pub judged : IsJudged text rows policy limit ending
   pub verdicts : List Verdict
   pub verdicts_are : m.verifies
@@ -90,4 +92,4 @@ pub record AreCheckVerdictsOf (m : Meanings) (text : List ℕ) (rows : Domain (L
       (checks_of_program judged.solved.body) verdicts
   pub speak : SpeakOfChecks (length judged.solved.names) judged.solved.body
       (equations_of_program (length judged.solved.names) judged.solved.body judged.solved.template) judged.vector verdicts
-  pub written : bytes ≡ checks_text text judged.solved.names (checks_of_program judged.solved.body) verdicts judged.rounds
+  pub written : bytes ≡ checks_in format file text judged.solved.names (checks_of_program judged.solved.body) verdicts judged.rounds

@@ -12,13 +12,14 @@ use Rattle.flow_systems.specs.Solutions.{equations_of_program}
 use Rattle.flow_systems.specs.States.{RationalState}
 use Rattle.ask_claims.specs.Truth.{IsTrueAt}
 use Rattle.ask_claims.specs.Claims.{FileMeans, Stands, Stated, stated_of}
-use Rattle.ask_claims.specs.Lines.{verdicts_text}
 use Rattle.ask_claims.specs.declared.claim.Claim.{Claim}
 use Rattle.ask_verdicts.specs.Breaking.{BreaksSome, NoneOpen}
 use Rattle.ask_verdicts.specs.declared.outcome.Verdict.{Verdict}
 use Rattle.ask_verdicts.specs.declared.outcome.Verdict.TheVariants.{Proved, Open}
+use Rattle.ask_words.specs.declared.format.Format.{Format}
 use Rattle.ask_words.specs.declared.request.Domain.{Domain}
 use Rattle.ask_words.specs.declared.request.Policy.{Policy}
+use Rattle.top_texts.specs.Formats.{claims_in}
 use Rattle.top_texts.specs.Meanings.{Meanings}
 use Rattle.top_texts.specs.Rounds.{HasRounds}
 use Rattle.top_texts.specs.Texts.{IsReady, IsRefused, IsSolvedSystem}
@@ -73,20 +74,19 @@ pub record SpeakOfRuns (variables : ℕ) (body : Statements) (system : Equations
   pub open_ones : (k : ℕ) (claim : Claim) (state : RationalState) → slice_get claims k ≡ Some claim
       → slice_get verdicts k ≡ Some (Open state) → BreaksSome system vector claim.point [] claim.against state
 
--- the bytes are the verdicts on claims about a program: those of the least vector over a template
+-- the bytes are the verdicts on claims about a program, in a format: those of the least vector over a template
 pub record AreLeastVerdicts (m : Meanings) (names : List (List ℕ)) (body : Statements) (template : List (List ℤ)) (vector : Vector)
     (claims : List Claim)
-    (rounds : ℕ) (bytes : List ℕ) : Type 0 where
+    (rounds : ℕ) (format : Format) (bytes : List ℕ) : Type 0 where
   pub least : Least (equations_of_program (length names) body template) vector
   pub verdicts : List Verdict
   pub verdicts_are : m.judges (equations_of_program (length names) body template) vector claims verdicts
   pub speak : SpeakOfRuns (length names) body (equations_of_program (length names) body template) vector claims verdicts
-  pub written : bytes ≡ verdicts_text names claims verdicts rounds
+  pub written : bytes ≡ claims_in format names claims verdicts rounds
 
 -- they are those on the claims that a text states about the program of these texts, with the number of improvements by the policy
 pub record AreVerdictsOf (m : Meanings) (text : List ℕ) (rows : Domain (List ℕ)) (given : List ℕ) (policy : Policy) (limit : ℕ)
-    (bytes : List ℕ)
-    : Type 0 where
+    (format : Format) (bytes : List ℕ) : Type 0 where
   pub system : System
   pub solved : IsSolvedSystem text rows system
   pub claims : List Claim
@@ -95,4 +95,4 @@ pub record AreVerdictsOf (m : Meanings) (text : List ℕ) (rows : Domain (List �
   pub within : rounds ≤ limit
   pub vector : Vector
   pub has_rounds : HasRounds system policy rounds vector
-  pub least : AreLeastVerdicts m solved.names solved.body solved.template vector claims rounds bytes
+  pub least : AreLeastVerdicts m solved.names solved.body solved.template vector claims rounds format bytes

@@ -9,8 +9,9 @@ use Rattle.flow_rationals.specs.EquationTexts.{Answers}
 use Rattle.flow_rationals.specs.Solutions.{EqualsRightSides, IsLeastAbove}
 use Rattle.flow_rationals.specs.System.{system_of}
 use Rattle.flow_rationals.specs.Values.{Values}
-use Rattle.out_report.specs.Values.{values_text}
+use Rattle.ask_words.specs.declared.format.Format.{Format}
 use Rattle.ask_words.specs.declared.request.Policy.{Policy}
+use Rattle.top_texts.specs.Formats.{values_in}
 use Rattle.top_texts.specs.Rounds.{HasRounds}
 use Rattle.top_status.specs.declared.status.TextCause.{TextCause}
 use Rattle.top_status.specs.declared.status.TextCause.TheVariants.{Equ}
@@ -31,9 +32,9 @@ abbrev pub HasImprovements : List Equation → Policy → ℕ → Type 0
 HasImprovements equations policy rounds =
     (system : System) × (equations_of system ≡ system_of equations) × (vector : Vector) × HasRounds system policy rounds vector
 
--- the bytes are the values of the text's equations, with the number of improvements by the policy:
+-- the bytes are the values of the text's equations in a format, with the number of improvements by the policy:
 -- the values equal their right sides, and are at most all values that are above the equations
-pub record AreValuesOf (text : List ℕ) (policy : Policy) (limit : ℕ) (bytes : List ℕ) : Type 0 where
+pub record AreValuesOf (text : List ℕ) (policy : Policy) (limit : ℕ) (format : Format) (bytes : List ℕ) : Type 0 where
   pub equations : List Equation
   pub reading : Answers text (Ok equations)
   pub values : Values
@@ -42,4 +43,4 @@ pub record AreValuesOf (text : List ℕ) (policy : Policy) (limit : ℕ) (bytes 
   pub rounds : ℕ
   pub within : rounds ≤ limit
   pub improvements : HasImprovements equations policy rounds
-  pub written : bytes ≡ values_text (map (λ e. e.name) equations) values (Improvements rounds)
+  pub written : bytes ≡ values_in format (map (λ e. e.name) equations) values (Improvements rounds)

@@ -6,24 +6,26 @@ use Rattle.flow_systems.specs.declared.footer.Footer.{Footer}
 use Rattle.flow_systems.specs.declared.footer.Footer.TheVariants.{Improvements}
 use Rattle.flow_systems.specs.declared.system.System.{System}
 use Rattle.flow_systems.specs.Equations.{Least, Vector}
-use Rattle.flow_systems.specs.Report.{report_text}
 use Rattle.flow_systems.specs.Solutions.{Holds, equations_of_program}
 use Rattle.out_report.specs.Heads.{head_lines}
+use Rattle.ask_words.specs.declared.format.Format.{Format}
 use Rattle.ask_words.specs.declared.request.Domain.{Domain}
 use Rattle.ask_words.specs.declared.request.Policy.{Policy}
+use Rattle.top_texts.specs.Formats.{report_in}
 use Rattle.top_texts.specs.Rounds.{HasRounds, IsSystemFor}
 use Rattle.top_texts.specs.Texts.{IsAnalysed, IsReady}
 
--- the bytes are the report of a vector of a program over a template; this vector is the least one, and holds in every run of the program
+-- the bytes are the report of a vector of a program over a template, in a format; this vector is the least one, and holds in every run of
+-- the program
 pub record IsLeastReport (names : List (List ℕ)) (body : Statements) (template : List (List ℤ)) (vector : Vector) (footer : Footer)
-    (bytes : List ℕ)
-    : Type 0 where
+    (format : Format) (bytes : List ℕ) : Type 0 where
   pub least : Least (equations_of_program (length names) body template) vector
   pub holds : Holds (equations_of_program (length names) body template) body vector
-  pub report : bytes ≡ report_text names (points_of_program body) template vector footer
+  pub report : bytes ≡ report_in format names (points_of_program body) template vector footer
 
 -- they are that of the program and the template of these texts, with the number of improvements by the policy
-pub record IsReportOf (text : List ℕ) (rows : Domain (List ℕ)) (policy : Policy) (limit : ℕ) (bytes : List ℕ) : Type 0 where
+pub record IsReportOf (text : List ℕ) (rows : Domain (List ℕ)) (policy : Policy) (limit : ℕ) (format : Format) (bytes : List ℕ) :
+    Type 0 where
   pub names : List (List ℕ)
   pub body : Statements
   pub template : List (List ℤ)
@@ -34,7 +36,7 @@ pub record IsReportOf (text : List ℕ) (rows : Domain (List ℕ)) (policy : Pol
   pub within : rounds ≤ limit
   pub vector : Vector
   pub has_rounds : HasRounds system policy rounds vector
-  pub least : IsLeastReport names body template vector (Improvements rounds) bytes
+  pub least : IsLeastReport names body template vector (Improvements rounds) format bytes
 
 -- the text is a program whose points and edges are within the limits, and the bytes are the heads of its points in order, as its report
 -- has them

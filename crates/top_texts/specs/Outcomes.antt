@@ -8,7 +8,6 @@ use Rattle.base_numbers.specs.Extended.{Ext}
 use Rattle.flow_systems.specs.declared.footer.Footer.TheVariants.{Improvements}
 use Rattle.flow_systems.specs.declared.system.System.{System}
 use Rattle.flow_systems.specs.Equations.{Equations, Least, Vector}
-use Rattle.flow_systems.specs.Report.{report_of}
 use Rattle.flow_systems.specs.View.{equations_of, vector_of}
 use Rattle.theory_validity.specs.Certificates.{Certificate as TheoryCertificate, ValidCertificate}
 use Rattle.cert_types.specs.declared.cert.Cert.{Cert}
@@ -17,11 +16,13 @@ use Rattle.cert_text.specs.Certificates.{IsBeyond, IsWithin, SpellsCert, SpellsT
 use Rattle.solve_rounds.specs.declared.solution.Solved.{Solved}
 use Rattle.solve_rounds.specs.Solutions.{IsSolved, cert_with, made_certificate}
 use Rattle.ask_claims.specs.declared.claim.Claim.{Claim}
+use Rattle.ask_words.specs.declared.format.Format.{Format}
 use Rattle.ask_words.specs.declared.request.Domain.{Domain}
 use Rattle.ask_words.specs.declared.request.Policy.{Policy}
 use Rattle.top_texts.specs.Checks.{IsCheckSpot, IsCompositionSpot, IsFormFault, IsRefusedCertificate, NoneIsWide, IsStopped, system_with}
 use Rattle.top_texts.specs.Checks.{theirs}
 use Rattle.top_texts.specs.Endings.{CheckEnd, UpgradeEnd}
+use Rattle.top_texts.specs.Formats.{report_of_in}
 use Rattle.top_texts.specs.Questions.{IsExcessIn, Question, QuestionEnds}
 use Rattle.top_texts.specs.Policies.{rule_of}
 use Rattle.top_texts.specs.Rounds.{EndsWithin, HasRounds, RunsOut}
@@ -63,14 +64,14 @@ IsHalted purpose system policy limit (Spent number) = RunsOut system policy limi
 IsHalted purpose system policy limit NoMemory = Unit {0}
 IsHalted purpose system policy limit _ = ⊥
 
--- the bytes are the report of the least vector of a system, with the number of its rounds
-pub record IsRoundsReport (system : System) (policy : Policy) (limit : ℕ) (bytes : List ℕ) : Type 0 where
+-- the bytes are the report of the least vector of a system in a format, with the number of its rounds
+pub record IsRoundsReport (system : System) (policy : Policy) (limit : ℕ) (format : Format) (bytes : List ℕ) : Type 0 where
   pub rounds : ℕ
   pub within : rounds ≤ limit
   pub bounds : List Ext
   pub has_rounds : HasRounds system policy rounds (vector_of (length system.template) bounds)
   pub least : Least (equations_of system) (vector_of (length system.template) bounds)
-  pub report : bytes ≡ report_of system (vector_of (length system.template) bounds) (Improvements rounds)
+  pub report : bytes ≡ report_of_in format system (vector_of (length system.template) bounds) (Improvements rounds)
 
 -- the bytes are the certificate that the rounds over a system make; it is valid, no sum of its check is wide, and the bytes spell it
 -- unless its traces hold too many values
@@ -86,9 +87,9 @@ pub record IsRoundsCertificate (system : System) (policy : Policy) (limit : ℕ)
   pub least : Least (equations_of system) (vector_of (length system.template) solved.bounds)
 
 -- what is put of the analysis of a system
-abbrev pub IsOutputOf : Purpose → System → Policy → ℕ → List ℕ → Type 0
-IsOutputOf Report system policy limit bytes = IsRoundsReport system policy limit bytes
-IsOutputOf AsCertificate system policy limit bytes = IsRoundsCertificate system policy limit bytes
+abbrev pub IsOutputOf : Purpose → System → Policy → ℕ → Format → List ℕ → Type 0
+IsOutputOf Report system policy limit format bytes = IsRoundsReport system policy limit format bytes
+IsOutputOf AsCertificate system policy limit format bytes = IsRoundsCertificate system policy limit bytes
 
 -- the bytes spell no certificate, by this cause; want of memory needs none
 abbrev pub IsMisspelt : List ℕ → Refusal → Type 0

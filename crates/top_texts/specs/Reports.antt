@@ -11,6 +11,7 @@ use Rattle.cert_types.specs.declared.cert.Cert.{Cert}
 use Rattle.out_workload.specs.Bodies.{generated_body}
 use Rattle.out_workload.specs.Summaries.{summary_of}
 use Rattle.out_workload.specs.Texts.{generated_text}
+use Rattle.ask_words.specs.declared.format.Format.{Format}
 use Rattle.ask_words.specs.declared.request.Domain.{Domain}
 use Rattle.ask_words.specs.declared.request.Policy.{Policy}
 use Rattle.ask_words.specs.declared.request.Policy.TheVariants.{Best}
@@ -35,15 +36,15 @@ pub record IsSummaryOf (seed loops : ℕ) (bytes : List ℕ) : Type 0 where
   pub summary : bytes ≡ summary_of seed loops (length (generated_text seed loops)) system vector rounds
 
 -- they are that of a certificate's bounds, where it is valid for the text of a program
-pub record IsReportBy (text certificate : List ℕ) (bytes : List ℕ) : Type 0 where
+pub record IsReportBy (text certificate : List ℕ) (format : Format) (bytes : List ℕ) : Type 0 where
   pub names : List (List ℕ)
   pub body : Statements
   pub cert : Cert
   pub valid : IsValidFor text certificate names body cert
   pub narrow : NoneIsWide (system_with names body cert) (theirs cert)
-  pub least : IsLeastReport names body cert.rows (bounds_vector (system_with names body cert) cert.bounds) Accepted bytes
+  pub least : IsLeastReport names body cert.rows (bounds_vector (system_with names body cert) cert.bounds) Accepted format bytes
 
--- what is put of an analysis
-abbrev pub IsPutOf : Purpose → List ℕ → Domain (List ℕ) → Policy → ℕ → List ℕ → Type 0
-IsPutOf Report text rows policy limit bytes = IsReportOf text rows policy limit bytes
-IsPutOf Certificate text rows policy limit bytes = IsCertificateOf text rows policy limit bytes
+-- what is put of an analysis; a certificate has one format
+abbrev pub IsPutOf : Purpose → List ℕ → Domain (List ℕ) → Policy → ℕ → Format → List ℕ → Type 0
+IsPutOf Report text rows policy limit format bytes = IsReportOf text rows policy limit format bytes
+IsPutOf Certificate text rows policy limit format bytes = IsCertificateOf text rows policy limit bytes

@@ -9,9 +9,10 @@ use Rattle.flow_systems.specs.declared.footer.Footer.TheVariants.{Improvements}
 use Rattle.flow_systems.specs.declared.limits.TheConstants.{MOST_UNKNOWNS}
 use Rattle.flow_systems.specs.declared.system.System.{System}
 use Rattle.flow_systems.specs.Equations.{Least, Vector}
-use Rattle.flow_systems.specs.Report.{report_text}
+use Rattle.ask_words.specs.declared.format.Format.{Format}
 use Rattle.ask_words.specs.declared.request.Domain.{Domain}
 use Rattle.ask_words.specs.declared.request.Policy.{Policy}
+use Rattle.top_texts.specs.Formats.{report_in}
 use Rattle.top_texts.specs.Rounds.{HasRounds}
 use Rattle.top_texts.specs.Texts.{HasTemplate}
 use Rattle.top_status.specs.declared.status.TextCause.{TextCause}
@@ -48,9 +49,10 @@ AreNoTransitions text rows (Unknowns count) =
     × (MOST_UNKNOWNS < length auto.points * length template) × (count ≡ length auto.points * length template)
 AreNoTransitions text rows _ = ⊥
 
--- the bytes are the report of the least vector of the system of these texts, which holds at every configuration of every run along the
--- edges of the text, with the number of improvements by the policy
-pub record IsAutoReport (text : List ℕ) (rows : Domain (List ℕ)) (policy : Policy) (limit : ℕ) (bytes : List ℕ) : Type 0 where
+-- the bytes are the report in a format of the least vector of the system of these texts, which holds at every configuration of every run
+-- along the edges of the text, with the number of improvements by the policy
+pub record IsAutoReport (text : List ℕ) (rows : Domain (List ℕ)) (policy : Policy) (limit : ℕ) (format : Format) (bytes : List ℕ)
+    : Type 0 where
   pub system : System
   pub meant : IsTransitionSystem text rows system
   pub rounds : ℕ
@@ -59,4 +61,4 @@ pub record IsAutoReport (text : List ℕ) (rows : Domain (List ℕ)) (policy : P
   pub has_rounds : HasRounds system policy rounds vector
   pub least : Least (equations_of_auto meant.auto meant.template) vector
   pub holds : HoldsAlong meant.auto (equations_of_auto meant.auto meant.template) vector
-  pub report : bytes ≡ report_text meant.auto.names meant.auto.points meant.template vector (Improvements rounds)
+  pub report : bytes ≡ report_in format meant.auto.names meant.auto.points meant.template vector (Improvements rounds)

@@ -6,22 +6,22 @@ ghost use Rattle.flow_systems.specs.declared.footer.Footer.TheVariants.{Improvem
 ghost use Rattle.flow_systems.specs.View.{vector_of};
 ghost use Rattle.flow_rationals.specs.EquationTexts.{Answers};
 ghost use Rattle.flow_rationals.specs.Equations.{are_equations};
-ghost use Rattle.out_report.specs.Values.{values_text};
 ghost use Rattle.ask_words.specs.declared.request.Policy.{Policy as PolicyValue};
 ghost use Rattle.top_texts.specs.EquationTexts.{AreValuesOf};
 ghost use Rattle.top_texts.specs.Exact.{exact};
+ghost use Rattle.top_texts.specs.Formats.{values_in};
 ghost use Rattle.top_texts.specs.Outcomes.{IsUnanswered};
 ghost use Rattle.top_texts.specs.Questions.{equations_question};
 
 use crate::analyse::rounds::solve;
 use crate::refusal::Refusal;
-use ask_words::Policy;
+use crate::written::written_values;
+use ask_words::{Format, Policy};
 use base_watch::Watch;
 use flow_rationals::{
     EquFault, Equations, least_above_equal_right_sides, least_vectors_are_least_above, read, system,
 };
 use flow_systems::{Bounds, Footer, System};
-use out_report::values;
 use std::alloc::{AllocError, Global};
 use top_status::TextCause;
 
@@ -56,18 +56,26 @@ fn lines_of(
     system: &System,
     bounds: &Bounds,
     improvements: u32,
+    format: Format,
 ) -> Result<Vec<u8>, AllocError>
     requires rows { length system.now.template ≤ length system.now.flow.names }
     requires bounds { 2 * length system.now.template ≤ length bounds.now }
-    ensures { IfOk result (λ bytes. bytes.items ≡ values_text (take (length system.now.template) system.now.flow.names)
+    ensures { IfOk result (λ bytes. bytes.items ≡ values_in format (take (length system.now.template) system.now.flow.names)
         (vector_of (length system.now.template) bounds.now 1) (Improvements improvements)) }
 {
     let rows = system.template.as_slice().len();
     let names = &system.flow.names.as_slice()[..rows];
-    values(alloc, names, bounds, 1, Footer::Improvements(improvements))
+    written_values(
+        alloc,
+        names,
+        bounds,
+        1,
+        Footer::Improvements(improvements),
+        format,
+    )
 }
 
-/// The values of a text's equations, with the number of improvements by the policy, of which there may be `limit`
+/// The values of a text's equations in a format, with the number of improvements by the policy, of which there may be `limit`
 /// (docs/FORMATS.md, "Equations").
 ///
 /// # Errors
@@ -78,11 +86,12 @@ pub fn equations_text<W: Watch>(
     text: &[u8],
     policy: Policy,
     limit: u32,
+    format: Format,
     watch: &mut W,
 ) -> Result<Vec<u8>, Refusal>
     requires short { length text.now ≤ MOST_TEXT_BYTES }
     requires limit { limit ≤ MOST_IMPROVEMENTS }
-    ensures ok { IfOk result (λ bytes. AreValuesOf text.now policy limit bytes.items) }
+    ensures ok { IfOk result (λ bytes. AreValuesOf text.now policy limit format bytes.items) }
     ensures err { IfErr result (λ refusal. IsUnanswered (equations_question exact text.now policy limit) refusal) }
 {
     least_vectors_are_least_above();
@@ -90,5 +99,5 @@ pub fn equations_text<W: Watch>(
     let equations = equations_of(alloc, text)?;
     let system = system(alloc, &equations)?;
     let solved = solve(alloc, &system, policy, limit, watch)?;
-    Ok(lines_of(alloc, &system, &solved.bounds, solved.improvements)?)
+    Ok(lines_of(alloc, &system, &solved.bounds, solved.improvements, format)?)
 }

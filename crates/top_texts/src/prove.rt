@@ -22,11 +22,12 @@ ghost use Rattle.top_texts.specs.Texts.{IsSolvedSystem};
 use crate::analyse::rounds::solve;
 use crate::analyse::system::system_on;
 use crate::refusal::Refusal;
+use crate::written::written_claims;
 use ask_claims::{
     Claim, ClaimFault, ClaimsFault, Verdict, open_states_break, proved_verdicts_hold, read_claims,
-    verdicts, verdicts_text,
+    verdicts,
 };
-use ask_words::{Domain, Policy};
+use ask_words::{Domain, Format, Policy};
 use base_watch::Watch;
 use flow_systems::{Bounds, Site, Spot, System};
 use std::alloc::Global;
@@ -96,7 +97,7 @@ fn verdicts_at(
     }
 }
 
-/// The verdicts of the least bounds of the program of `text`, over these rows, on the claims that `given` states, with the
+/// The verdicts of the least bounds of the program of `text`, over these rows, on the claims that `given` states, in a format, with the
 /// number of improvements by the policy, of which there may be `limit` (docs/FORMATS.md, "Verdicts").
 ///
 /// # Errors
@@ -110,13 +111,14 @@ pub fn prove_text<W: Watch>(
     given: &[u8],
     policy: Policy,
     limit: u32,
+    format: Format,
     watch: &mut W,
 ) -> Result<Vec<u8>, Refusal>
     requires short { length text.now ≤ MOST_TEXT_BYTES }
     requires short_rows { HasShortRows (domain_text rows) }
     requires short_claims { length given.now ≤ MOST_TEXT_BYTES }
     requires limit { limit ≤ MOST_IMPROVEMENTS }
-    ensures ok { IfOk result (λ bytes. AreVerdictsOf exact text.now (domain_text rows.entry) given.now policy limit bytes.items) }
+    ensures ok { IfOk result (λ bytes. AreVerdictsOf exact text.now (domain_text rows.entry) given.now policy limit format bytes.items) }
     ensures err { IfErr result (λ refusal. IsUnanswered (claims_question exact text.now (domain_text rows.entry) given.now policy limit)
         refusal) }
 {
@@ -127,5 +129,5 @@ pub fn prove_text<W: Watch>(
     let solved = solve(alloc, &system, policy, limit, watch)?;
     let list = verdicts_at(alloc, &system, &solved.bounds, &claims)?;
     let names = system.flow.names.as_slice();
-    Ok(verdicts_text(alloc, names, &claims, &list, solved.improvements)?)
+    Ok(written_claims(alloc, names, &claims, &list, solved.improvements, format)?)
 }

@@ -20,7 +20,7 @@ use crate::analyse::rounds::report_of;
 use crate::analyse::system::system_of;
 use crate::analyse::template::template_of;
 use crate::refusal::Refusal;
-use ask_words::{Domain, Policy};
+use ask_words::{Domain, Format, Policy};
 use base_watch::Watch;
 use flow_edges::Flow;
 use flow_systems::System;
@@ -106,7 +106,7 @@ fn system_along(alloc: Global, text: &[u8], rows: Domain<&[u8]>) -> Result<Syste
     Ok(system)
 }
 
-/// The whole report of the least bounds of the transition system of `text`, over these rows, with the number of improvements
+/// The whole report in a format of the least bounds of the transition system of `text`, over these rows, with the number of improvements
 /// by the policy, of which there may be `limit` (docs/FORMATS.md, "The report").
 ///
 /// # Errors
@@ -119,17 +119,18 @@ pub fn transitions_text<W: Watch>(
     rows: Domain<&[u8]>,
     policy: Policy,
     limit: u32,
+    format: Format,
     watch: &mut W,
 ) -> Result<Vec<u8>, Refusal>
     requires short { length text.now ≤ MOST_TEXT_BYTES }
     requires short_rows { HasShortRows (domain_text rows) }
     requires limit { limit ≤ MOST_IMPROVEMENTS }
-    ensures ok { IfOk result (λ bytes. IsAutoReport text.now (domain_text rows.entry) policy limit bytes.items) }
+    ensures ok { IfOk result (λ bytes. IsAutoReport text.now (domain_text rows.entry) policy limit format bytes.items) }
     ensures err { IfErr result (λ refusal. IsUnanswered (transitions_question exact text.now (domain_text rows.entry) policy limit)
         refusal) }
 {
     post_solutions_hold_along();
     let system = system_along(alloc, text, rows)?;
-    let bytes = report_of(alloc, &system, policy, limit, watch)?;
+    let bytes = report_of(alloc, &system, policy, limit, format, watch)?;
     Ok(bytes)
 }

@@ -19,11 +19,10 @@ use crate::analyse::rounds::solve;
 use crate::analyse::system::program_system;
 use crate::program::program_of;
 use crate::refusal::Refusal;
-use ask_checks::{
-    ChecksFault, check_verdicts, checks_text, has_open, open_states_break, proved_verdicts_hold,
-};
+use crate::written::written_checks;
+use ask_checks::{ChecksFault, check_verdicts, has_open, open_states_break, proved_verdicts_hold};
 use ask_verdicts::Verdict;
-use ask_words::{Domain, Policy};
+use ask_words::{Domain, Format, Policy};
 use base_watch::Watch;
 use flow_edges::{CheckCases, Checks};
 use flow_systems::{Bounds, Site, Spot, System};
@@ -33,7 +32,7 @@ use top_status::Excess;
 /// The verdicts on the checks of a program.
 #[derive(Drop)]
 pub struct Judged {
-    /// As lines, all of them.
+    /// As they are written in a format, all of them.
     pub bytes: Vec<u8>,
     /// Whether a check is open.
     pub is_open: bool,
@@ -103,8 +102,9 @@ fn verdicts_of(
     }
 }
 
-/// The verdicts of the least bounds of the program of `text`, over these rows, on the program's checks, with the number of
-/// improvements by the policy, of which there may be `limit` (docs/FORMATS.md, "Checks"); and whether a check is open.
+/// The verdicts of the least bounds of the program of `text`, in the file of this name, over these rows, on the program's checks, in a
+/// format, with the number of improvements by the policy, of which there may be `limit` (docs/FORMATS.md, "Checks"); and whether a
+/// check is open.
 ///
 /// # Errors
 ///
@@ -112,17 +112,19 @@ fn verdicts_of(
 /// too large, or want of memory.
 pub fn verify_text<W: Watch>(
     alloc: Global,
+    file: &[u8],
     text: &[u8],
     rows: Domain<&[u8]>,
     policy: Policy,
     limit: u32,
+    format: Format,
     watch: &mut W,
 ) -> Result<Judged, Refusal>
     requires short { length text.now ≤ MOST_TEXT_BYTES }
     requires short_rows { HasShortRows (domain_text rows) }
     requires limit { limit ≤ MOST_IMPROVEMENTS }
-    ensures ok { IfOk result (λ judged. AreCheckVerdictsOf exact text.now (domain_text rows.entry) policy limit (ending_of judged.is_open)
-        judged.bytes.items) }
+    ensures ok { IfOk result (λ judged. AreCheckVerdictsOf exact file.now text.now (domain_text rows.entry) policy limit format
+        (ending_of judged.is_open) judged.bytes.items) }
     ensures err { IfErr result (λ refusal. IsUnanswered (checks_question exact text.now (domain_text rows.entry) policy limit) refusal) }
 {
     proved_verdicts_hold();
@@ -134,6 +136,15 @@ pub fn verify_text<W: Watch>(
     let list = verdicts_of(alloc, system, &solved.bounds, checks)?;
     let is_open = has_open(&list);
     let names = system.flow.names.as_slice();
-    let bytes = checks_text(alloc, text, names, checks, &list, solved.improvements)?;
+    let bytes = written_checks(
+        alloc,
+        file,
+        text,
+        names,
+        checks,
+        &list,
+        solved.improvements,
+        format,
+    )?;
     Ok(Judged { bytes, is_open })
 }

@@ -13,8 +13,8 @@ use Rattle.acsl_annotate.specs.Annotated.{IsNoted, annotating}
 
 -- `solve` writes another text than there, all else is written as there
 written_ends : (asked : Request) (s : Status) (bytes : List ℕ) → (annotating exact asked).writes s bytes → (annotating exact asked).ends s
-written_ends (Analyse Report a) =
-    done_ends (λ s. (command_of exact (Analyse Report a)).ends s) (λ bytes. IsNoted a bytes)
+written_ends (Analyse Report a format) =
+    done_ends (λ s. (command_of exact (Analyse Report a format)).ends s) (λ bytes. IsNoted a bytes)
     (λ bytes h. rounds_end h.0.0 refl h.0.1 h.0.2)
 written_ends asked = (lawful asked).written_ends
 

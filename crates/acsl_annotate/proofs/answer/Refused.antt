@@ -1,6 +1,7 @@
 -- What is said where texts have no least bounds, and where they have.
 use Rattle.std.proofs.Common.{◌≡◌, ◌∙◌, ◌⊎◌, ⊎_elim, inr, ℕ, List, [], ap, refl, subst, sym}
 use Rattle.flow_systems.specs.View.{vector_at}
+use Rattle.ask_words.specs.declared.format.Format.{Format}
 use Rattle.ask_words.specs.declared.request.Analysis.{Analysis}
 use Rattle.ask_words.specs.declared.request.Domain.{Domain}
 use Rattle.ask_words.specs.declared.request.Policy.{Policy}
@@ -21,19 +22,19 @@ use Rattle.top_texts.specs.declared.analyse.least.LeastBounds.{LeastBounds}
 use Rattle.acsl_annotate.specs.Annotated.{IsAnnotatedOf, annotating}
 
 -- an ending without least bounds says its cause of the command that annotates
-pub refused_says : (a : Analysis (List ℕ)) (s : Status)
+pub refused_says : (a : Analysis (List ℕ)) (format : Format) (s : Status)
     → QuestionAnswer (analysis_question exact Report a.program a.domain a.policy a.improvements) s → IsUnput s
-    → Says (annotating exact (Analyse Report a)) s []
-refused_says a Done h u = absurd (u.undone refl)
-refused_says a (Certificate c) h u = absurd h
-refused_says a Open h u = absurd h
-refused_says a Usage h u = absurd h
-refused_says a (Read c) h u = absurd h
-refused_says a (Text c) h u = (is_refused c refl h, refl)
-refused_says a (Exceeded excess) h u = (inr h, refl)
-refused_says a (Spent n) h u = (h, refl)
-refused_says a Memory h u = refl
-refused_says a Write h u = absurd (u.unwritten refl)
+    → Says (annotating exact (Analyse Report a format)) s []
+refused_says a format Done h u = absurd (u.undone refl)
+refused_says a format (Certificate c) h u = absurd h
+refused_says a format Open h u = absurd h
+refused_says a format Usage h u = absurd h
+refused_says a format (Read c) h u = absurd h
+refused_says a format (Text c) h u = (is_refused c refl h, refl)
+refused_says a format (Exceeded excess) h u = (inr h, refl)
+refused_says a format (Spent n) h u = (h, refl)
+refused_says a format Memory h u = refl
+refused_says a format Write h u = absurd (u.unwritten refl)
 
 -- where bounds were found, the improvements end
 pub solvable : (text : List ℕ) (rows : Domain (List ℕ)) (policy : Policy) (limit : ℕ) (bounds : LeastBounds)
@@ -42,20 +43,20 @@ solvable text rows policy limit bounds h =
     (bounds.system, h.solved, (bounds.solved.improvements, h.within, vector_at bounds.system bounds.solved.bounds, h.has_rounds))
 
 -- where they were, the annotated text is written
-pub annotated_says : (a : Analysis (List ℕ)) (text : List ℕ) (bounds : LeastBounds) (bytes : List ℕ) → a.program ≡ text
+pub annotated_says : (a : Analysis (List ℕ)) (format : Format) (text : List ℕ) (bounds : LeastBounds) (bytes : List ℕ) → a.program ≡ text
     → IsFoundIn a.program a.domain a.policy a.improvements bounds
     → ((rows : Domain (List ℕ)) (policy : Policy) (limit : ℕ) → IsFoundIn text rows policy limit bounds → IsAnnotatedOf text rows bytes)
-    → Says (annotating exact (Analyse Report a)) Done bytes
-annotated_says a text bounds bytes e found annotated = (
+    → Says (annotating exact (Analyse Report a format)) Done bytes
+annotated_says a format text bounds bytes e found annotated = (
   solvable a.program a.domain a.policy a.improvements bounds found,
   subst (λ t. IsAnnotatedOf t a.domain bytes) (sym e)
       (annotated a.domain a.policy a.improvements (subst (λ t. IsFoundIn t a.domain a.policy a.improvements bounds) e found)),
 )
 
 -- an ending that has a status alone names no place
-pub plain_names : (a : Analysis (List ℕ)) (s : Status) (message : List ℕ) → message ≡ message_of 0 0 s → (s ≡ Done) ⊎ (s ≡ Memory)
-    → NamesPlace (Analyse Report a) s message
-plain_names a s message m h = record {
+pub plain_names : (a : Analysis (List ℕ)) (format : Format) (s : Status) (message : List ℕ) → message ≡ message_of 0 0 s
+    → (s ≡ Done) ⊎ (s ≡ Memory) → NamesPlace (Analyse Report a format) s message
+plain_names a format s message m h = record {
   line = 0;
   rows = 0;
   is_message = m;
@@ -65,10 +66,10 @@ plain_names a s message m h = record {
 }
 
 -- the ending of texts without least bounds names its place
-pub refused_names : (a : Analysis (List ℕ)) (ending : Ending) (s : Status) (message : List ℕ) → s ≡ ending.status
+pub refused_names : (a : Analysis (List ℕ)) (format : Format) (ending : Ending) (s : Status) (message : List ℕ) → s ≡ ending.status
     → message ≡ message_of ending.line ending.rows ending.status
-    → IsRefusedText a.program a.domain a.policy a.improvements ending → NamesPlace (Analyse Report a) s message
-refused_names a ending s message e m r = subst (λ x. NamesPlace (Analyse Report a) x message) (sym e) (record {
+    → IsRefusedText a.program a.domain a.policy a.improvements ending → NamesPlace (Analyse Report a format) s message
+refused_names a format ending s message e m r = subst (λ x. NamesPlace (Analyse Report a format) x message) (sym e) (record {
   line = ending.line;
   rows = ending.rows;
   is_message = m;

@@ -10,11 +10,11 @@ use Rattle.acsl_annotate.specs.Messages.{said_for, saying}
 
 -- the text whose line is named is the same, and so are the rows
 same_text : (asked : Request) (s : Status) → (command_of (saying exact) asked).named s ≡ (command_of exact asked).named s
-same_text (Analyse purpose a) s = refl
+same_text (Analyse purpose a format) s = refl
 same_text asked s = refl
 
 same_rows : (asked : Request) (count : ℕ) → (command_of (saying exact) asked).has_rows count → (command_of exact asked).has_rows count
-same_rows (Analyse purpose a) count h = h
+same_rows (Analyse purpose a format) count h = h
 same_rows asked count h = h
 
 said : (words contents : List (List ℕ)) (s : Status) (message shown : List ℕ) → shown ≡ said_for s message

@@ -7,7 +7,9 @@ use Rattle.clap.specs.Kinds.{Kinds}
 use Rattle.clap.specs.Faults.{fault_of}
 use Rattle.clap.proofs.OnLiterals.{clap_on_literals}
 use Rattle.ask_words.specs.Request.{tmpl_app}
-use Rattle.ask_words.specs.Request.{analysis_in, analyse_in, command_in, request_of, unless_fault}
+use Rattle.ask_words.specs.Request.{analysis_in, command_in, format_in, request_of, solve_in, unless_fault}
+use Rattle.ask_words.specs.Values.{formats}
+use Rattle.ask_words.specs.declared.format.Format.{Format}
 use Rattle.ask_words.specs.declared.request.Analysis.{Analysis}
 use Rattle.ask_words.specs.declared.request.Purpose.TheVariants.{Report}
 use Rattle.ask_words.specs.declared.request.Request.{Request}
@@ -37,24 +39,25 @@ found q = (_, refl)
 
 -- and what is asked is an analysis
 asked : (rest : List Text) → (rows : List Row) × (option_and_then command_in (subcommand_of tmpl_app (codes "solve" ∷ rest))
-    ≡ analyse_in Report rows)
+    ≡ solve_in rows)
 asked rest =
     let (q, e) = met rest in
     let (rows, f) = found q in
     (rows, ap (option_and_then command_in) (ap (entered (built tmpl_app)) e ∙ f))
 
-analysed : (kinds : Kinds) (o : Option (Analysis Text)) (request : Request Text)
-    → unless_fault kinds (option_map (λ a. Analyse Report a) o) ≡ Some request
-    → (a : Analysis Text) × (request ≡ Analyse Report a)
-analysed [] None request e = cc
-analysed [] (Some a) request e = (a, cc)
-analysed (kind ∷ kinds) o request e = cc
+analysed : (kinds : Kinds) (f : Option Format) (o : Option (Analysis Text)) (request : Request Text)
+    → unless_fault kinds (option_and_then (λ a. option_map (λ format. Analyse Report a format) f) o) ≡ Some request
+    → (a : Analysis Text) × (format : Format) × (request ≡ Analyse Report a format)
+analysed [] f None request e = cc
+analysed [] None (Some a) request e = cc
+analysed [] (Some format) (Some a) request e = (a, format, cc)
+analysed (kind ∷ kinds) f o request e = cc
 
 -- words that begin with `solve` ask for the report of an analysis, if for anything
 pub reports : (rest : List Text) (request : Request Text) → request_of (codes "solve" ∷ rest) ≡ Some request
-    → (a : Analysis Text) × (request ≡ Analyse Report a)
+    → (a : Analysis Text) × (format : Format) × (request ≡ Analyse Report a format)
 unfolding request_of
 reports rest request e =
     let (rows, f) = asked rest in
-    analysed (fault_of tmpl_app (codes "solve" ∷ rest)) (analysis_in rows) request
+    analysed (fault_of tmpl_app (codes "solve" ∷ rest)) (format_in formats rows) (analysis_in rows) request
     (sym (ap (unless_fault (fault_of tmpl_app (codes "solve" ∷ rest))) f) ∙ e)

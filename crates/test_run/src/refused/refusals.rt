@@ -10,6 +10,7 @@ pub(crate) const USAGE: &[u8] =
       | check PROGRAM CERT | bench --seed N --loops K | upgrade CERT \
       | prove PROGRAM CLAIMS (the options of solve) | transitions FILE (the options of solve) \
       | equations FILE [--improvements N] [--policy P] | points PROGRAM | verify PROGRAM (the options of solve) \
+      | solve, check, transitions, equations, prove, verify: [--format F] \
       | solve, certify, prove, verify, transitions, equations: [--progress] | help [COMMAND]\n";
 
 // Lines of words that ask for nothing.

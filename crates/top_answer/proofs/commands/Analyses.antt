@@ -1,6 +1,6 @@
 -- The analysis of a program, for its report or for its certificate.
 use Rattle.std.proofs.Common.{◌≡◌, ◌∙◌, ◌⊎◌, ◌≤◌, ◌<◌, arith, ⊎_elim, ℕ, List, [], length, refl, sym, ap, subst, subst₂}
-use Rattle.std.specs.Prelude.{IfOk, IfErr, Result, Some, Vec}
+use Rattle.std.specs.Prelude.{IfOk, IfErr, Option, Result, Some, Vec, option_map}
 use Rattle.std.specs.declared.alloc.Global.{Global}
 use Rattle.clap.specs.Words.{Row}
 use Rattle.flow_systems.specs.View.{vector_of}
@@ -12,7 +12,10 @@ use Rattle.cert_text.specs.declared.limits.TheConstants.{MOST_VALUES}
 use Rattle.solve_rounds.specs.Solutions.{cert_with}
 use Rattle.ask_files.specs.Files.{Request, analysis_with}
 use Rattle.ask_files.specs.declared.which.Which.TheVariants as which
-use Rattle.ask_words.specs.Request.{analyse_in, analysis_in}
+use Rattle.ask_words.specs.Request.{analysis_in, certify_in, format_in, solve_in}
+use Rattle.ask_words.specs.Values.{formats}
+use Rattle.ask_words.specs.declared.format.Format.{Format}
+use Rattle.ask_words.specs.declared.format.Format.TheVariants as format
 use Rattle.ask_words.specs.declared.request.Analysis.{Analysis}
 use Rattle.ask_words.specs.declared.request.Domain.{Domain}
 use Rattle.ask_words.specs.declared.request.Policy.{Policy}
@@ -40,7 +43,7 @@ use Rattle.top_answer.proofs.commands.Lawful.{IsCommand, IsForNone, IsInRange, d
 use Rattle.top_answer.proofs.commands.Results.{answered, err_map, ok_map, question_says}
 use Rattle.top_answer.proofs.outputs.Reports.{report_once}
 use Rattle.top_answer.proofs.requests.Limits.{within}
-use Rattle.top_answer.proofs.requests.Numbers.{analysis_bounds, map_some}
+use Rattle.top_answer.proofs.requests.Numbers.{analysis_bounds, and_then_some, map_some}
 
 -- ---- what is written
 
@@ -72,10 +75,10 @@ certificate text rows policy limit bytes c = record {
   least = c.least;
 }
 
-put_by : (purpose : Purpose) (a : Analysis (List ℕ)) (bytes : List ℕ) → IsPutOf purpose a.program a.domain a.policy a.improvements bytes
-    → IsPut exact purpose a bytes
-put_by Report a bytes r = r
-put_by AsCertificate a bytes c = certificate a.program a.domain a.policy a.improvements bytes c
+put_by : (purpose : Purpose) (a : Analysis (List ℕ)) (format : Format) (bytes : List ℕ)
+    → IsPutOf purpose a.program a.domain a.policy a.improvements format bytes → IsPut exact purpose a format bytes
+put_by Report a format bytes r = r
+put_by AsCertificate a format bytes c = certificate a.program a.domain a.policy a.improvements bytes c
 
 -- ---- the laws
 
@@ -83,38 +86,53 @@ put_by AsCertificate a bytes c = certificate a.program a.domain a.policy a.impro
 abbrev question : Purpose → Analysis (List ℕ) → Question
 question purpose a = analysis_question exact purpose a.program a.domain a.policy a.improvements
 
-written_ends : (purpose : Purpose) (a : Analysis (List ℕ)) (bytes : List ℕ) → IsPut exact purpose a bytes
+written_ends : (purpose : Purpose) (a : Analysis (List ℕ)) (format : Format) (bytes : List ℕ) → IsPut exact purpose a format bytes
     → QuestionEnds (question purpose a) Done
-written_ends Report a bytes r = rounds_end r.system refl
+written_ends Report a format bytes r = rounds_end r.system refl
     (record { names = r.names; body = r.body; template = r.template; ready = r.ready; system_for = r.system_for })
     (r.rounds, r.within, r.vector, r.has_rounds)
-written_ends AsCertificate a bytes c = rounds_end c.made.system refl
+written_ends AsCertificate a format bytes c = rounds_end c.made.system refl
     (record { names = c.made.names; body = c.made.body; template = c.made.template; ready = c.made.ready; system_for = c.made.system_for })
     (solved_ends c.made.system a.policy a.improvements c.made.solved c.made.is_solved)
 
-one_report : (a : Analysis (List ℕ)) (one other : List ℕ) → IsPut exact Report a one → IsPut exact Report a other → one ≡ other
-one_report a one other h k = report_once a.program a.domain a.policy a.improvements one other h k
+one_report : (a : Analysis (List ℕ)) (format : Format) (one other : List ℕ) → IsPut exact Report a format one
+    → IsPut exact Report a format other → one ≡ other
+one_report a format one other h k = report_once a.program a.domain a.policy a.improvements format one other h k
 
-writes_once : (purpose : Purpose) (a : Analysis (List ℕ)) → IsForNone (Analyse purpose a) → (contents : List (List ℕ)) (s t : Status)
-    (one other : List ℕ) → done_writes (λ bytes. IsPut exact purpose (analysis_with a contents) bytes) s one
-    → done_writes (λ bytes. IsPut exact purpose (analysis_with a contents) bytes) t other → one ≡ other
-writes_once Report a none contents s t one other h k =
-    done_once (λ bytes. IsPut exact Report (analysis_with a contents) bytes) (one_report (analysis_with a contents)) s t one other h k
-writes_once AsCertificate a none contents s t one other h k = absurd (none a refl)
+writes_once : (purpose : Purpose) (a : Analysis (List ℕ)) (format : Format) → IsForNone (Analyse purpose a format)
+    → (contents : List (List ℕ)) (s t : Status) (one other : List ℕ)
+    → done_writes (λ bytes. IsPut exact purpose (analysis_with a contents) format bytes) s one
+    → done_writes (λ bytes. IsPut exact purpose (analysis_with a contents) format bytes) t other → one ≡ other
+writes_once Report a format none contents s t one other h k =
+    done_once (λ bytes. IsPut exact Report (analysis_with a contents) format bytes) (one_report (analysis_with a contents) format) s t one
+    other h k
+writes_once AsCertificate a format none contents s t one other h k = absurd (none a format refl)
 
 -- an analysis is a command of the program
-pub analyses : (purpose : Purpose) (a : Analysis (List ℕ)) → IsCommand (Analyse purpose a)
-analyses purpose a = record {
+pub analyses : (purpose : Purpose) (a : Analysis (List ℕ)) (format : Format) → IsCommand (Analyse purpose a format)
+analyses purpose a format = record {
   lawful = lawful (question purpose a) (analysis_once purpose a.program a.domain a.policy a.improvements)
-      (λ bytes. IsPut exact purpose a bytes) (written_ends purpose a);
-  writes_once = writes_once purpose a;
+      (λ bytes. IsPut exact purpose a format bytes) (written_ends purpose a format);
+  writes_once = writes_once purpose a format;
   limits = λ contents range e. within (which.Program, a.program) a [] contents refl range e;
 }
 
+report_in : List Row → Analysis (List ℕ) → Option Request
+report_in given a = option_map (λ format. Analyse Report a format) (format_in formats given)
+
 -- its improvements are within their limit
-pub analysis_range : (purpose : Purpose) (given : List Row) (r : Request) → analyse_in purpose given ≡ Some r → IsInRange r
-analysis_range purpose given r e =
-    let made : Analysis (List ℕ) → Request = λ a. Analyse purpose a in
+pub solve_range : (given : List Row) (r : Request) → solve_in given ≡ Some r → IsInRange r
+unfolding report_in
+solve_range given r e =
+    let a = and_then_some (report_in given) (analysis_in given) r e in
+    let made : Format → Request = λ format. Analyse Report a.0 format in
+    let format = map_some made (format_in formats given) r a.2 in
+    subst (λ r. IsInRange r) format.2 (analysis_bounds given a.0 a.1)
+
+-- so are those of a certificate
+pub certify_range : (given : List Row) (r : Request) → certify_in given ≡ Some r → IsInRange r
+certify_range given r e =
+    let made : Analysis (List ℕ) → Request = λ a. Analyse AsCertificate a format.Text in
     let a = map_some made (analysis_in given) r e in
     subst (λ r. IsInRange r) a.2 (analysis_bounds given a.0 a.1)
 
@@ -122,19 +140,19 @@ analysis_range purpose given r e =
 
 module _ (a : Analysis (List ℕ)) (system : System) (is : IsSolvedSystem a.program a.domain system) where
   -- what the analysis of a system comes to is what its texts do
-  pub solved : (purpose : Purpose) (r : Result (Vec ℕ Global) Refusal) (s : Status) (bytes : List ℕ)
-      → IfOk r (λ made. IsOutputOf purpose system a.policy a.improvements made.items)
+  pub solved : (purpose : Purpose) (format : Format) (r : Result (Vec ℕ Global) Refusal) (s : Status) (bytes : List ℕ)
+      → IfOk r (λ made. IsOutputOf purpose system a.policy a.improvements format made.items)
       → IfErr r (λ x. IsHalted purpose system a.policy a.improvements x) → HasOutcome r s bytes
-      → Says (command_of exact (Analyse purpose a)) s bytes
-  solved purpose r s bytes ok err h = answered (question purpose a) (λ b. IsPut exact purpose a b) r s bytes
-      (ok_map (λ b. IsOutputOf purpose system a.policy a.improvements b) _
-      (λ b o. put_by purpose a b (output_put purpose a.program a.domain system a.policy a.improvements b is o)) r ok)
+      → Says (command_of exact (Analyse purpose a format)) s bytes
+  solved purpose format r s bytes ok err h = answered (question purpose a) (λ b. IsPut exact purpose a format b) r s bytes
+      (ok_map (λ b. IsOutputOf purpose system a.policy a.improvements format b) _
+      (λ b o. put_by purpose a format b (output_put purpose a.program a.domain system a.policy a.improvements format b is o)) r ok)
       (err_map (λ x. IsHalted purpose system a.policy a.improvements x) _
       (unsolved purpose a.program a.domain a.policy a.improvements system is) r err) h
 
 -- texts that have no system
-pub unsolvable : (purpose : Purpose) (a : Analysis (List ℕ)) (x : Refusal) (s : Status) (bytes : List ℕ)
-    → IsRefusedBy a.program a.domain x → (s ≡ refused x) × (bytes ≡ []) → Says (command_of exact (Analyse purpose a)) s bytes
-unsolvable purpose a x s bytes h (e, i) = subst₂ (λ t b. Says (command_of exact (Analyse purpose a)) t b) (sym e) (sym i)
-    (question_says (question purpose a) (λ b. IsPut exact purpose a b) x
+pub unsolvable : (purpose : Purpose) (a : Analysis (List ℕ)) (format : Format) (x : Refusal) (s : Status) (bytes : List ℕ)
+    → IsRefusedBy a.program a.domain x → (s ≡ refused x) × (bytes ≡ []) → Says (command_of exact (Analyse purpose a format)) s bytes
+unsolvable purpose a format x s bytes h (e, i) = subst₂ (λ t b. Says (command_of exact (Analyse purpose a format)) t b) (sym e) (sym i)
+    (question_says (question purpose a) (λ b. IsPut exact purpose a format b) x
     (unsystematic purpose a.program a.domain a.policy a.improvements x h))

@@ -3,11 +3,13 @@ use Rattle.std.proofs.Common.{◌≡◌, inl, ℕ, List, [], ◌∷◌, refl, sy
 use Rattle.std.specs.Prelude.{IfOk, IfErr, Result, Ok, Err, Some, Vec}
 use Rattle.std.specs.declared.alloc.Global.{Global}
 use Rattle.clap.specs.Words.{Row, Text as WordText, first_of}
-use Rattle.std.specs.Prelude.{Option, codes, option_map}
+use Rattle.std.specs.Prelude.{Option, codes, option_and_then, option_map}
 use Rattle.theory_validity.specs.Certificates.{bounds_vector}
 use Rattle.ask_files.specs.Files.{Request, text_at}
 use Rattle.ask_files.specs.declared.which.Which.TheVariants as which
-use Rattle.ask_words.specs.Request.{check_in}
+use Rattle.ask_words.specs.Request.{check_in, format_in}
+use Rattle.ask_words.specs.Values.{formats}
+use Rattle.ask_words.specs.declared.format.Format.{Format}
 use Rattle.ask_words.specs.declared.request.Request.TheVariants.{Check}
 use Rattle.top_answer.specs.Commands as commands
 use Rattle.top_answer.specs.Commands.{CheckEnds, IsChecked, command_of}
@@ -59,8 +61,9 @@ check_end_back text bytes s (commands.accepted names body rows vector e h) =
 -- ---- the laws
 
 -- the report of a certificate that is accepted is one by the exact meanings
-checked : (text given bytes : List ℕ) → IsReportBy text given bytes → IsChecked exact text given bytes
-checked text given bytes r = record {
+checked : (text given : List ℕ) (format : Format) (bytes : List ℕ) → IsReportBy text given format bytes
+    → IsChecked exact text given format bytes
+checked text given format bytes r = record {
   names = r.names;
   body = r.body;
   rows = r.cert.rows;
@@ -70,55 +73,61 @@ checked text given bytes r = record {
 }
 
 -- a check is a command of the program
-pub checks : (text given : List ℕ) → IsCommand (Check text given)
-checks text given = record {
+pub checks : (text given : List ℕ) (format : Format) → IsCommand (Check text given format)
+checks text given format = record {
   lawful = record {
     ends_once = λ s t h k. check_ends_once text given s t (check_staged text given s (check_end_back text given s h))
         (check_staged text given t (check_end_back text given t k));
     exceeded_ends = λ excess s w h. absurd w;
-    written_ends = done_ends (λ s. CheckEnds exact text given s) (λ bytes. IsChecked exact text given bytes)
+    written_ends = done_ends (λ s. CheckEnds exact text given s) (λ bytes. IsChecked exact text given format bytes)
         (λ bytes r. commands.accepted r.names r.body r.rows r.vector refl r.accepted);
     never_unread = λ cause h. check_end_back text given (Read cause) h;
     never_unwritten = λ h. check_end_back text given Write h;
   };
-  writes_once = λ none contents. done_once (λ bytes. IsChecked exact (text_at contents 0) (text_at contents 1) bytes)
-      (checked_once (text_at contents 0) (text_at contents 1));
+  writes_once = λ none contents. done_once (λ bytes. IsChecked exact (text_at contents 0) (text_at contents 1) format bytes)
+      (checked_once (text_at contents 0) (text_at contents 1) format);
   limits = λ contents range e. first_short (which.Program, text) ((which.Certificate, given) ∷ []) contents refl e;
 }
 
+check_by : List Row → (program certificate : WordText) → Option Request
+check_by given program certificate = option_map (λ format. Check program certificate format) (format_in formats given)
+
 check_of : List Row → WordText → Option Request
-check_of given program = option_map (λ certificate. Check program certificate) (first_of (codes "certificate") given)
+check_of given program = option_and_then (check_by given program) (first_of (codes "certificate") given)
 
 -- it has no number
 pub check_range : (given : List Row) (r : Request) → check_in given ≡ Some r → IsInRange r
-unfolding check_of
+unfolding check_of check_by
 check_range given r e =
     let p = and_then_some (check_of given) (first_of (codes "program") given) r e in
-    let made : WordText → Request = λ certificate. Check p.0 certificate in
-    ranged made (first_of (codes "certificate") given) r p.2 (λ certificate. tt)
+    let q = and_then_some (check_by given p.0) (first_of (codes "certificate") given) r p.2 in
+    let made : Format → Request = λ format. Check p.0 q.0 format in
+    ranged made (format_in formats given) r q.2 (λ format. tt)
 
 -- ---- its result
 
-check_says : (text given : List ℕ) (x : Refusal) → IsAnswerToCheck text given (refused x)
-    → Says (command_of exact (Check text given)) (refused x) []
-check_says text given (refusal.Text c) h = (check_end text given (Text c) h, refl)
-check_says text given (refusal.Certificate c) h = (check_end text given (Refused c) h, refl)
-check_says text given (refusal.Exceeded excess) h = (inl (check_end text given (Exceeded excess) h), refl)
-check_says text given (refusal.Spent n) h = absurd h
-check_says text given refusal.NoMemory h = refl
+check_says : (text given : List ℕ) (format : Format) (x : Refusal) → IsAnswerToCheck text given (refused x)
+    → Says (command_of exact (Check text given format)) (refused x) []
+check_says text given format (refusal.Text c) h = (check_end text given (Text c) h, refl)
+check_says text given format (refusal.Certificate c) h = (check_end text given (Refused c) h, refl)
+check_says text given format (refusal.Exceeded excess) h = (inl (check_end text given (Exceeded excess) h), refl)
+check_says text given format (refusal.Spent n) h = absurd h
+check_says text given format refusal.NoMemory h = refl
 
 -- a certificate that is spelt, and its report or why there is none
-pub reported : (text given : List ℕ) (names : _) (body : _) (cert : _) (r : Result (Vec ℕ Global) Refusal) (s : Status) (bytes : List ℕ)
-    → IsSpelt text given names body cert → IfOk r (λ made. (t g : List ℕ) → IsSpelt t g names body cert → IsReportBy t g made.items)
-    → IfErr r (λ x. GetsNoReport names body cert x) → HasOutcome r s bytes → Says (command_of exact (Check text given)) s bytes
-reported text given names body cert (Ok made) s bytes spelt ok err h =
-    outcome_says (command_of exact (Check text given)) (Ok made) s bytes (checked text given made.items (ok text given spelt)) tt h
-reported text given names body cert (Err x) s bytes spelt ok err h =
-    outcome_says (command_of exact (Check text given)) (Err x) s bytes tt
-    (check_says text given x (unreported_answers text given names body cert x spelt err)) h
+pub reported : (text given : List ℕ) (format : Format) (names : _) (body : _) (cert : _) (r : Result (Vec ℕ Global) Refusal) (s : Status)
+    (bytes : List ℕ) → IsSpelt text given names body cert
+    → IfOk r (λ made. (t g : List ℕ) → IsSpelt t g names body cert → IsReportBy t g format made.items)
+    → IfErr r (λ x. GetsNoReport names body cert x) → HasOutcome r s bytes → Says (command_of exact (Check text given format)) s bytes
+reported text given format names body cert (Ok made) s bytes spelt ok err h =
+    outcome_says (command_of exact (Check text given format)) (Ok made) s bytes (checked text given format made.items (ok text given spelt))
+    tt h
+reported text given format names body cert (Err x) s bytes spelt ok err h =
+    outcome_says (command_of exact (Check text given format)) (Err x) s bytes tt
+    (check_says text given format x (unreported_answers text given names body cert x spelt err)) h
 
 -- a text or bytes that spell no certificate of it
-pub unspelt : (text given : List ℕ) (x : Refusal) (s : Status) (bytes : List ℕ) → IsUnspelt text given x
-    → (s ≡ refused x) × (bytes ≡ []) → Says (command_of exact (Check text given)) s bytes
-unspelt text given x s bytes h (e, i) = subst₂ (λ t b. Says (command_of exact (Check text given)) t b) (sym e) (sym i)
-    (check_says text given x (unspelt_answers text given x h))
+pub unspelt : (text given : List ℕ) (format : Format) (x : Refusal) (s : Status) (bytes : List ℕ) → IsUnspelt text given x
+    → (s ≡ refused x) × (bytes ≡ []) → Says (command_of exact (Check text given format)) s bytes
+unspelt text given format x s bytes h (e, i) = subst₂ (λ t b. Says (command_of exact (Check text given format)) t b) (sym e) (sym i)
+    (check_says text given format x (unspelt_answers text given x h))

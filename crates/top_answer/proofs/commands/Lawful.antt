@@ -3,6 +3,7 @@ use Rattle.std.proofs.Common.{◌≡◌, ◌≢◌, ℕ, List, refl, subst, sym}
 use Rattle.std.specs.Prelude.{None}
 use Rattle.ask_files.specs.Files.{Request, files_of, unread, with_texts}
 use Rattle.ask_files.specs.declared.which.ReadCause.{ReadCause}
+use Rattle.ask_words.specs.declared.format.Format.{Format}
 use Rattle.ask_words.specs.declared.request.Analysis.{Analysis}
 use Rattle.ask_words.specs.declared.request.Purpose.TheVariants.{Certificate}
 use Rattle.ask_words.specs.declared.request.Request.TheVariants.{Analyse}
@@ -67,7 +68,7 @@ IsInRange request = (command_of exact request).in_range
 
 -- the request is for no certificate
 abbrev pub IsForNone : Request → Type 0
-IsForNone request = (analysis : Analysis (List ℕ)) → request ≢ Analyse Certificate analysis
+IsForNone request = (analysis : Analysis (List ℕ)) (format : Format) → request ≢ Analyse Certificate analysis format
 
 -- what is shown of each request of the program
 pub record IsCommand (request : Request) : Type 0 where

@@ -4,14 +4,13 @@ use Rattle.std.specs.Prelude.{Option, Some, None, codes}
 use Rattle.std.specs.Str.{bytes_eq}
 use Rattle.clap.specs.Words.{Row, Text}
 use Rattle.ask_files.specs.Files.{Request, files_of, unread, with_texts}
-use Rattle.ask_words.specs.Request.{analyse_in, bench_in, check_in, command_in, equations_in, help_in, points_in, prove_in}
+use Rattle.ask_words.specs.Request.{bench_in, certify_in, check_in, command_in, equations_in, help_in, points_in, prove_in, solve_in}
 use Rattle.ask_words.specs.Request.{transitions_in, upgrade_in, verify_in}
-use Rattle.ask_words.specs.declared.request.Purpose.TheVariants.{Report, Certificate}
 use Rattle.ask_words.specs.declared.request.Request.TheVariants.{Analyse, Check, Bench, Upgrade, Prove, Transitions, Equations, Points}
 use Rattle.ask_words.specs.declared.request.Request.TheVariants.{Verify, Help}
 use Rattle.top_answer.specs.Commands.{command_of}
 use Rattle.top_texts.specs.Exact.{exact}
-use Rattle.top_answer.proofs.commands.Analyses.{analyses, analysis_range}
+use Rattle.top_answer.proofs.commands.Analyses.{analyses, certify_range, solve_range}
 use Rattle.top_answer.proofs.commands.Checks.{check_range, checks}
 use Rattle.top_answer.proofs.commands.Claims.{claims, claims_range}
 use Rattle.top_answer.proofs.commands.Equations.{equations, equations_range}
@@ -25,15 +24,15 @@ use Rattle.top_answer.proofs.requests.Numbers.{none_some}
 
 -- each request is for a command of the program
 pub table : (request : Request) → IsCommand request
-table (Analyse purpose a) = analyses purpose a
-table (Check text given) = checks text given
+table (Analyse purpose a format) = analyses purpose a format
+table (Check text given format) = checks text given format
 table (Bench seed loops) = benches seed loops
 table (Upgrade given) = upgrades given
-table (Prove given a) = claims given a
-table (Transitions a) = transitions a
-table (Equations text limit policy) = equations text limit policy
+table (Prove given a format) = claims given a format
+table (Transitions a format) = transitions a format
+table (Equations text limit policy format) = equations text limit policy format
 table (Points text) = points text
-table (Verify a) = verifies a
+table (Verify name a format) = verifies name a format
 table (Help topic) = pages topic
 
 -- the commands of the program are lawful
@@ -55,8 +54,8 @@ if_range false x y r h k e = k e
 -- the numbers of a command that is named are within their limits
 pub named_range : (p : Text × List Row) (r : Request) → command_in p ≡ Some r → IsInRange r
 named_range (name, given) r e =
-    if_range (bytes_eq name (codes "solve")) (analyse_in Report given) _ r (analysis_range Report given r)
-    (if_range (bytes_eq name (codes "certify")) (analyse_in Certificate given) _ r (analysis_range Certificate given r)
+    if_range (bytes_eq name (codes "solve")) (solve_in given) _ r (solve_range given r)
+    (if_range (bytes_eq name (codes "certify")) (certify_in given) _ r (certify_range given r)
     (if_range (bytes_eq name (codes "check")) (check_in given) _ r (check_range given r)
     (if_range (bytes_eq name (codes "bench")) (bench_in given) _ r (bench_range given r)
     (if_range (bytes_eq name (codes "upgrade")) (upgrade_in given) _ r (upgrade_range given r)

@@ -1,6 +1,6 @@
 -- The verdicts on a program's checks.
 use Rattle.std.proofs.Common.{◌≡◌, inr, ℕ, Bool, true, false, List, [], refl, subst, subst₂, sym}
-use Rattle.std.specs.Prelude.{IfOk, IfErr, Result, Ok, Err, Some}
+use Rattle.std.specs.Prelude.{IfOk, IfErr, Option, Result, Ok, Err, Some, option_map}
 use Rattle.clap.specs.Words.{Row, Text as WordText}
 use Rattle.lang_tree.specs.Tree.{Statements}
 use Rattle.flow_systems.specs.Equations.{Equations, Vector}
@@ -8,7 +8,9 @@ use Rattle.ask_checks.proofs.laws.Determined.{verdicts_are_one}
 use Rattle.ask_files.specs.Files.{Request, analysis_with}
 use Rattle.ask_files.specs.declared.which.ReadCause.{ReadCause}
 use Rattle.ask_files.specs.declared.which.Which.TheVariants as which
-use Rattle.ask_words.specs.Request.{analysis_in, verify_in}
+use Rattle.ask_words.specs.Request.{analysis_in, format_in, verify_in}
+use Rattle.ask_words.specs.Values.{check_formats}
+use Rattle.ask_words.specs.declared.format.Format.{Format}
 use Rattle.ask_words.specs.declared.request.Analysis.{Analysis}
 use Rattle.ask_words.specs.declared.request.Request.TheVariants.{Verify}
 use Rattle.top_answer.specs.Answers.{IsOfRounds, of_ended, of_open, of_spent}
@@ -31,7 +33,7 @@ use Rattle.top_texts.proofs.texts.Once.{ready_unrefused}
 use Rattle.top_answer.proofs.commands.Asking.{exceeded_of_rounds, never_unread, never_unwritten}
 use Rattle.top_answer.proofs.commands.Lawful.{IsCommand, IsInRange}
 use Rattle.top_answer.proofs.requests.Limits.{within}
-use Rattle.top_answer.proofs.requests.Numbers.{analysis_bounds, map_some}
+use Rattle.top_answer.proofs.requests.Numbers.{analysis_bounds, and_then_some, map_some}
 
 -- ---- one ending
 
@@ -85,14 +87,15 @@ module _ (a : Analysis (List ℕ)) where
   unwritten (unjudged h n) = never_unwritten question h
   unwritten (judged j) = write_undecided (decided Write j)
 
-one_list : (a : Analysis (List ℕ)) (s t : Status) (one other : List ℕ)
-    → AreCheckVerdictsOf exact a.program a.domain a.policy a.improvements s one
-    → AreCheckVerdictsOf exact a.program a.domain a.policy a.improvements t other → one ≡ other
-one_list a s t one other h k = check_verdicts_once a.program a.domain a.policy a.improvements verdicts_are_one s t one other h k
+one_list : (name : List ℕ) (a : Analysis (List ℕ)) (format : Format) (s t : Status) (one other : List ℕ)
+    → AreCheckVerdictsOf exact name a.program a.domain a.policy a.improvements format s one
+    → AreCheckVerdictsOf exact name a.program a.domain a.policy a.improvements format t other → one ≡ other
+one_list name a format s t one other h k =
+    check_verdicts_once a.program a.domain a.policy a.improvements verdicts_are_one name format s t one other h k
 
 -- it is a command of the program
-pub verifies : (a : Analysis (List ℕ)) → IsCommand (Verify a)
-verifies a = record {
+pub verifies : (name : List ℕ) (a : Analysis (List ℕ)) (format : Format) → IsCommand (Verify name a format)
+verifies name a format = record {
   lawful = record {
     ends_once = ends_once a;
     exceeded_ends = exceeded_ends a;
@@ -100,37 +103,44 @@ verifies a = record {
     never_unread = unread a;
     never_unwritten = unwritten a;
   };
-  writes_once = λ none contents. one_list (analysis_with a contents);
+  writes_once = λ none contents. one_list name (analysis_with a contents) format;
   limits = λ contents range e. within (which.Program, a.program) a [] contents refl range e;
 }
 
+verify_by : List Row → Analysis WordText → Option Request
+verify_by given a = option_map (λ format. Verify a.program a format) (format_in check_formats given)
+
 -- its improvements are within their limit
 pub verify_range : (given : List Row) (r : Request) → verify_in given ≡ Some r → IsInRange r
+unfolding verify_by
 verify_range given r e =
-    let made : Analysis WordText → Request = λ a. Verify a in
-    let a = map_some made (analysis_in given) r e in
-    subst (λ r. IsInRange r) a.2 (analysis_bounds given a.0 a.1)
+    let a = and_then_some (verify_by given) (analysis_in given) r e in
+    let made : Format → Request = λ format. Verify a.0.program a.0 format in
+    let format = map_some made (format_in check_formats given) r a.2 in
+    subst (λ r. IsInRange r) format.2 (analysis_bounds given a.0 a.1)
 
 -- ---- what a result says
 
-unanswered_says : (a : Analysis (List ℕ)) (x : Refusal) → IsUnanswered (question a) x → Says (command_of exact (Verify a)) (refused x) []
-unanswered_says a (refusal.Text cause) h = (unjudged (is_refused cause refl h) (λ e. cc), refl)
-unanswered_says a (refusal.Certificate cause) h = absurd h
-unanswered_says a (refusal.Exceeded excess) h = (inr h, refl)
-unanswered_says a (refusal.Spent n) h = (unjudged h (λ e. cc), refl)
-unanswered_says a refusal.NoMemory h = refl
+module _ (name : List ℕ) (a : Analysis (List ℕ)) (format : Format) where
+  unanswered_says : (x : Refusal) → IsUnanswered (question a) x → Says (command_of exact (Verify name a format)) (refused x) []
+  unanswered_says (refusal.Text cause) h = (unjudged (is_refused cause refl h) (λ e. cc), refl)
+  unanswered_says (refusal.Certificate cause) h = absurd h
+  unanswered_says (refusal.Exceeded excess) h = (inr h, refl)
+  unanswered_says (refusal.Spent n) h = (unjudged h (λ e. cc), refl)
+  unanswered_says refusal.NoMemory h = refl
 
-judged_says : (a : Analysis (List ℕ)) (is_open : Bool) (bytes : List ℕ)
-    → AreCheckVerdictsOf exact a.program a.domain a.policy a.improvements (ending_of is_open) bytes
-    → Says (command_of exact (Verify a)) (ending_of is_open) bytes
-judged_says a true bytes h = h
-judged_says a false bytes h = h
+  judged_says : (is_open : Bool) (bytes : List ℕ)
+      → AreCheckVerdictsOf exact name a.program a.domain a.policy a.improvements format (ending_of is_open) bytes
+      → Says (command_of exact (Verify name a format)) (ending_of is_open) bytes
+  judged_says true bytes h = h
+  judged_says false bytes h = h
 
--- its verdicts, or why there are none
-pub verified : (a : Analysis (List ℕ)) (r : Result Judged Refusal) (s : Status) (bytes : List ℕ)
-    → IfOk r (λ made. AreCheckVerdictsOf exact a.program a.domain a.policy a.improvements (ending_of made.is_open) made.bytes.items)
-    → IfErr r (λ x. IsUnanswered (question a) x) → HasVerdicts r s bytes → Says (command_of exact (Verify a)) s bytes
-verified a (Ok made) s bytes ok err (e, i) =
-    subst₂ (λ x b. Says (command_of exact (Verify a)) x b) (sym e) (sym i) (judged_says a made.is_open made.bytes.items ok)
-verified a (Err x) s bytes ok err (e, i) =
-    subst₂ (λ y b. Says (command_of exact (Verify a)) y b) (sym e) (sym i) (unanswered_says a x err)
+  -- its verdicts, or why there are none
+  pub verified : (r : Result Judged Refusal) (s : Status) (bytes : List ℕ)
+      → IfOk r (λ made. AreCheckVerdictsOf exact name a.program a.domain a.policy a.improvements format (ending_of made.is_open)
+      made.bytes.items)
+      → IfErr r (λ x. IsUnanswered (question a) x) → HasVerdicts r s bytes → Says (command_of exact (Verify name a format)) s bytes
+  verified (Ok made) s bytes ok err (e, i) =
+      subst₂ (λ x b. Says (command_of exact (Verify name a format)) x b) (sym e) (sym i) (judged_says made.is_open made.bytes.items ok)
+  verified (Err x) s bytes ok err (e, i) =
+      subst₂ (λ y b. Says (command_of exact (Verify name a format)) y b) (sym e) (sym i) (unanswered_says x err)

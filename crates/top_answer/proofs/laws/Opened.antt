@@ -1,6 +1,7 @@
 -- Which commands end where a check is open.
 use Rattle.std.proofs.Common.{◌≡◌, ℕ, List, refl, sym}
 use Rattle.ask_files.specs.Files.{Request}
+use Rattle.ask_words.specs.declared.format.Format.{Format}
 use Rattle.ask_words.specs.declared.request.Analysis.{Analysis}
 use Rattle.ask_words.specs.declared.request.Request.TheVariants.{Analyse, Check, Bench, Upgrade, Prove, Transitions, Equations, Points}
 use Rattle.ask_words.specs.declared.request.Request.TheVariants.{Verify, Help}
@@ -43,20 +44,21 @@ verified a (judged j) = j
 
 -- the command that judges checks alone does
 pub of_checks : (asked : Request) → (command_of exact asked).ends Open
-    → (a : Analysis (List ℕ)) × (asked ≡ Verify a) × IsJudged a.program a.domain a.policy a.improvements Open
-of_checks (Analyse purpose a) h = absurd (never_asked _ h)
-of_checks (Check text given) h = absurd (never_checked text given h)
+    → (name : List ℕ) × (a : Analysis (List ℕ)) × (format : Format) × (asked ≡ Verify name a format)
+    × IsJudged a.program a.domain a.policy a.improvements Open
+of_checks (Analyse purpose a format) h = absurd (never_asked _ h)
+of_checks (Check text given format) h = absurd (never_checked text given h)
 of_checks (Bench seed loops) h = absurd (never_asked _ h)
 of_checks (Upgrade given) h = absurd (never_upgraded given h)
-of_checks (Prove given a) h = absurd (never_asked _ h)
-of_checks (Transitions a) h = absurd (never_asked _ h)
-of_checks (Equations text limit policy) h = absurd (never_asked _ h)
+of_checks (Prove given a format) h = absurd (never_asked _ h)
+of_checks (Transitions a format) h = absurd (never_asked _ h)
+of_checks (Equations text limit policy format) h = absurd (never_asked _ h)
 of_checks (Points text) h = absurd (never_listed text h)
-of_checks (Verify a) h = (a, refl, verified a h)
+of_checks (Verify name a format) h = (name, a, format, refl, verified a h)
 of_checks (Help topic) h = absurd (never_helped (sym h))
 
 -- where improvements end it has one of its two endings
-pub judged_or_not : (a : Analysis (List ℕ)) → IsSolvable a.program a.domain a.policy a.improvements
-    → ((command_of exact (Verify a)).ends Done → ⊥) → ((command_of exact (Verify a)).ends Open → ⊥) → ⊥
-judged_or_not a solvable done other =
+pub judged_or_not : (name : List ℕ) (a : Analysis (List ℕ)) (format : Format) → IsSolvable a.program a.domain a.policy a.improvements
+    → ((command_of exact (Verify name a format)).ends Done → ⊥) → ((command_of exact (Verify name a format)).ends Open → ⊥) → ⊥
+judged_or_not name a format solvable done other =
     one_judged a.program a.domain a.policy a.improvements solvable (λ j. done (judged j)) (λ j. other (judged j))

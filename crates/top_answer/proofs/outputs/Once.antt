@@ -3,6 +3,7 @@ use Rattle.std.proofs.Common.{◌≡◌, ◌≢◌, ◌∙◌, ℕ, List, ap, su
 use Rattle.std.specs.Prelude.{Some}
 use Rattle.ask_files.specs.Files.{Request}
 use Rattle.ask_words.specs.Request.{request_of}
+use Rattle.ask_words.specs.declared.format.Format.{Format}
 use Rattle.ask_words.specs.declared.request.Analysis.{Analysis}
 use Rattle.ask_words.specs.declared.request.Purpose.TheVariants.{Certificate}
 use Rattle.ask_words.specs.declared.request.Request.TheVariants.{Analyse}
@@ -15,11 +16,11 @@ use Rattle.top_answer.proofs.commands.Table.{table}
 
 -- words that ask for no certificate have one output over contents
 pub one_output : (words contents : List (List ℕ)) (ending another : Status) (one other : List ℕ)
-    → ((analysis : Analysis (List ℕ)) → request_of words ≢ Some (Analyse Certificate analysis))
+    → ((analysis : Analysis (List ℕ)) (format : Format) → request_of words ≢ Some (Analyse Certificate analysis format))
     → IsOutput (command_of exact) words contents ending one → IsOutput (command_of exact) words contents another other → one ≡ other
 one_output words contents ending another one other none a b =
     (table a.asks.request).writes_once
-    (λ analysis e. none analysis (a.asks.request_is ∙ ap (λ (r : Request). Some r) e)) contents ending another one other
+    (λ analysis format e. none analysis format (a.asks.request_is ∙ ap (λ (r : Request). Some r) e)) contents ending another one other
     (subst (λ r. (command_of exact r).writes ending one) a.asks.asked_is a.written)
     (subst (λ r. (command_of exact r).writes another other) (one_asked words contents b.asked a.asked b.asks a.asks ∙ a.asks.asked_is)
     b.written)

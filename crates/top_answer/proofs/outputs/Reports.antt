@@ -10,15 +10,16 @@ use Rattle.flow_transitions.specs.Choices.{edges_of}
 use Rattle.flow_transitions.proofs.progress.Once.{one_answer}
 use Rattle.flow_systems.specs.declared.footer.Footer.TheVariants.{Accepted, Improvements}
 use Rattle.flow_systems.specs.Equations.{Equations, Least, Vector}
-use Rattle.flow_systems.specs.Report.{report_text}
 use Rattle.flow_systems.specs.Solutions.{equations_of_program}
 use Rattle.theory_validity.specs.Certificates.{bounds_vector}
 use Rattle.cert_types.specs.declared.cert.Cert.{Cert}
 use Rattle.cert_text.proofs.form_laws.Laws.{one_reading}
+use Rattle.ask_words.specs.declared.format.Format.{Format}
 use Rattle.ask_words.specs.declared.request.Domain.{Domain}
 use Rattle.ask_words.specs.declared.request.Policy.{Policy}
 use Rattle.top_texts.specs.Checks.{system_with}
 use Rattle.top_texts.specs.Exact.{exact}
+use Rattle.top_texts.specs.Formats.{report_in}
 use Rattle.top_texts.specs.LeastReports.{IsLeastReport, IsReportOf}
 use Rattle.top_texts.specs.Texts.{HasTemplate, IsSolvedSystem}
 use Rattle.top_texts.specs.TransitionTexts.{IsAutoReport}
@@ -32,19 +33,19 @@ use Rattle.top_answer.proofs.outputs.Vectors.{reports_agree}
 
 -- ---- of a program
 
-least_once : (names : List (List ℕ)) (body : Statements) (template : List (List ℤ)) (v w : Vector) (n m : ℕ) (one other : List ℕ)
-    → 0 < length template → n ≡ m → IsLeastReport names body template v (Improvements n) one
-    → IsLeastReport names body template w (Improvements m) other → one ≡ other
-least_once names body template v w n m one other some rounds a b =
+least_once : (format : Format) (names : List (List ℕ)) (body : Statements) (template : List (List ℤ)) (v w : Vector) (n m : ℕ)
+    (one other : List ℕ) → 0 < length template → n ≡ m → IsLeastReport names body template v (Improvements n) format one
+    → IsLeastReport names body template w (Improvements m) format other → one ≡ other
+least_once format names body template v w n m one other some rounds a b =
     a.report
-    ∙ reports_agree (equations_of_program (length names) body template) names (points_of_program body) v w (Improvements n)
+    ∙ reports_agree (equations_of_program (length names) body template) format names (points_of_program body) v w (Improvements n)
     (Improvements m) (numbering body).count some a.least b.least (ap (λ k. Improvements k) rounds)
     ∙ sym b.report
 
 -- the system of a report's texts
-solved_of : (text : List ℕ) (rows : Domain (List ℕ)) (policy : Policy) (limit : ℕ) (bytes : List ℕ)
-    (r : IsReportOf text rows policy limit bytes) → IsSolvedSystem text rows r.system
-solved_of text rows policy limit bytes r = record {
+solved_of : (text : List ℕ) (rows : Domain (List ℕ)) (policy : Policy) (limit : ℕ) (format : Format) (bytes : List ℕ)
+    (r : IsReportOf text rows policy limit format bytes) → IsSolvedSystem text rows r.system
+solved_of text rows policy limit format bytes r = record {
   names = r.names;
   body = r.body;
   template = r.template;
@@ -52,21 +53,23 @@ solved_of text rows policy limit bytes r = record {
   system_for = r.system_for;
 }
 
--- the texts of a program and of its rows have one report
-pub report_once : (text : List ℕ) (rows : Domain (List ℕ)) (policy : Policy) (limit : ℕ) (one other : List ℕ)
-    → IsReportOf text rows policy limit one → IsReportOf text rows policy limit other → one ≡ other
-report_once text rows policy limit one other a b =
+-- the texts of a program and of its rows have one report in a format
+pub report_once : (text : List ℕ) (rows : Domain (List ℕ)) (policy : Policy) (limit : ℕ) (format : Format) (one other : List ℕ)
+    → IsReportOf text rows policy limit format one → IsReportOf text rows policy limit format other → one ≡ other
+report_once text rows policy limit format one other a b =
     let same = program_once text (b.names, b.body) (a.names, a.body) b.ready.system.analysed.reading a.ready.system.analysed.reading in
     let template : b.template ≡ a.template =
     rows_once rows a.names b.template a.template (subst (λ (x : List (List ℕ) × Statements). HasTemplate rows x.0 (Ok b.template)) same
     b.ready.system.template_is) a.ready.system.template_is in
-    let least : IsLeastReport a.names a.body a.template b.vector (Improvements b.rounds) other =
-    subst (λ t. IsLeastReport a.names a.body t b.vector (Improvements b.rounds) other) template
-    (subst (λ (x : List (List ℕ) × Statements). IsLeastReport x.0 x.1 b.template b.vector (Improvements b.rounds) other) same b.least) in
+    let least : IsLeastReport a.names a.body a.template b.vector (Improvements b.rounds) format other =
+    subst (λ t. IsLeastReport a.names a.body t b.vector (Improvements b.rounds) format other) template
+    (subst (λ (x : List (List ℕ) × Statements). IsLeastReport x.0 x.1 b.template b.vector (Improvements b.rounds) format other) same
+    b.least) in
     let rounds = rounds_once a.system b.system policy a.rounds b.rounds a.vector b.vector
-    (solved_once text rows a.system b.system (solved_of text rows policy limit one a) (solved_of text rows policy limit other b))
+    (solved_once text rows a.system b.system (solved_of text rows policy limit format one a)
+    (solved_of text rows policy limit format other b))
     a.has_rounds b.has_rounds in
-    least_once a.names a.body a.template a.vector b.vector a.rounds b.rounds one other
+    least_once format a.names a.body a.template a.vector b.vector a.rounds b.rounds one other
     (some_row rows a.names a.template (program_names text a.names a.body a.ready.system.analysed.reading) a.ready.system.template_is)
     rounds a.least least
 
@@ -88,23 +91,24 @@ along c template = record {
   template = template;
 }
 
--- the bytes are the report of the least vector of a transition system and a template
-record IsReportAlong (c : Content) (template : List (List ℤ)) (vector : Vector) (rounds : ℕ) (bytes : List ℕ) : Type 0 where
+-- the bytes are the report in a format of the least vector of a transition system and a template
+record IsReportAlong (c : Content) (template : List (List ℤ)) (vector : Vector) (rounds : ℕ) (format : Format) (bytes : List ℕ) :
+    Type 0 where
   least : Least (along c template) vector
-  report : bytes ≡ report_text c.names c.points template vector (Improvements rounds)
+  report : bytes ≡ report_in format c.names c.points template vector (Improvements rounds)
 
-along_once : (c : Content) (template : List (List ℤ)) (v w : Vector) (n m : ℕ) (one other : List ℕ) → 0 < length template → n ≡ m
-    → IsReportAlong c template v n one → IsReportAlong c template w m other → one ≡ other
-along_once c template v w n m one other some rounds a b =
+along_once : (c : Content) (template : List (List ℤ)) (v w : Vector) (n m : ℕ) (format : Format) (one other : List ℕ)
+    → 0 < length template → n ≡ m → IsReportAlong c template v n format one → IsReportAlong c template w m format other → one ≡ other
+along_once c template v w n m format one other some rounds a b =
     a.report
-    ∙ reports_agree (along c template) c.names c.points v w (Improvements n) (Improvements m) refl some a.least b.least
+    ∙ reports_agree (along c template) format c.names c.points v w (Improvements n) (Improvements m) refl some a.least b.least
     (ap (λ k. Improvements k) rounds)
     ∙ sym b.report
 
--- the texts of a transition system and of its rows have one report
-pub auto_report_once : (text : List ℕ) (rows : Domain (List ℕ)) (policy : Policy) (limit : ℕ) (one other : List ℕ)
-    → IsAutoReport text rows policy limit one → IsAutoReport text rows policy limit other → one ≡ other
-auto_report_once text rows policy limit one other a b =
+-- the texts of a transition system and of its rows have one report in a format
+pub auto_report_once : (text : List ℕ) (rows : Domain (List ℕ)) (policy : Policy) (limit : ℕ) (format : Format) (one other : List ℕ)
+    → IsAutoReport text rows policy limit format one → IsAutoReport text rows policy limit format other → one ≡ other
+auto_report_once text rows policy limit format one other a b =
     let p = a.meant in
     let q = b.meant in
     let c : Content = content p.auto in
@@ -113,36 +117,37 @@ auto_report_once text rows policy limit one other a b =
     let template : q.template ≡ p.template =
     rows_once rows p.auto.names q.template p.template
     (subst (λ (x : Content). HasTemplate rows x.names (Ok q.template)) same q.over.template_is) p.over.template_is in
-    let ours : IsReportAlong c p.template a.vector a.rounds one = record { least = a.least; report = a.report } in
-    let theirs : IsReportAlong d q.template b.vector b.rounds other = record { least = b.least; report = b.report } in
-    let moved : IsReportAlong c p.template b.vector b.rounds other =
-    subst (λ t. IsReportAlong c t b.vector b.rounds other) template
-    (subst (λ x. IsReportAlong x q.template b.vector b.rounds other) same theirs) in
-    along_once c p.template a.vector b.vector a.rounds b.rounds one other
+    let ours : IsReportAlong c p.template a.vector a.rounds format one = record { least = a.least; report = a.report } in
+    let theirs : IsReportAlong d q.template b.vector b.rounds format other = record { least = b.least; report = b.report } in
+    let moved : IsReportAlong c p.template b.vector b.rounds format other =
+    subst (λ t. IsReportAlong c t b.vector b.rounds format other) template
+    (subst (λ x. IsReportAlong x q.template b.vector b.rounds format other) same theirs) in
+    along_once c p.template a.vector b.vector a.rounds b.rounds format one other
     (some_row rows p.auto.names p.template (auto_names text c p.over.text_is.reading) p.over.template_is)
     (rounds_once a.system b.system policy a.rounds b.rounds a.vector b.vector (systems_once text rows a.system b.system p q) a.has_rounds
     b.has_rounds) ours moved
 
 -- ---- of a certificate that is accepted
 
--- the report of the bounds of a certificate of a program
-abbrev bounds_report : List (List ℕ) × Statements → Cert → List ℕ
-bounds_report p cert = report_text p.0 (points_of_program p.1) cert.rows (bounds_vector (system_with p.0 p.1 cert) cert.bounds) Accepted
+-- the report in a format of the bounds of a certificate of a program
+abbrev bounds_report : Format → List (List ℕ) × Statements → Cert → List ℕ
+bounds_report format p cert =
+    report_in format p.0 (points_of_program p.1) cert.rows (bounds_vector (system_with p.0 p.1 cert) cert.bounds) Accepted
 
-is_bounds_report : (text certificate bytes : List ℕ) (r : IsChecked exact text certificate bytes)
-    → bytes ≡ bounds_report (r.names, r.body) r.accepted.cert
-is_bounds_report text certificate bytes r =
+is_bounds_report : (text certificate : List ℕ) (format : Format) (bytes : List ℕ) (r : IsChecked exact text certificate format bytes)
+    → bytes ≡ bounds_report format (r.names, r.body) r.accepted.cert
+is_bounds_report text certificate format bytes r =
     r.least.report
-    ∙ ap₂ (λ rows (v : Vector). report_text r.names (points_of_program r.body) rows v Accepted) (sym r.accepted.rows_are)
+    ∙ ap₂ (λ rows (v : Vector). report_in format r.names (points_of_program r.body) rows v Accepted) (sym r.accepted.rows_are)
     (sym r.accepted.vector_is)
 
--- the text of a program and the bytes of a certificate have one report
-pub checked_once : (text certificate one other : List ℕ) → IsChecked exact text certificate one → IsChecked exact text certificate other
-    → one ≡ other
-checked_once text certificate one other a b =
+-- the text of a program and the bytes of a certificate have one report in a format
+pub checked_once : (text certificate : List ℕ) (format : Format) (one other : List ℕ) → IsChecked exact text certificate format one
+    → IsChecked exact text certificate format other → one ≡ other
+checked_once text certificate format one other a b =
     let p = a.accepted.valid.system.spelt in
     let q = b.accepted.valid.system.spelt in
-    is_bounds_report text certificate one a
-    ∙ ap₂ bounds_report (program_once text (a.names, a.body) (b.names, b.body) p.analysed.reading q.analysed.reading)
+    is_bounds_report text certificate format one a
+    ∙ ap₂ (bounds_report format) (program_once text (a.names, a.body) (b.names, b.body) p.analysed.reading q.analysed.reading)
     (one_reading certificate a.accepted.cert b.accepted.cert p.spells q.spells)
-    ∙ sym (is_bounds_report text certificate other b)
+    ∙ sym (is_bounds_report text certificate format other b)

@@ -8,6 +8,11 @@ use Rattle.flow_systems.specs.Equations.{Equations, Least, Vector}
 use Rattle.flow_systems.specs.Report.{bound_lines, footer_line, head_line, point_lines, points_lines, report_text, row_line, row_lines}
 use Rattle.flow_systems.specs.Report.{variables_line}
 use Rattle.flow_systems.proofs.equations.Leastness.{at_most_one}
+use Rattle.out_json.specs.Pieces.{value_line}
+use Rattle.out_json.proofs.reports.Agree.{report_values_agree}
+use Rattle.ask_words.specs.declared.format.Format.{Format}
+use Rattle.ask_words.specs.declared.format.Format.TheVariants.{Text, Json, Sarif}
+use Rattle.top_texts.specs.Formats.{report_in}
 
 rows_agree : (names : List (List ℕ)) (r : ℕ) (rows : List (List ℤ)) (f g : ℕ → Ext)
     → ((s : ℕ) → r ≤ s → s < r + length rows → f s ≡ g s) → row_lines names r rows f ≡ row_lines names r rows g
@@ -40,12 +45,22 @@ module _ (names : List (List ℕ)) (template : List (List ℤ)) (some : 0 < leng
       h p r (omega arith) (omega arith) in
       ap₂ (λ first others. first ++ others) (point_agrees v w k point here) (points_agree v w (suc k) points rest)
 
--- a system has one report of least vectors, by its footer
-pub reports_agree : (system : Equations) (names : List (List ℕ)) (points : List Point) (v w : Vector) (footer other : Footer)
-    → length points ≡ system.points → 0 < length system.template → Least system v → Least system w → footer ≡ other
-    → report_text names points system.template v footer ≡ report_text names points system.template w other
-reports_agree system names points v w footer other count some a b e =
-    let agree : (p r : ℕ) → 0 ≤ p → p < 0 + length points → r < length system.template → v p r ≡ w p r = λ p r l h.
-    at_most_one system v w a b.solves b.below p r (omega (arith, count)) in
+-- vectors that agree at the points and the rows have one report in a format, by its footer
+reports_same : (format : Format) (names : List (List ℕ)) (points : List Point) (template : List (List ℤ)) (v w : Vector)
+    (footer other : Footer) → 0 < length template → ((p r : ℕ) → p < length points → r < length template → v p r ≡ w p r)
+    → footer ≡ other → report_in format names points template v footer ≡ report_in format names points template w other
+reports_same Text names points template v w footer other some agree e =
     ap₂ (λ lines last. variables_line names ++ lines ++ footer_line last)
-    (points_agree names system.template some v w 0 points agree) e
+    (points_agree names template some v w 0 points (λ p r l h. agree p r (omega arith))) e
+reports_same Json names points template v w footer other some agree e =
+    ap (λ d. value_line d) (report_values_agree template some names points v w footer other agree e)
+reports_same Sarif names points template v w footer other some agree e =
+    ap (λ d. value_line d) (report_values_agree template some names points v w footer other agree e)
+
+-- a system has one report of least vectors in a format, by its footer
+pub reports_agree : (system : Equations) (format : Format) (names : List (List ℕ)) (points : List Point) (v w : Vector)
+    (footer other : Footer) → length points ≡ system.points → 0 < length system.template → Least system v → Least system w → footer ≡ other
+    → report_in format names points system.template v footer ≡ report_in format names points system.template w other
+reports_agree system format names points v w footer other count some a b e =
+    reports_same format names points system.template v w footer other some
+    (λ p r h. at_most_one system v w a b.solves b.below p r (omega (arith, count))) e

@@ -16,7 +16,7 @@ untold status b is fails h =
     f
 
 gets : (status : Status) (message : List ℕ) (held now : Option (List ℕ)) (f f' s : ℕ) (r : Put) → (IsTrue (has_output status) → ⊥)
-    → length message ≤ 512
+    → length message ≤ 1024
     → Puts held now message r → HasPutCause f f' s message r → GetsMessage status message held now f f' s
 gets status message held now f f' s (Ok x) other short puts cause =
     record {
@@ -36,7 +36,7 @@ quiet status message held f f' s e = record { silent = λ i. refl; part = λ oth
 
 -- the bytes of a message were put
 pub told_by : (status : Status) (bytes message : List ℕ) (held now : Option (List ℕ)) (f f' s : ℕ) (r : Put) → bytes ≡ message
-    → length bytes ≤ 512 → (IsTrue (has_output status) → ⊥) → Puts held now bytes r → HasPutCause f f' s bytes r
+    → length bytes ≤ 1024 → (IsTrue (has_output status) → ⊥) → Puts held now bytes r → HasPutCause f f' s bytes r
     → GetsMessage status message held now f f' s
 told_by status bytes message held now f f' s r e short other puts cause =
     subst (λ m. GetsMessage status m held now f f' s) e (gets status bytes held now f f' s r other short puts cause)

@@ -10,6 +10,7 @@ use Rattle.ask_files.specs.Loads.{AreRead, LoadsEnd, contents_of}
 use Rattle.ask_files.specs.declared.which.ReadCause.{ReadCause}
 use Rattle.ask_files.specs.declared.which.ReadCause.TheVariants.{Failed, TooLong}
 use Rattle.ask_words.specs.Request.{request_of}
+use Rattle.ask_words.specs.declared.format.Format.{Format}
 use Rattle.ask_words.specs.declared.request.Analysis.{Analysis}
 use Rattle.ask_words.specs.declared.request.Purpose.TheVariants.{Report}
 use Rattle.ask_words.specs.declared.request.Request.TheVariants.{Analyse}
@@ -56,10 +57,10 @@ done_out : (s : Status) → s ≡ Done → IsTrue (has_output s)
 done_out s e = subst (λ x. IsTrue (has_output x)) (sym e) refl
 
 module _ (m : Meanings) (words : List (List ℕ)) (shelf now : ShelfSeen) (out out_now err err_now : SinkSeen) (status : Status)
-    (r : IsRun (command_of m) m words shelf now out out_now err err_now status) (analysis : Analysis (List ℕ))
-    (asked : request_of words ≡ Some (Analyse Report analysis)) where
+    (r : IsRun (command_of m) m words shelf now out out_now err err_now status) (analysis : Analysis (List ℕ)) (format : Format)
+    (asked : request_of words ≡ Some (Analyse Report analysis format)) where
   abbrev files : List NamedFile
-  files = files_of (Analyse Report analysis)
+  files = files_of (Analyse Report analysis format)
 
   abbrev contents : List (List ℕ)
   contents = contents_of r.made
@@ -78,32 +79,32 @@ module _ (m : Meanings) (words : List (List ℕ)) (shelf now : ShelfSeen) (out o
 
   unread_status : (cause : ReadCause) → unread files contents ≡ Some cause → (status ≡ Read cause) ⊎ (status ≡ Memory)
   unread_status cause un =
-      given_read cause (r.complete (Read cause) (answers.not_read (Analyse Report analysis) cause asked un refl)).given
+      given_read cause (r.complete (Read cause) (answers.not_read (Analyse Report analysis format) cause asked un refl)).given
 
   -- ---- where all are read
 
   module _ (all_read : AreRead shelf.files files r.made []) where
-    asks : Asks words contents (Analyse Report texts)
+    asks : Asks words contents (Analyse Report texts format)
     asks = record {
-      request = Analyse Report analysis;
+      request = Analyse Report analysis format;
       request_is = asked;
       all_read = unread_none shelf.files files r.made all_read;
       asked_is = refl;
     }
 
-    same_texts : (other : Request) → Asks words contents other → other ≡ Analyse Report texts
+    same_texts : (other : Request) → Asks words contents other → other ≡ Analyse Report texts format
     same_texts other a =
         a.asked_is
-        ∙ ap (λ q. with_texts q contents) (same_some (request_of words) a.request (Analyse Report analysis) a.request_is asked)
+        ∙ ap (λ q. with_texts q contents) (same_some (request_of words) a.request (Analyse Report analysis format) a.request_is asked)
 
     report_of : (bytes : List ℕ) → IsOutput (command_of m) words contents Done bytes
-        → IsReportOf texts.program texts.domain texts.policy texts.improvements bytes
+        → IsReportOf texts.program texts.domain texts.policy texts.improvements format bytes
     report_of bytes o = subst (λ q. (command_of m q).writes Done bytes) (same_texts o.asked o.asks) o.written
 
     excess_at : (excess : Excess) → IsExceeded (command_of m) words contents excess → IsExcessAt m texts excess
     excess_at excess w = subst (λ q. (command_of m q).exceeds excess) (same_texts w.asked w.asks) w.exceeds
 
-    prints : OutputGets (IsOutput (command_of m) words contents) words status out out_now → status ≡ Done → Prints texts out out_now
+    prints : OutputGets (IsOutput (command_of m) words contents) words status out out_now → status ≡ Done → Prints texts format out out_now
     prints (outputs.gets_whole bytes d is put) e = record {
       bytes = bytes;
       is_report = report_of bytes (subst (λ s. IsOutput (command_of m) words contents s bytes) e is);
@@ -125,18 +126,18 @@ module _ (m : Meanings) (words : List (List ℕ)) (shelf now : ShelfSeen) (out o
     given_done (run.answered (answers.exceeded excess e w of_rounds)) = headline.exceeded excess e (excess_at excess w)
     given_done (run.unwritten w d) = headline.unwritten w (rose r.output w)
 
-    analysed : IsAnalysed m texts out out_now status
+    analysed : IsAnalysed m texts format out out_now status
     analysed = record {
       sound = λ d. prints r.output d;
       complete = λ solvable. given_done
-          (r.complete Done (answers.decided (Analyse Report texts) asks (rounds_end solvable.0 refl solvable.1 solvable.2))).given;
+          (r.complete Done (answers.decided (Analyse Report texts format) asks (rounds_end solvable.0 refl solvable.1 solvable.2))).given;
     }
 
   -- ---- as the loads end
 
   comes_of : (result : Result (Unit {0}) AllocError) → (IsErr result → status ≡ Memory)
       → LoadsEnd shelf.files files r.made shelf.faults now.faults now.last_failed result
-      → Comes m analysis r.made shelf now out out_now status
+      → Comes m analysis format r.made shelf now out out_now status
   comes_of result memory (loads.all_read h calm ok) = headline.is_read h (analysed h)
   comes_of result memory (loads.failed file left h count last ok) =
       headline.has_failed file left h count last
@@ -147,14 +148,14 @@ module _ (m : Meanings) (words : List (List ℕ)) (shelf now : ShelfSeen) (out o
       (ap (λ ls. unread files (contents_of ls)) e ∙ unread_long shelf.files files before long file left h over))
   comes_of result memory (loads.wants_memory file left h calm err) = headline.wants_memory (memory err)
 
-  comes : IsLoading words r.made shelf now status → Comes m analysis r.made shelf now out out_now status
-  comes (loading.asks_nothing none e calm) = absurd (none_some (request_of words) (Analyse Report analysis) none asked)
+  comes : IsLoading words r.made shelf now status → Comes m analysis format r.made shelf now out out_now status
+  comes (loading.asks_nothing none e calm) = absurd (none_some (request_of words) (Analyse Report analysis format) none asked)
   comes (loading.loads request result is ends memory) =
       comes_of result memory
       (subst (λ q. LoadsEnd shelf.files (files_of q) r.made shelf.faults now.faults now.last_failed result)
-      (same_some (request_of words) request (Analyse Report analysis) is asked) ends)
+      (same_some (request_of words) request (Analyse Report analysis format) is asked) ends)
   comes (loading.loads_nothing e calm memory) = headline.wants_memory memory
 
   -- what a run promises is the headline
-  pub is_headline : IsHeadline m analysis shelf now out out_now status
+  pub is_headline : IsHeadline m analysis format shelf now out out_now status
   is_headline = record { made = r.made; log = r.log; comes = comes r.loads }

@@ -9,7 +9,7 @@ use Rattle.top_run.specs.Progress.{GetsLine}
 use Rattle.top_run.specs.Seen.{sink_with}
 
 gets : (line : List ℕ) (held held_now : Option (List ℕ)) (taken taken_now : Option (List (List ℕ))) (f f_now s s_now : ℕ) (r : Put)
-    → length line ≤ 512 → Puts held held_now line r → Takes taken taken_now line r → HasPutCause f f_now s line r
+    → length line ≤ 1024 → Puts held held_now line r → Takes taken taken_now line r → HasPutCause f f_now s line r
     → GetsLine line (sink_with held taken f s) (sink_with held_now taken_now f_now s_now)
 gets line held held_now taken taken_now f f_now s s_now (Ok done) short puts takes cause = record {
   part = (length line, subst (λ m. Appends held held_now m) (sym (take-length line)) puts);
@@ -23,7 +23,7 @@ gets line held held_now taken taken_now f f_now s s_now (Err NoMemory) short put
 
 -- the bytes of a line were put
 pub told : (bytes line : List ℕ) (held held_now : Option (List ℕ)) (taken taken_now : Option (List (List ℕ))) (f f_now s s_now : ℕ)
-    (r : Put) → bytes ≡ line → length bytes ≤ 512 → Puts held held_now bytes r → Takes taken taken_now bytes r
+    (r : Put) → bytes ≡ line → length bytes ≤ 1024 → Puts held held_now bytes r → Takes taken taken_now bytes r
     → HasPutCause f f_now s bytes r → GetsLine line (sink_with held taken f s) (sink_with held_now taken_now f_now s_now)
 told bytes line held held_now taken taken_now f f_now s s_now r e short puts takes cause =
     subst (λ m. GetsLine m (sink_with held taken f s) (sink_with held_now taken_now f_now s_now)) e

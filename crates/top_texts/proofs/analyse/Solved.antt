@@ -13,12 +13,13 @@ use Rattle.flow_templates.specs.Rows.{is_row, is_template, width_of}
 use Rattle.flow_systems.specs.declared.system.System.{System}
 use Rattle.flow_systems.specs.declared.footer.Footer.{Footer}
 use Rattle.flow_systems.specs.Equations.{Equations, Least, Vector}
-use Rattle.flow_systems.specs.Report.{report_of, report_text}
 use Rattle.flow_systems.specs.Solutions.{equations_of_program}
 use Rattle.flow_systems.specs.SystemLimits.{is_over}
 use Rattle.flow_systems.specs.View.{equations_of}
 use Rattle.flow_systems.proofs.Sizes.{both}
 use Rattle.flow_systems.proofs.states.Soundness.{program_soundness}
+use Rattle.ask_words.specs.declared.format.Format.{Format}
+use Rattle.top_texts.specs.Formats.{report_in, report_of_in}
 use Rattle.top_texts.specs.Reports.{IsLeastReport}
 use Rattle.flow_templates.specs.declared.limits.TheConstants.{MOST_ROWS}
 
@@ -36,24 +37,25 @@ same_equations names body s n p e =
     ∙ ap (λ es. made_of (length names) (point_count body) es s.template) e
 
 text_of : (names : List (List ℕ)) (body : Statements) (template : List (List ℤ)) (ns : List (List ℕ)) (points : List Point) (v : Vector)
-    (footer : Footer) (bytes : List ℕ)
-    → ns ≡ names → points ≡ points_of_program body → bytes ≡ report_text ns points template v footer
-    → bytes ≡ report_text names (points_of_program body) template v footer
-text_of names body template ns points v footer bytes n p h =
-    subst (λ ps. bytes ≡ report_text names ps template v footer) p
-    (subst (λ xs. bytes ≡ report_text xs points template v footer) n h)
+    (footer : Footer) (format : Format) (bytes : List ℕ)
+    → ns ≡ names → points ≡ points_of_program body → bytes ≡ report_in format ns points template v footer
+    → bytes ≡ report_in format names (points_of_program body) template v footer
+text_of names body template ns points v footer format bytes n p h =
+    subst (λ ps. bytes ≡ report_in format names ps template v footer) p
+    (subst (λ xs. bytes ≡ report_in format xs points template v footer) n h)
 
 -- the report of a system's least vector is that of its program and template
-pub least_report : (names : List (List ℕ)) (body : Statements) (s : System) (v : Vector) (footer : Footer) (bytes : List ℕ)
-    → s.flow.names ≡ names → s.flow.points ≡ points_of_program body → s.flow.edges ≡ edges_of_program body
-    → Least (equations_of s) v → bytes ≡ report_of s v footer → IsLeastReport names body s.template v footer bytes
-least_report names body s v footer bytes n p e least text =
+pub least_report : (names : List (List ℕ)) (body : Statements) (s : System) (v : Vector) (footer : Footer) (format : Format)
+    (bytes : List ℕ) → s.flow.names ≡ names → s.flow.points ≡ points_of_program body → s.flow.edges ≡ edges_of_program body
+    → Least (equations_of s) v → bytes ≡ report_of_in format s v footer
+    → IsLeastReport names body s.template v footer format bytes
+least_report names body s v footer format bytes n p e least text =
     let moved : Least (equations_of_program (length names) body s.template) v =
     subst (λ q. Least q v) (same_equations names body s n p e) least in
     record {
       least = moved;
       holds = program_soundness (length names) body s.template v moved.solves.post;
-      report = text_of names body s.template s.flow.names s.flow.points v footer bytes n p text;
+      report = text_of names body s.template s.flow.names s.flow.points v footer format bytes n p text;
     }
 
 -- ---- each row of a template is as wide as the first

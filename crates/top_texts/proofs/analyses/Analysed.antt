@@ -14,6 +14,7 @@ use Rattle.flow_systems.specs.View.{equations_of, vector_of}
 use Rattle.flow_systems.proofs.Sizes.{both}
 use Rattle.theory_validity.specs.Certificates.{ValidCertificate}
 use Rattle.solve_rounds.specs.Solutions.{cert_with, made_certificate}
+use Rattle.ask_words.specs.declared.format.Format.{Format}
 use Rattle.ask_words.specs.declared.request.Domain.{Domain}
 use Rattle.ask_words.specs.declared.request.Policy.{Policy}
 use Rattle.top_status.specs.CheckMessages.{rows_of}
@@ -43,10 +44,10 @@ use Rattle.flow_templates.specs.declared.limits.TheConstants.{MOST_ROWS}
 -- ---- answers to a system
 
 -- where bytes are put, the improvements have ended
-pub output_ends : (purpose : Purpose) (system : System) (policy : Policy) (limit : ℕ) (bytes : List ℕ)
-    → IsOutputOf purpose system policy limit bytes → EndsWithin system policy limit
-output_ends Report system policy limit bytes r = (r.rounds, r.within, vector_of (length system.template) r.bounds, r.has_rounds)
-output_ends AsCertificate system policy limit bytes r = solved_ends system policy limit r.solved r.is_solved
+pub output_ends : (purpose : Purpose) (system : System) (policy : Policy) (limit : ℕ) (format : Format) (bytes : List ℕ)
+    → IsOutputOf purpose system policy limit format bytes → EndsWithin system policy limit
+output_ends Report system policy limit format bytes r = (r.rounds, r.within, vector_of (length system.template) r.bounds, r.has_rounds)
+output_ends AsCertificate system policy limit format bytes r = solved_ends system policy limit r.solved r.is_solved
 
 halted_system : (purpose : Purpose) (system : System) (policy : Policy) (limit : ℕ) (r : Refusal) → IsHalted purpose system policy limit r
     → IsAnswerToSystem purpose system policy limit (refused r)
@@ -164,9 +165,10 @@ sound n template h k =
 
 -- ---- what is put
 
-report_put : (text : List ℕ) (rows : Domain (List ℕ)) (system : System) (policy : Policy) (limit : ℕ) (bytes : List ℕ)
-    → IsSolvedSystem text rows system → IsRoundsReport system policy limit bytes → IsReportOf text rows policy limit bytes
-report_put text rows system policy limit bytes is r = record {
+report_put : (text : List ℕ) (rows : Domain (List ℕ)) (system : System) (policy : Policy) (limit : ℕ) (format : Format)
+    (bytes : List ℕ) → IsSolvedSystem text rows system → IsRoundsReport system policy limit format bytes
+    → IsReportOf text rows policy limit format bytes
+report_put text rows system policy limit format bytes is r = record {
   names = is.names;
   body = is.body;
   template = is.template;
@@ -177,9 +179,10 @@ report_put text rows system policy limit bytes is r = record {
   within = r.within;
   has_rounds = r.has_rounds;
   vector = vector_of (length system.template) r.bounds;
-  least = subst (λ t. IsLeastReport is.names is.body t (vector_of (length system.template) r.bounds) (Improvements r.rounds) bytes)
+  least = subst
+      (λ t. IsLeastReport is.names is.body t (vector_of (length system.template) r.bounds) (Improvements r.rounds) format bytes)
       is.system_for.template_is
-      (least_report is.names is.body system (vector_of (length system.template) r.bounds) (Improvements r.rounds) bytes
+      (least_report is.names is.body system (vector_of (length system.template) r.bounds) (Improvements r.rounds) format bytes
       is.system_for.names_are is.system_for.points_are is.system_for.edges_are r.least r.report);
 }
 
@@ -220,7 +223,7 @@ certificate_put text rows system policy limit bytes is r =
 
 -- what the analysis of a system puts is what its texts get
 pub output_put : (purpose : Purpose) (text : List ℕ) (rows : Domain (List ℕ)) (system : System) (policy : Policy) (limit : ℕ)
-    (bytes : List ℕ) → IsSolvedSystem text rows system → IsOutputOf purpose system policy limit bytes
-    → IsPutOf purpose text rows policy limit bytes
-output_put Report text rows system policy limit bytes is r = report_put text rows system policy limit bytes is r
-output_put AsCertificate text rows system policy limit bytes is r = certificate_put text rows system policy limit bytes is r
+    (format : Format) (bytes : List ℕ) → IsSolvedSystem text rows system → IsOutputOf purpose system policy limit format bytes
+    → IsPutOf purpose text rows policy limit format bytes
+output_put Report text rows system policy limit format bytes is r = report_put text rows system policy limit format bytes is r
+output_put AsCertificate text rows system policy limit format bytes is r = certificate_put text rows system policy limit bytes is r

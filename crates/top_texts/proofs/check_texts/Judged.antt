@@ -13,15 +13,16 @@ use Rattle.flow_systems.specs.declared.system.System.{System}
 use Rattle.solve_rounds.specs.Solutions.{IsSolved}
 use Rattle.solve_rounds.specs.declared.solution.Solved.{Solved}
 use Rattle.ask_checks.specs.Laws.{OpenStatesBreak, ProvedVerdictsHold}
-use Rattle.ask_checks.specs.Lines.{checks_text}
 use Rattle.ask_checks.specs.Verdicts.{AreCheckVerdicts}
 use Rattle.ask_verdicts.specs.declared.outcome.Verdict.{Verdict}
 use Rattle.ask_verdicts.specs.declared.outcome.Verdict.TheVariants.{Open}
+use Rattle.ask_words.specs.declared.format.Format.{Format}
 use Rattle.ask_words.specs.declared.request.Domain.{Domain}
 use Rattle.ask_words.specs.declared.request.Policy.{Policy}
 use Rattle.ask_words.specs.declared.request.Purpose.TheVariants.{Report}
 use Rattle.top_texts.specs.CheckTexts.{AreCheckVerdictsOf, HasChecks, ending_of}
 use Rattle.top_texts.specs.Exact.{exact}
+use Rattle.top_texts.specs.Formats.{checks_in}
 use Rattle.top_texts.specs.Outcomes.{AreUnverified, IsHalted, IsRefusedBy, IsUnanswered}
 use Rattle.top_texts.specs.Policies.{rule_of}
 use Rattle.top_texts.specs.Questions.{checks_question}
@@ -87,10 +88,10 @@ module _ (text : List ℕ) (rows : Domain (List ℕ)) (policy : Policy) (limit :
       pub judged : ProvedVerdictsHold → OpenStatesBreak → Least (equations_of s) (vector_of (length s.template) solved.bounds)
           → (verdicts : List Verdict)
           → AreCheckVerdicts (equations_of s) (vector_of (length s.template) solved.bounds) checks verdicts
-          → (is_open : Bool) → IsTrue is_open ↔ ((state : RationalState) × Contains verdicts (Open state)) → (bytes : List ℕ)
-          → bytes ≡ checks_text text s.flow.names checks verdicts solved.improvements
-          → AreCheckVerdictsOf exact text rows policy limit (ending_of is_open) bytes
-      judged hold break least verdicts h is_open said bytes written =
+          → (is_open : Bool) → IsTrue is_open ↔ ((state : RationalState) × Contains verdicts (Open state))
+          → (format : Format) (file bytes : List ℕ) → bytes ≡ checks_in format file text s.flow.names checks verdicts solved.improvements
+          → AreCheckVerdictsOf exact file text rows policy limit format (ending_of is_open) bytes
+      judged hold break least verdicts h is_open said format file bytes written =
           let is = has.solved in
           let vector = vector_of (length s.template) solved.bounds in
           let system = equations_of_program (length is.names) is.body is.template in
@@ -112,6 +113,6 @@ module _ (text : List ℕ) (rows : Domain (List ℕ)) (policy : Policy) (limit :
             verdicts = verdicts;
             verdicts_are = are;
             speak = verdicts_speak (length is.names) is.body is.template vector verdicts are has.within lowest.solves.post hold break;
-            written = subst₂ (λ ns (cs : List CheckCases). bytes ≡ checks_text text ns cs verdicts solved.improvements)
+            written = subst₂ (λ ns (cs : List CheckCases). bytes ≡ checks_in format file text ns cs verdicts solved.improvements)
                 is.system_for.names_are has.checks_are written;
           }

@@ -17,14 +17,15 @@ use Rattle.flow_systems.specs.View.{equations_of}
 use Rattle.solve_offers.proofs.at_bounds.Ranges.{points_in_range}
 use Rattle.theory_rounds.proofs.rounds.Retraced.{least_law}
 use Rattle.ask_checks.specs.Laws.{EdgesGoFromPoints, VerdictsAreOne}
-use Rattle.ask_checks.specs.Lines.{checks_text}
 use Rattle.ask_checks.specs.Places.{BreaksCheck}
 use Rattle.ask_checks.specs.Verdicts.{AreCheckVerdicts}
 use Rattle.ask_verdicts.specs.declared.outcome.Verdict.{Verdict}
+use Rattle.ask_words.specs.declared.format.Format.{Format}
 use Rattle.ask_words.specs.declared.request.Domain.{Domain}
 use Rattle.ask_words.specs.declared.request.Policy.{Policy}
 use Rattle.top_texts.specs.CheckTexts.{AreCheckVerdictsOf, ChecksEnd, IsJudged, all_proved, some_open}
 use Rattle.top_texts.specs.Exact.{exact}
+use Rattle.top_texts.specs.Formats.{checks_in}
 use Rattle.top_texts.specs.Rounds.{HasRounds, RunsOut, chosen_by}
 use Rattle.top_texts.specs.Texts.{HasTemplate, IsSolvable, IsSolvedSystem}
 use Rattle.top_status.specs.declared.status.Status.{Status}
@@ -117,9 +118,10 @@ module _ (text : List ℕ) (rows : Domain (List ℕ)) (policy : Policy) (limit :
       (j.rounds, j.within, j.vector, j.has_rounds) out
 
   -- texts have one list of verdicts
-  pub check_verdicts_once : VerdictsAreOne → (s t : Status) (one other : List ℕ) → AreCheckVerdictsOf exact text rows policy limit s one
-      → AreCheckVerdictsOf exact text rows policy limit t other → one ≡ other
-  check_verdicts_once law s t one other a b =
+  pub check_verdicts_once : VerdictsAreOne → (file : List ℕ) (format : Format) (s t : Status) (one other : List ℕ)
+      → AreCheckVerdictsOf exact file text rows policy limit format s one
+      → AreCheckVerdictsOf exact file text rows policy limit format t other → one ≡ other
+  check_verdicts_once law file format s t one other a b =
       let i = a.judged in
       let j = b.judged in
       let p = i.solved in
@@ -134,11 +136,11 @@ module _ (text : List ℕ) (rows : Domain (List ℕ)) (policy : Policy) (limit :
       let rounds : i.rounds ≡ j.rounds =
       rounds_once i.system j.system policy i.rounds j.rounds i.vector j.vector (solved_once text rows i.system j.system p j.solved)
       i.has_rounds j.has_rounds in
-      let written : other ≡ checks_text text p.names (checks_of_program p.body) b.verdicts j.rounds =
+      let written : other ≡ checks_in format file text p.names (checks_of_program p.body) b.verdicts j.rounds =
       program_moves text rows j.system i.system j.solved p
-      (λ ns body ts. other ≡ checks_text text ns (checks_of_program body) b.verdicts j.rounds) b.written in
+      (λ ns body ts. other ≡ checks_in format file text ns (checks_of_program body) b.verdicts j.rounds) b.written in
       a.written
-      ∙ ap₂ (λ (vs : List Verdict) n. checks_text text p.names (checks_of_program p.body) vs n) verdicts rounds
+      ∙ ap₂ (λ (vs : List Verdict) n. checks_in format file text p.names (checks_of_program p.body) vs n) verdicts rounds
       ∙ sym written
 
   -- where improvements end, it isn't so that the checks decide neither ending

@@ -16,15 +16,16 @@ use Rattle.solve_rounds.specs.declared.solution.Solved.{Solved}
 use Rattle.ask_claims.specs.AllVerdicts.{AreVerdicts, IsClaimVerdict}
 use Rattle.ask_claims.specs.Claims.{IsClaimOf, FileMeans, Stands, stated_of}
 use Rattle.ask_claims.specs.Laws.{OpenStatesBreak, ProvedVerdictsHold}
-use Rattle.ask_claims.specs.Lines.{verdicts_text}
 use Rattle.ask_claims.specs.declared.claim.Claim.{Claim}
 use Rattle.ask_claims.specs.declared.fault.ClaimFault.{ClaimFault}
 use Rattle.ask_verdicts.specs.declared.outcome.Verdict.{Verdict}
 use Rattle.ask_claims.proofs.laws.Lists.{verdict_at}
+use Rattle.ask_words.specs.declared.format.Format.{Format}
 use Rattle.ask_words.specs.declared.request.Domain.{Domain}
 use Rattle.ask_words.specs.declared.request.Policy.{Policy}
 use Rattle.ask_words.specs.declared.request.Purpose.TheVariants.{Report}
 use Rattle.top_texts.specs.ClaimTexts.{AreClaimsOf, AreNoClaims, AreVerdictsOf, IsClaimedSystem}
+use Rattle.top_texts.specs.Formats.{claims_in}
 use Rattle.top_texts.specs.Exact.{exact}
 use Rattle.top_texts.specs.Outcomes.{AreUnjudged, IsHalted, IsRefusedBy, IsUnanswered}
 use Rattle.top_texts.specs.Policies.{rule_of}
@@ -123,10 +124,11 @@ module _ (text : List ℕ) (rows : Domain (List ℕ)) (given : List ℕ) (policy
         -- verdicts
         pub judged : ProvedVerdictsHold → OpenStatesBreak → Least (equations_of s) (vector_of (length s.template) solved.bounds)
             → (verdicts : List Verdict)
-            → AreVerdicts (equations_of s) (vector_of (length s.template) solved.bounds) claims verdicts → (bytes : List ℕ)
-            → bytes ≡ verdicts_text s.flow.names claims verdicts solved.improvements
-            → AreVerdictsOf exact text rows given policy limit bytes
-        judged proved_hold open_break least verdicts h bytes written =
+            → AreVerdicts (equations_of s) (vector_of (length s.template) solved.bounds) claims verdicts
+            → (format : Format) (bytes : List ℕ)
+            → bytes ≡ claims_in format s.flow.names claims verdicts solved.improvements
+            → AreVerdictsOf exact text rows given policy limit format bytes
+        judged proved_hold open_break least verdicts h format bytes written =
             let vector = vector_of (length s.template) solved.bounds in
             let system = equations_of_program (length is.names) is.body is.template in
             let same : equations_of s ≡ system = equations_are is.names is.body is.template s is.system_for in
@@ -154,13 +156,13 @@ module _ (text : List ℕ) (rows : Domain (List ℕ)) (given : List ℕ) (policy
                       (stands_at is.names (points_of_program is.body) claims k claim over.stand e).against;
                   open_ones = λ k claim state e f. open_break system vector claims verdicts k claim state are_verdicts e f;
                 };
-                written = subst (λ ns. bytes ≡ verdicts_text ns claims verdicts solved.improvements) is.system_for.names_are written;
+                written = subst (λ ns. bytes ≡ claims_in format ns claims verdicts solved.improvements) is.system_for.names_are written;
               };
             }
 
   -- where verdicts are written, the improvements have ended
-  pub verdicts_end : (bytes : List ℕ) → AreVerdictsOf exact text rows given policy limit bytes
+  pub verdicts_end : (format : Format) (bytes : List ℕ) → AreVerdictsOf exact text rows given policy limit format bytes
       → QuestionEnds (claims_question exact text rows given policy limit) Done
-  verdicts_end bytes v =
+  verdicts_end format bytes v =
       rounds_end v.system refl (record { solved = v.solved; stated = map stated_of v.claims; reading = v.claims_are.reading })
       (v.rounds, v.within, v.vector, v.has_rounds)

@@ -16,7 +16,11 @@ use Rattle.flow_systems.specs.declared.footer.Footer.TheVariants.{Improvements}
 use Rattle.flow_systems.proofs.equations.Leastness.{at_most_one}
 use Rattle.ask_claims.specs.AllVerdicts.{AreVerdicts, IsClaimVerdict}
 use Rattle.ask_claims.specs.Claims.{AreAtPoints, Stands, Stated, stated_of}
-use Rattle.ask_claims.specs.Lines.{claim_lines, verdicts_text}
+use Rattle.serde_json.specs.Data.{Items, array, item, member, object, string}
+use Rattle.ask_claims.specs.Lines.{claim_lines}
+use Rattle.ask_json.specs.Claims.{claim_values, claims_value}
+use Rattle.ask_json.specs.Verdicts.{count_members, verdict_members}
+use Rattle.out_json.specs.Pieces.{value_line}
 use Rattle.ask_claims.specs.declared.claim.Claim.{Claim}
 use Rattle.ask_verdicts.specs.Breaking.{NoneOpen}
 use Rattle.ask_verdicts.specs.Lines.{count_line, verdict_text}
@@ -24,9 +28,12 @@ use Rattle.ask_verdicts.specs.Verdicts.{SaysOpen}
 use Rattle.ask_verdicts.specs.declared.outcome.Verdict.{Verdict}
 use Rattle.ask_verdicts.specs.declared.outcome.Verdict.TheVariants.{Proved}
 use Rattle.ask_claims.proofs.laws.Lists.{verdicts_are_one}
+use Rattle.ask_words.specs.declared.format.Format.{Format}
+use Rattle.ask_words.specs.declared.format.Format.TheVariants.{Text, Json, Sarif}
 use Rattle.ask_words.specs.declared.request.Domain.{Domain}
 use Rattle.ask_words.specs.declared.request.Policy.{Policy}
 use Rattle.top_texts.specs.ClaimTexts.{AreClaimsOf, AreLeastVerdicts, AreVerdictsOf}
+use Rattle.top_texts.specs.Formats.{claims_in}
 use Rattle.top_texts.specs.Exact.{exact}
 use Rattle.top_texts.specs.Texts.{HasTemplate}
 use Rattle.top_texts.proofs.claim_texts.Once.{said_once, same_stated}
@@ -84,14 +91,36 @@ lines_agree names n (c ∷ cs) (d ∷ ds) (v ∷ vs) e =
 count_agrees : (claims others : List Claim) → SameStated claims others → length claims ≡ length others
 count_agrees claims others e = sym (length-map claims stated_of) ∙ ap length e ∙ length-map others stated_of
 
-text_agrees : (names : List (List ℕ)) (claims others : List Claim) (verdicts again : List Verdict) (n m : ℕ) → SameStated claims others
-    → verdicts ≡ again → n ≡ m
-    → verdicts_text names claims verdicts n ≡ verdicts_text names others again m
-text_agrees names claims others verdicts again n m e same rounds =
-    ap₂ (λ (vs : List Verdict) k. verdicts_text names claims vs k) same rounds
-    ∙ ap₂ (λ (lines : List ℕ) k. lines ++ count_line k again
-    ++ footer_line (Improvements m))
-    (lines_agree names 0 claims others again e) (count_agrees claims others e)
+-- and the same items
+items_agree : (names : List (List ℕ)) (claims others : List Claim) (verdicts : List Verdict) → SameStated claims others
+    → claim_values names claims verdicts ≡ claim_values names others verdicts
+items_agree names [] [] vs e = refl
+items_agree names [] (d ∷ ds) vs e = absurd cc
+items_agree names (c ∷ cs) [] vs e = absurd cc
+items_agree names (c ∷ cs) (d ∷ ds) [] e = refl
+items_agree names (c ∷ cs) (d ∷ ds) (v ∷ vs) e =
+    ap₂ (λ (s : Stated) (rest : Items). item (object (member (codes "label") (string s.label) (verdict_members names v))) rest)
+    (first_stated c d cs ds e) (items_agree names cs ds vs (rest_stated c d cs ds e))
+
+line_agrees : (names : List (List ℕ)) (claims others : List Claim) (verdicts : List Verdict) (n : ℕ) → SameStated claims others
+    → value_line (claims_value names claims verdicts n) ≡ value_line (claims_value names others verdicts n)
+line_agrees names claims others verdicts n e =
+    ap (λ (items : Items). value_line (object (member (codes "claims") (array items) (count_members verdicts n))))
+    (items_agree names claims others verdicts e)
+
+same_text : (format : Format) (names : List (List ℕ)) (claims others : List Claim) (verdicts : List Verdict) (n : ℕ)
+    → SameStated claims others → claims_in format names claims verdicts n ≡ claims_in format names others verdicts n
+same_text Text names claims others verdicts n e =
+    ap₂ (λ (lines : List ℕ) k. lines ++ count_line k verdicts ++ footer_line (Improvements n))
+    (lines_agree names 0 claims others verdicts e) (count_agrees claims others e)
+same_text Json names claims others verdicts n e = line_agrees names claims others verdicts n e
+same_text Sarif names claims others verdicts n e = line_agrees names claims others verdicts n e
+
+text_agrees : (format : Format) (names : List (List ℕ)) (claims others : List Claim) (verdicts again : List Verdict) (n m : ℕ)
+    → SameStated claims others → verdicts ≡ again → n ≡ m
+    → claims_in format names claims verdicts n ≡ claims_in format names others again m
+text_agrees format names claims others verdicts again n m e same rounds =
+    ap₂ (λ (vs : List Verdict) k. claims_in format names claims vs k) same rounds ∙ same_text format names claims others again m e
 
 -- ---- the verdicts of a program
 
@@ -101,15 +130,16 @@ at_points : (names : List (List ℕ)) (body : Statements) (template : List (List
 at_points names body template claims h k d within = subst (λ n. (get_or claims k d).point < n) (numbering body).count (h k d within).within
 
 least_once : (given : List ℕ) (names : List (List ℕ)) (body : Statements) (template : List (List ℤ)) (claims others : List Claim)
-    (v w : Vector) (n m : ℕ) (one other : List ℕ) → n ≡ m → SameStated claims others
+    (v w : Vector) (n m : ℕ) (format : Format) (one other : List ℕ) → n ≡ m → SameStated claims others
     → AreClaimsOf given names (points_of_program body) claims → AreClaimsOf given names (points_of_program body) others
-    → AreLeastVerdicts exact names body template v claims n one → AreLeastVerdicts exact names body template w others m other → one ≡ other
-least_once given names body template claims others v w n m one other rounds stated h k a b =
+    → AreLeastVerdicts exact names body template v claims n format one
+    → AreLeastVerdicts exact names body template w others m format other → one ≡ other
+least_once given names body template claims others v w n m format one other rounds stated h k a b =
     let system = equations_of_program (length names) body template in
     let same = at_most_one system v w a.least b.least.solves b.least.below in
     let moved = verdicts_move names (points_of_program body) system w claims others b.verdicts stated h.stand k.stand b.verdicts_are in
     a.written
-    ∙ text_agrees names claims others a.verdicts b.verdicts n m stated
+    ∙ text_agrees format names claims others a.verdicts b.verdicts n m stated
     (verdicts_are_one system v w claims a.verdicts b.verdicts same (at_points names body template claims h.stand) a.verdicts_are moved)
     rounds
     ∙ sym b.written
@@ -117,10 +147,10 @@ least_once given names body template claims others v w n m one other rounds stat
 -- ---- of texts
 
 -- the texts of a program, of its rows and of claims have one list of verdicts
-pub verdicts_once : (text : List ℕ) (rows : Domain (List ℕ)) (given : List ℕ) (policy : Policy) (limit : ℕ) (one other : List ℕ)
-    → AreVerdictsOf exact text rows given policy limit one
-    → AreVerdictsOf exact text rows given policy limit other → one ≡ other
-verdicts_once text rows given policy limit one other a b =
+pub verdicts_once : (text : List ℕ) (rows : Domain (List ℕ)) (given : List ℕ) (policy : Policy) (limit : ℕ) (format : Format)
+    (one other : List ℕ) → AreVerdictsOf exact text rows given policy limit format one
+    → AreVerdictsOf exact text rows given policy limit format other → one ≡ other
+verdicts_once text rows given policy limit format one other a b =
     let p = a.solved in
     let q = b.solved in
     let same = program_once text (q.names, q.body) (p.names, p.body) q.ready.system.analysed.reading p.ready.system.analysed.reading in
@@ -129,12 +159,13 @@ verdicts_once text rows given policy limit one other a b =
     q.ready.system.template_is) p.ready.system.template_is in
     let claims : AreClaimsOf given p.names (points_of_program p.body) b.claims =
     subst (λ (x : List (List ℕ) × Statements). AreClaimsOf given x.0 (points_of_program x.1) b.claims) same b.claims_are in
-    let least : AreLeastVerdicts exact p.names p.body p.template b.vector b.claims b.rounds other =
-    subst (λ t. AreLeastVerdicts exact p.names p.body t b.vector b.claims b.rounds other) template
-    (subst (λ (x : List (List ℕ) × Statements). AreLeastVerdicts exact x.0 x.1 q.template b.vector b.claims b.rounds other) same b.least) in
+    let least : AreLeastVerdicts exact p.names p.body p.template b.vector b.claims b.rounds format other =
+    subst (λ t. AreLeastVerdicts exact p.names p.body t b.vector b.claims b.rounds format other) template
+    (subst (λ (x : List (List ℕ) × Statements). AreLeastVerdicts exact x.0 x.1 q.template b.vector b.claims b.rounds format other) same
+    b.least) in
     let stated = same_stated (map stated_of a.claims) (map stated_of b.claims)
     (said_once text rows given p.names q.names p.body q.body p.template q.template (Ok (map stated_of a.claims))
     (Ok (map stated_of b.claims)) p.ready q.ready a.claims_are.reading b.claims_are.reading) in
-    least_once given p.names p.body p.template a.claims b.claims a.vector b.vector a.rounds b.rounds one other
+    least_once given p.names p.body p.template a.claims b.claims a.vector b.vector a.rounds b.rounds format one other
     (rounds_once a.system b.system policy a.rounds b.rounds a.vector b.vector (solved_once text rows a.system b.system p q) a.has_rounds
     b.has_rounds) stated a.claims_are claims a.least least

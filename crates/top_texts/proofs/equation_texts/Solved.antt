@@ -16,12 +16,13 @@ use Rattle.flow_rationals.specs.Equations.{are_equations}
 use Rattle.flow_rationals.specs.EquationTexts.{Answers}
 use Rattle.flow_rationals.specs.Laws.{LeastAboveEqualRightSides, LeastVectorsAreLeastAbove}
 use Rattle.flow_rationals.specs.System.{system_of, variables_of}
-use Rattle.out_report.specs.Values.{values_text}
 use Rattle.solve_rounds.specs.Solutions.{IsSolved}
 use Rattle.solve_rounds.specs.declared.solution.Solved.{Solved}
 use Rattle.ask_words.specs.declared.request.Policy.{Policy}
 use Rattle.ask_words.specs.declared.request.Purpose.TheVariants.{Report}
+use Rattle.ask_words.specs.declared.format.Format.{Format}
 use Rattle.top_texts.specs.EquationTexts.{AreValuesOf, IsEquationSystem}
+use Rattle.top_texts.specs.Formats.{values_in}
 use Rattle.top_texts.specs.Outcomes.{IsHalted, IsUnanswered}
 use Rattle.top_texts.specs.Exact.{exact}
 use Rattle.top_texts.specs.Policies.{rule_of}
@@ -69,10 +70,10 @@ module _ (text : List ℕ) (policy : Policy) (limit : ℕ) (equations : List Equ
   -- the values of the least vector are those of the equations
   pub valued : LeastVectorsAreLeastAbove → LeastAboveEqualRightSides → IsTrue (are_equations equations)
       → s.flow.names ≡ variables_of equations → (solved : Solved) → IsSolved s (rule_of policy) limit solved
-      → Least (equations_of s) (vector_of (length s.template) solved.bounds) → (bytes : List ℕ)
-      → bytes ≡ values_text (take (length s.template) s.flow.names) (vector_of (length s.template) solved.bounds 1)
-      (Improvements solved.improvements) → AreValuesOf text policy limit bytes
-  valued above equal within names solved solution least bytes written =
+      → Least (equations_of s) (vector_of (length s.template) solved.bounds) → (format : Format) (bytes : List ℕ)
+      → bytes ≡ values_in format (take (length s.template) s.flow.names) (vector_of (length s.template) solved.bounds 1)
+      (Improvements solved.improvements) → AreValuesOf text policy limit format bytes
+  valued above equal within names solved solution least format bytes written =
       let vector = vector_of (length s.template) solved.bounds in
       let lowest = above equations vector within (subst (λ q. Least q vector) is least) in
       record {
@@ -84,16 +85,17 @@ module _ (text : List ℕ) (policy : Policy) (limit : ℕ) (equations : List Equ
         rounds = solved.improvements;
         within = solution.within;
         improvements = (s, is, vector, solved_rounds s policy limit solved solution);
-        written = written ∙ ap (λ ns. values_text ns (vector 1) (Improvements solved.improvements))
+        written = written ∙ ap (λ ns. values_in format ns (vector 1) (Improvements solved.improvements))
             (ap (λ ns. take (length s.template) ns) names ∙ row_names equations (length s.template) (rows_are s equations is));
       }
 
 -- ---- what the text is answered
 
 -- where values are written, the improvements have ended
-pub values_end : (text : List ℕ) (policy : Policy) (limit : ℕ) (bytes : List ℕ) → AreValuesOf text policy limit bytes
+pub values_end : (text : List ℕ) (policy : Policy) (limit : ℕ) (format : Format) (bytes : List ℕ)
+    → AreValuesOf text policy limit format bytes
     → QuestionEnds (equations_question exact text policy limit) Done
-values_end text policy limit bytes v =
+values_end text policy limit format bytes v =
     let made = v.improvements in
     rounds_end made.0 refl (record { equations = v.equations; reading = v.reading; system_is = made.1 })
     (v.rounds, v.within, made.2, made.3)

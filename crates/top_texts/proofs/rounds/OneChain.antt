@@ -1,7 +1,6 @@
 -- The improvements by a policy of the command line have one end.
 use Rattle.std.proofs.Common.{◌≡◌, ℕ, ◌<◌, List, length, sym, subst, arith}
 use Rattle.flow_systems.specs.Equations.{Equations, Least, Vector}
-use Rattle.flow_systems.specs.Report.{report_of}
 use Rattle.flow_systems.specs.View.{equations_of, vector_of}
 use Rattle.flow_systems.specs.declared.footer.Footer.TheVariants.{Improvements}
 use Rattle.flow_systems.specs.declared.system.System.{System}
@@ -17,8 +16,10 @@ use Rattle.solve_offers.proofs.at_bounds.Ranges.{points_in_range}
 use Rattle.solve_offers.specs.Policies.{by_best, by_first}
 use Rattle.solve_rounds.specs.Solutions.{IsSolved}
 use Rattle.solve_rounds.specs.declared.solution.Solved.{Solved}
+use Rattle.ask_words.specs.declared.format.Format.{Format}
 use Rattle.ask_words.specs.declared.request.Policy.{Policy}
 use Rattle.ask_words.specs.declared.request.Policy.TheVariants.{Best, First}
+use Rattle.top_texts.specs.Formats.{report_of_in}
 use Rattle.top_texts.specs.Outcomes.{IsRoundsReport}
 use Rattle.top_texts.specs.Policies.{rule_of}
 use Rattle.top_texts.specs.Rounds.{EndsWithin, HasRounds, RunsOut, chosen_by}
@@ -30,12 +31,12 @@ solved_rounds system Best limit solved h = solved_law by_best MeantBest best_mea
 solved_rounds system First limit solved h = solved_law by_first MeantFirst first_means system limit solved h
 
 -- so its report is that of the rounds
-pub rounds_report : (system : System) (policy : Policy) (limit : ℕ) (solved : Solved) (bytes : List ℕ)
+pub rounds_report : (system : System) (policy : Policy) (limit : ℕ) (solved : Solved) (format : Format) (bytes : List ℕ)
     → IsSolved system (rule_of policy) limit solved
     → Least (equations_of system) (vector_of (length system.template) solved.bounds)
-    → bytes ≡ report_of system (vector_of (length system.template) solved.bounds) (Improvements solved.improvements)
-    → IsRoundsReport system policy limit bytes
-rounds_report system policy limit solved bytes h least e = record {
+    → bytes ≡ report_of_in format system (vector_of (length system.template) solved.bounds) (Improvements solved.improvements)
+    → IsRoundsReport system policy limit format bytes
+rounds_report system policy limit solved format bytes h least e = record {
   rounds = solved.improvements;
   within = h.within;
   bounds = solved.bounds;

@@ -11,14 +11,15 @@ use Rattle.flow_edges.specs.declared.edge.Edge.{Edge}
 use Rattle.flow_edges.specs.declared.graph.Flow.{Flow}
 use Rattle.flow_edges.specs.declared.point.Point.{Point}
 use Rattle.flow_systems.specs.Equations.{Equations, Least}
-use Rattle.flow_systems.specs.Report.{report_text}
 use Rattle.flow_systems.specs.View.{equations_of, vector_of}
 use Rattle.flow_systems.specs.declared.footer.Footer.TheVariants.{Improvements}
 use Rattle.flow_systems.specs.declared.limits.TheConstants.{MOST_UNKNOWNS}
 use Rattle.flow_systems.specs.declared.system.System.{System}
+use Rattle.ask_words.specs.declared.format.Format.{Format}
 use Rattle.ask_words.specs.declared.request.Domain.{Domain}
 use Rattle.ask_words.specs.declared.request.Policy.{Policy}
 use Rattle.top_texts.specs.Exact.{exact}
+use Rattle.top_texts.specs.Formats.{report_in}
 use Rattle.top_texts.specs.Outcomes.{IsRefusedAlong, IsRoundsReport, IsUnanswered}
 use Rattle.top_texts.specs.Questions.{QuestionEnds, rounds_end, transitions_question}
 use Rattle.top_texts.specs.Texts.{HasTemplate}
@@ -97,10 +98,10 @@ refused_along text rows policy limit refusal.NoMemory h = tt
 -- ---- the report
 
 -- the report of the system is that of the texts
-pub report_put : (text : List ℕ) (rows : Domain (List ℕ)) (s : System) (policy : Policy) (limit : ℕ) (bytes : List ℕ)
-    → PostSolutionsHoldAlong → IsTransitionSystem text rows s
-    → IsRoundsReport s policy limit bytes → IsAutoReport text rows policy limit bytes
-report_put text rows s policy limit bytes law is r =
+pub report_put : (text : List ℕ) (rows : Domain (List ℕ)) (s : System) (policy : Policy) (limit : ℕ) (format : Format)
+    (bytes : List ℕ) → PostSolutionsHoldAlong → IsTransitionSystem text rows s
+    → IsRoundsReport s policy limit format bytes → IsAutoReport text rows policy limit format bytes
+report_put text rows s policy limit format bytes law is r =
     let vector = vector_of (length s.template) r.bounds in
     let least : Least (equations_of_auto is.auto is.template) vector =
     subst (λ q. Least q vector) (system_equations text rows s is) r.least in
@@ -113,13 +114,13 @@ report_put text rows s policy limit bytes law is r =
       has_rounds = r.has_rounds;
       least = least;
       holds = law is.auto is.template vector least.solves.post;
-      report = subst (λ t. bytes ≡ report_text is.auto.names is.auto.points t vector (Improvements r.rounds)) is.system_template
-          (subst (λ ps. bytes ≡ report_text is.auto.names ps s.template vector (Improvements r.rounds)) is.points_are
-          (subst (λ ns. bytes ≡ report_text ns s.flow.points s.template vector (Improvements r.rounds)) is.names_are r.report));
+      report = subst (λ t. bytes ≡ report_in format is.auto.names is.auto.points t vector (Improvements r.rounds)) is.system_template
+          (subst (λ ps. bytes ≡ report_in format is.auto.names ps s.template vector (Improvements r.rounds)) is.points_are
+          (subst (λ ns. bytes ≡ report_in format ns s.flow.points s.template vector (Improvements r.rounds)) is.names_are r.report));
     }
 
 -- where a report is written, the improvements have ended
-pub report_end : (text : List ℕ) (rows : Domain (List ℕ)) (policy : Policy) (limit : ℕ) (bytes : List ℕ)
-    → IsAutoReport text rows policy limit bytes
+pub report_end : (text : List ℕ) (rows : Domain (List ℕ)) (policy : Policy) (limit : ℕ) (format : Format) (bytes : List ℕ)
+    → IsAutoReport text rows policy limit format bytes
     → QuestionEnds (transitions_question exact text rows policy limit) Done
-report_end text rows policy limit bytes r = rounds_end r.system refl r.meant (r.rounds, r.within, r.vector, r.has_rounds)
+report_end text rows policy limit format bytes r = rounds_end r.system refl r.meant (r.rounds, r.within, r.vector, r.has_rounds)

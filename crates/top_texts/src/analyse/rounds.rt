@@ -15,10 +15,10 @@ ghost use Rattle.top_texts.specs.Outcomes.{IsHalted, IsRoundsReport};
 ghost use Rattle.top_texts.specs.Policies.{rule_of};
 
 use crate::refusal::Refusal;
-use ask_words::Policy;
+use crate::written::written_report;
+use ask_words::{Format, Policy};
 use base_watch::Watch;
 use flow_systems::{Footer, System};
-use out_report::report;
 use solve_rounds::{Halt, Solved, least_by_best, least_by_first};
 use std::alloc::Global;
 use top_status::Excess;
@@ -82,7 +82,7 @@ pub(crate) fn solve<W: Watch>(
     }
 }
 
-/// The whole report of the least bounds of a system, with the number of improvements by the policy.
+/// The whole report of the least bounds of a system in a format, with the number of improvements by the policy.
 ///
 /// # Errors
 ///
@@ -93,17 +93,19 @@ pub fn report_of<W: Watch>(
     system: &System,
     policy: Policy,
     limit: u32,
+    format: Format,
     watch: &mut W,
 ) -> Result<Vec<u8>, Refusal>
     requires limit { limit ≤ MOST_IMPROVEMENTS }
-    ensures ok { IfOk result (λ bytes. IsRoundsReport system.now policy limit bytes.items) }
+    ensures ok { IfOk result (λ bytes. IsRoundsReport system.now policy limit format bytes.items) }
     ensures err { IfErr result (λ refusal. (purpose : Purpose) → IsHalted purpose system.now policy limit refusal) }
 {
     let solved = solve(alloc, system, policy, limit, watch)?;
-    Ok(report(
+    Ok(written_report(
         alloc,
         system,
         &solved.bounds,
         Footer::Improvements(solved.improvements),
+        format,
     )?)
 }

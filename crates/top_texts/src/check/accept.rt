@@ -18,12 +18,13 @@ ghost use Rattle.top_texts.specs.Reports.{IsReportBy};
 
 use super::certificate::{is_countable, system_of};
 use crate::refusal::Refusal;
+use crate::written::written_report;
+use ask_words::Format;
 use cert_checker::{CheckFault, Scratch, check};
 use cert_types::Cert;
 use flow_edges::Flow;
 use flow_systems::{Footer, System};
 use lang_tree::Program;
-use out_report::report;
 use solve_transformer::{PathFault, Paths, compose_all};
 use std::alloc::Global;
 use top_status::{CertCause, Excess};
@@ -70,7 +71,7 @@ pub(crate) fn accept(alloc: Global, system: &System, cert: &Cert) -> Result<(), 
     }
 }
 
-/// The whole report of the bounds of a certificate, where it is valid for a program.
+/// The whole report in a format of the bounds of a certificate, where it is valid for a program.
 ///
 /// # Errors
 ///
@@ -81,12 +82,13 @@ pub fn report_by(
     program: &Program,
     flow: Flow,
     cert: &Cert,
+    format: Format,
 ) -> Result<Vec<u8>, Refusal>
     requires names { flow.names ≡ program.now.names }
     requires points { flow.points ≡ points_of_program program.now.body }
     requires edges { flow.edges ≡ edges_of_program program.now.body }
     ensures ok { IfOk result (λ bytes. (text given : List ℕ) → IsSpelt text given program.now.names program.now.body cert.now
-        → IsReportBy text given bytes.items) }
+        → IsReportBy text given format bytes.items) }
     ensures err { IfErr result (λ refusal. GetsNoReport program.now.names program.now.body cert.now refusal) }
 {
     if !is_countable(cert) {
@@ -94,5 +96,5 @@ pub fn report_by(
     }
     let system = system_of(alloc, program, flow, cert)?;
     accept(alloc, &system, cert)?;
-    Ok(report(alloc, &system, &cert.bounds, Footer::Accepted)?)
+    Ok(written_report(alloc, &system, &cert.bounds, Footer::Accepted, format)?)
 }

@@ -16,5 +16,5 @@ returns-in-Ok-Some g c = not_read c.in-Ok-Some.cause (sym c.in-Ok-Some.ensures �
 pub annotated-requires : goal.annotated-requires
 annotated-requires g c =
     subst (λ a. IsWithin a) (sym c.analysis_with.ensures)
-    (in_limits (Analyse Report (analysis_text c.args.analysis)) (texts_of c.args.contents.now) c.requires
+    (in_limits (Analyse Report (analysis_text c.args.analysis) c.args.format) (texts_of c.args.contents.now) c.requires
     (sym c.in-Ok-None.ensures ∙ c.in-Ok-None.field-0-is))

@@ -8,7 +8,7 @@ use Rattle.acsl_annotate.proofs.answer.Refused.{annotated_says}
 use Rattle.acsl_annotate.proofs.answer.written.Goals as goal
 
 pub returns-in-Ok-clause-says : goal.returns-in-Ok-clause-says
-returns-in-Ok-clause-says c = λ analysis text found.
-    subst₂ (λ s bytes. Says (annotating exact (Analyse Report analysis)) s bytes) (sym c.done_answer.ensures.status)
+returns-in-Ok-clause-says c = λ analysis format text found.
+    subst₂ (λ s bytes. Says (annotating exact (Analyse Report analysis format)) s bytes) (sym c.done_answer.ensures.status)
     (sym c.done_answer.ensures.bytes)
-    (annotated_says analysis _ _ _ text found c.in-Ok.ensures)
+    (annotated_says analysis format _ _ _ text found c.in-Ok.ensures)

@@ -36,3 +36,19 @@ returns-clause-nothing c = refl
 pub returns-clause-help : goal.returns-clause-help
 unfolding clap_on_literals request_of
 returns-clause-help c = refl
+
+pub returns-clause-unknown : goal.returns-clause-unknown
+unfolding clap_on_literals request_of
+returns-clause-unknown c = refl
+
+pub returns-clause-json : goal.returns-clause-json
+unfolding clap_on_literals request_of
+returns-clause-json c = refl
+
+pub returns-clause-sarif : goal.returns-clause-sarif
+unfolding clap_on_literals request_of
+returns-clause-sarif c = refl
+
+pub returns-clause-certificate : goal.returns-clause-certificate
+unfolding clap_on_literals request_of
+returns-clause-certificate c = refl

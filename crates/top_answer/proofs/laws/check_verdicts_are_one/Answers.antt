@@ -4,7 +4,7 @@ use Rattle.top_answer.proofs.laws.check_verdicts_are_one.Goals as goal
 
 pub returns : goal.returns
 returns c = record {
-  bytes = λ text rows policy limit ending another one other h k.
-      check_verdicts_once text rows policy limit verdicts_are_one ending another one other h k;
+  bytes = λ file text rows policy limit format ending another one other h k.
+      check_verdicts_once text rows policy limit verdicts_are_one file format ending another one other h k;
   ending = judged_once;
 }

@@ -7,7 +7,7 @@ use Rattle.top_answer.proofs.commands.Analyses.{solved, unsolvable}
 use Rattle.top_answer.proofs.outcome.analysed.Goals as goal
 
 pub returns-in-Ok-clause-says : goal.returns-in-Ok-clause-says
-returns-in-Ok-clause-says g c = solved (analysis_text c.args.analysis) c.in-Ok.system c.in-Ok.ensures.ok c.args.purpose _ _ _
+returns-in-Ok-clause-says g c = solved (analysis_text c.args.analysis) c.in-Ok.system c.in-Ok.ensures.ok c.args.purpose c.args.format _ _ _
     c.made_of-made.ensures.ok c.made_of-made.ensures.err c.outcome_from.ensures.is
 
 pub returns-in-Ok-clause-rows : goal.returns-in-Ok-clause-rows
@@ -18,5 +18,6 @@ returns-in-Ok-clause-rows g c = λ count has.
     ∙ sym (ap (λ n. rows_of n c.outcome_from.result.status) has.2)
 
 pub returns-in-Err-clause-says : goal.returns-in-Err-clause-says
-returns-in-Err-clause-says g c = unsolvable c.args.purpose (analysis_text c.args.analysis) c.in-Err.refusal _ _ c.in-Err.ensures.err
+returns-in-Err-clause-says g c =
+    unsolvable c.args.purpose (analysis_text c.args.analysis) c.args.format c.in-Err.refusal _ _ c.in-Err.ensures.err
     c.outcome_from-in-Err.ensures.is

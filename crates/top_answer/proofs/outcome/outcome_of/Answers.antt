@@ -32,21 +32,21 @@ pub returns-in-Prove-clause-says : goal.returns-in-Prove-clause-says
 returns-in-Prove-clause-says g c =
     subst (λ r. Says (command_of exact (request_text r)) c.outcome_from-in-Prove.result.status c.outcome_from-in-Prove.result.bytes.items)
     (sym c.in-Prove.is)
-    (proved c.in-Prove.claims.now (analysis_text c.in-Prove.analysis) _ _ _ c.prove_text-made.ensures.ok
+    (proved c.in-Prove.claims.now (analysis_text c.in-Prove.analysis) c.in-Prove.format _ _ _ c.prove_text-made.ensures.ok
     c.prove_text-made.ensures.err c.outcome_from-in-Prove.ensures.is)
 
 pub returns-in-Transitions-clause-says : goal.returns-in-Transitions-clause-says
 returns-in-Transitions-clause-says g c =
     subst (λ r. Says (command_of exact (request_text r)) c.outcome_from-in-Transitions.result.status
     c.outcome_from-in-Transitions.result.bytes.items) (sym c.in-Transitions.is)
-    (transited (analysis_text c.in-Transitions.analysis) _ _ _ c.transitions_text-made.ensures.ok
+    (transited (analysis_text c.in-Transitions.analysis) c.in-Transitions.format _ _ _ c.transitions_text-made.ensures.ok
     c.transitions_text-made.ensures.err c.outcome_from-in-Transitions.ensures.is)
 
 pub returns-in-Equations-clause-says : goal.returns-in-Equations-clause-says
 returns-in-Equations-clause-says g c =
     subst (λ r. Says (command_of exact (request_text r)) c.outcome_from-in-Equations.result.status
     c.outcome_from-in-Equations.result.bytes.items) (sym c.in-Equations.is)
-    (equated c.in-Equations.file.now c.in-Equations.improvements c.in-Equations.policy _ _ _
+    (equated c.in-Equations.file.now c.in-Equations.improvements c.in-Equations.policy c.in-Equations.format _ _ _
     c.equations_text.ensures.ok c.equations_text.ensures.err c.outcome_from-in-Equations.ensures.is)
 
 pub returns-in-Points-clause-says : goal.returns-in-Points-clause-says
@@ -58,7 +58,8 @@ returns-in-Points-clause-says g c =
 pub returns-in-Verify-clause-says : goal.returns-in-Verify-clause-says
 returns-in-Verify-clause-says g c =
     subst (λ r. Says (command_of exact (request_text r)) c.outcome_by.result.status c.outcome_by.result.bytes.items) (sym c.in-Verify.is)
-    (verified (analysis_text c.in-Verify.analysis) _ _ _ c.verify_text-made.ensures.ok c.verify_text-made.ensures.err
+    (verified c.in-Verify.name.now (analysis_text c.in-Verify.analysis) c.in-Verify.format _ _ _
+    c.verify_text-made.ensures.ok c.verify_text-made.ensures.err
     c.outcome_by.ensures)
 
 pub returns-in-Help-clause-says : goal.returns-in-Help-clause-says

@@ -29,7 +29,7 @@ returns-clause-ok g c =
     c.in_ok-system.ensures.system
     c.least_vectors_are_least_above.ensures.least c.least_above_equal_right_sides.ensures c.in_ok-equations.ensures.within
     c.in_ok-system.ensures.names
-    c.in_ok-solved.solved c.in_ok-solved.ensures.solved c.in_ok-solved.ensures.least _ c.in_ok-lines_of.ensures
+    c.in_ok-solved.solved c.in_ok-solved.ensures.solved c.in_ok-solved.ensures.least c.args.format _ c.in_ok-lines_of.ensures
 
 pub lines_of-requires-clause-rows : goal.lines_of-requires-clause-rows
 lines_of-requires-clause-rows g c =

@@ -1,7 +1,7 @@
 use Rattle.std.proofs.Common.{◌≡◌, ℕ, List, rules, subst}
 use Rattle.flow_systems.specs.View.{equations_of, vector_at}
 use Rattle.ask_claims.specs.AllVerdicts.{AreVerdicts}
-use Rattle.ask_claims.specs.Lines.{verdicts_text}
+use Rattle.top_texts.specs.Formats.{claims_in}
 use Rattle.ask_claims.specs.declared.claim.Claim.{Claim}
 use Rattle.ask_verdicts.specs.declared.outcome.Verdict.{Verdict}
 use Rattle.ask_words.specs.declared.request.Purpose.TheVariants.{Report}
@@ -44,15 +44,15 @@ returns-clause-ok g c =
     let s = c.in_ok-system.system in
     let claims = c.in_ok-claims.claims.items in
     let verdicts = c.in_ok-list.list.items in
-    let bytes = c.in_ok-verdicts_text.field-0.items in
+    let bytes = c.in_ok-written_claims.field-0.items in
     let improvements = c.in_ok-solved.solved.improvements in
-    let written : bytes ≡ verdicts_text s.flow.names claims verdicts improvements =
-    subst (λ (vs : List Verdict). bytes ≡ verdicts_text s.flow.names claims vs improvements) c.deref-3.ensures.value
-    (subst (λ (cs : List Claim). bytes ≡ verdicts_text s.flow.names cs c.deref-3.result.now improvements) c.deref-2.ensures.value
-    (subst (λ (names : List (List ℕ)). bytes ≡ verdicts_text names c.deref-2.result.now c.deref-3.result.now improvements)
-    c.as_slice-names.ensures c.in_ok-verdicts_text.ensures)) in
+    let written : bytes ≡ claims_in c.args.format s.flow.names claims verdicts improvements =
+    subst (λ (vs : List Verdict). bytes ≡ claims_in c.args.format s.flow.names claims vs improvements) c.deref-3.ensures.value
+    (subst (λ (cs : List Claim). bytes ≡ claims_in c.args.format s.flow.names cs c.deref-3.result.now improvements) c.deref-2.ensures.value
+    (subst (λ (names : List (List ℕ)). bytes ≡ claims_in c.args.format names c.deref-2.result.now c.deref-3.result.now improvements)
+    c.as_slice-names.ensures c.in_ok-written_claims.ensures)) in
     judged c.args.text.now (domain_text c.args.rows) c.args.given.now c.args.policy c.args.limit s c.in_ok-system.ensures.ok
     claims c.in_ok-claims.ensures.ok c.in_ok-solved.solved c.in_ok-solved.ensures.solved c.proved_verdicts_hold.ensures
     c.open_states_break.ensures c.in_ok-solved.ensures.least verdicts
     (subst (λ (cs : List Claim). AreVerdicts (equations_of s) (vector_at s c.in_ok-solved.solved.bounds) cs verdicts) c.deref.ensures.value
-    c.in_ok-list.ensures.ok) bytes written
+    c.in_ok-list.ensures.ok) c.args.format bytes written

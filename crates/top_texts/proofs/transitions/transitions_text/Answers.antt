@@ -10,7 +10,7 @@ use Rattle.top_texts.proofs.transitions.transitions_text.Goals as goal
 
 pub returns-clause-ok : goal.returns-clause-ok
 returns-clause-ok g c =
-    report_put c.args.text.now (domain_text c.args.rows) c.in_ok-system.system c.args.policy c.args.limit _
+    report_put c.args.text.now (domain_text c.args.rows) c.in_ok-system.system c.args.policy c.args.limit c.args.format _
     c.post_solutions_hold_along.ensures c.in_ok-system.ensures.ok c.in_ok-bytes.ensures.ok
 
 pub returns-in_err-bytes-clause-err : goal.returns-in_err-bytes-clause-err

@@ -5,7 +5,7 @@ use Rattle.flow_edges.specs.Checks.{checks_of_program}
 use Rattle.flow_edges.specs.declared.checked.CheckCases.{CheckCases}
 use Rattle.flow_systems.specs.States.{RationalState}
 use Rattle.flow_systems.specs.View.{equations_of, vector_at}
-use Rattle.ask_checks.specs.Lines.{checks_text}
+use Rattle.top_texts.specs.Formats.{checks_in}
 use Rattle.ask_checks.specs.Verdicts.{AreCheckVerdicts}
 use Rattle.ask_verdicts.specs.Breaking.{is_case}
 use Rattle.ask_verdicts.specs.declared.outcome.Verdict.{Verdict}
@@ -62,16 +62,17 @@ returns-clause-ok g c =
     let verdicts = c.in_ok-list.list.items in
     let bytes = c.in_ok-bytes.bytes.items in
     let improvements = c.in_ok-solved.solved.improvements in
-    let written : bytes ≡ checks_text c.args.text.now s.flow.names checks verdicts improvements =
-    subst (λ (vs : List Verdict). bytes ≡ checks_text c.args.text.now s.flow.names checks vs improvements) c.deref-2.ensures.value
-    (subst (λ (cs : List CheckCases). bytes ≡ checks_text c.args.text.now s.flow.names cs c.deref-2.result.now improvements)
-    c.as_slice-checks.ensures
-    (subst (λ (names : List (List ℕ)). bytes ≡ checks_text c.args.text.now names c.as_slice-checks.result.now c.deref-2.result.now
-    improvements) c.as_slice-names.ensures c.in_ok-bytes.ensures)) in
+    let shown = λ (names : List (List ℕ)) (cs : List CheckCases) (vs : List Verdict).
+    checks_in c.args.format c.args.file.now c.args.text.now names cs vs improvements in
+    let written : bytes ≡ shown s.flow.names checks verdicts =
+    subst (λ (vs : List Verdict). bytes ≡ shown s.flow.names checks vs) c.deref-2.ensures.value
+    (subst (λ (cs : List CheckCases). bytes ≡ shown s.flow.names cs c.deref-2.result.now) c.as_slice-checks.ensures
+    (subst (λ (names : List (List ℕ)). bytes ≡ shown names c.as_slice-checks.result.now c.deref-2.result.now) c.as_slice-names.ensures
+    c.in_ok-bytes.ensures)) in
     judged c.args.text.now (domain_text c.args.rows) c.args.policy c.args.limit s checks c.in_ok-checked.ensures.ok
     c.in_ok-solved.solved c.in_ok-solved.ensures.solved c.proved_verdicts_hold.ensures c.open_states_break.ensures
     c.in_ok-solved.ensures.least verdicts
     (subst (λ (cs : List CheckCases). AreCheckVerdicts (equations_of s) (vector_at s c.in_ok-solved.solved.bounds) cs verdicts)
     c.as_slice-checks.ensures c.in_ok-list.ensures.ok) c.has_open-is_open.result
     (subst (λ (vs : List Verdict). IsTrue c.has_open-is_open.result ↔ ((state : RationalState) × Contains vs (Open state)))
-    c.deref.ensures.value c.has_open-is_open.ensures) bytes written
+    c.deref.ensures.value c.has_open-is_open.ensures) c.args.format c.args.file.now bytes written

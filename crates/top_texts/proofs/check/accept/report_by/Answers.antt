@@ -19,7 +19,8 @@ returns-in_err-accept-clause-err c =
 pub returns-clause-ok : goal.returns-clause-ok
 returns-clause-ok c =
     let made = c.in_ok-system.ensures in
-    λ text given spelt. accepted_report c.args.program.now.names c.args.program.now.body c.args.cert.now c.in_ok-system.system _ text given
+    λ text given spelt. accepted_report c.args.program.now.names c.args.program.now.body c.args.cert.now c.in_ok-system.system
+    c.args.format _ text given
     (ap (λ (f : Flow). f.names) made.flow ∙ c.requires.names) (ap (λ (f : Flow). f.points) made.flow ∙ c.requires.points)
     (ap (λ (f : Flow). f.edges) made.flow ∙ c.requires.edges) made.template made.fits
-    c.in_ok-accept.ensures.valid c.in_ok-accept.ensures.narrow c.in_ok-accept.ensures.least c.in_ok-report.ensures spelt
+    c.in_ok-accept.ensures.valid c.in_ok-accept.ensures.narrow c.in_ok-accept.ensures.least c.in_ok-written_report.ensures spelt

@@ -1,0 +1,5 @@
+pub mod Verdicts
+pub mod Claims
+pub mod Checks
+pub mod Sarif
+pub mod Told

@@ -1,0 +1,3 @@
+pub mod reports
+pub mod told
+pub mod states
