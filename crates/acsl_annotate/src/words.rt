@@ -4,22 +4,57 @@ ghost use Rattle.std.specs.Prelude.{◌≡◌, ◌∷◌, IfOk, IsErrOf, None, S
 ghost use Rattle.ask_words.specs.Request.{analysis_text, request_of};
 ghost use Rattle.ask_words.specs.declared.request.Purpose.TheVariants.{Report};
 ghost use Rattle.ask_words.specs.declared.request.Request.TheVariants.{Analyse};
-ghost use Rattle.acsl_annotate.specs.Words.{IsSolve, as_solve};
+ghost use Rattle.acsl_annotate.specs.Words.{IsSolve, WordsReport, are_plain, as_solve};
 
-use ask_words::laws::solve_reports;
+use ask_words::laws::{request_laws, solve_reports};
 use ask_words::{Analysis, Format, Purpose, Request, WordsFault, read_words};
 use std::alloc::{AllocError, Global};
 
-// The words with `solve` before them.
-pub(crate) fn solve_words(alloc: Global, words: &[String]) -> Result<Vec<String>, AllocError>
-    ensures { IfOk result (λ all. map string_bytes all.items ≡ as_solve (map string_bytes words.now)) }
+// The words with another before them.
+fn words_behind(
+    alloc: Global,
+    first: &str,
+    words: &[String],
+) -> Result<Vec<String>, AllocError>
+    ensures { IfOk result (λ all. map string_bytes all.items ≡ first.now ∷ map string_bytes words.now) }
 {
     let mut all = Vec::new(alloc);
-    all.push(String::from_str(alloc, "solve")?)?;
+    all.push(String::from_str(alloc, first)?)?;
     for word in words {
         all.push(String::from_str(alloc, word)?)?;
     }
     Ok(all)
+}
+
+// Whether the words are a program and options that `certify` has too.
+fn are_plain(alloc: Global, words: &[String]) -> Result<bool, AllocError>
+    ensures { IfOk result (λ plain. plain ≡ are_plain (map string_bytes words.now)) }
+{
+    let all = words_behind(alloc, "certify", words)?;
+    match read_words(alloc, &all) {
+        Ok(_) => Ok(true),
+        Err(WordsFault::Usage) => Ok(false),
+        Err(WordsFault::NoMemory) => Err(AllocError),
+    }
+}
+
+// The words with `solve` before them; none where they aren't plain.
+pub(crate) fn solve_words(alloc: Global, words: &[String]) -> Result<Vec<String>, AllocError>
+    ensures { IfOk result (λ all. map string_bytes all.items ≡ as_solve (map string_bytes words.now)) }
+{
+    if are_plain(alloc, words)? {
+        words_behind(alloc, "solve", words)
+    } else {
+        Ok(Vec::new(alloc))
+    }
+}
+
+// Such words ask for the report of an analysis, or for nothing.
+fn words_report()
+    ensures { WordsReport }
+{
+    request_laws();
+    solve_reports();
 }
 
 // An analysis, and the format that is asked for beside it, which changes nothing here.
@@ -29,7 +64,7 @@ pub(crate) struct Worded<'a> {
     pub format: Format,
 }
 
-// What words that begin with `solve` ask for.
+// What such words ask for.
 pub(crate) fn read_analysis<'a>(
     alloc: Global,
     words: &'a [String],
@@ -39,7 +74,7 @@ pub(crate) fn read_analysis<'a>(
         request_of (map string_bytes words.entry.now) ≡ Some (Analyse Report (analysis_text asked.analysis) asked.format)) }
     ensures usage { IsErrOf result WordsFault.Usage → request_of (map string_bytes words.entry.now) ≡ None }
 {
-    solve_reports();
+    words_report();
     match read_words(alloc, words) {
         Ok(
             Request::Analyse {
@@ -48,7 +83,7 @@ pub(crate) fn read_analysis<'a>(
                 format,
             },
         ) => Ok(Worded { analysis, format }),
-        // `solve` asks for nothing else.
+        // They ask for nothing else.
         Ok(_) => Err(WordsFault::Usage),
         Err(fault) => Err(fault),
     }

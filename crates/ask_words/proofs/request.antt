@@ -1,2 +1,2 @@
 pub mod AnyName
-pub mod Solve
+pub mod OfSolve

@@ -35,6 +35,7 @@ const NO_COMMANDS: &[(&str, u8, &[u8])] = &[
     ("p --rows f", 2, USAGE),
     ("p --improvements 1000001", 2, USAGE),
     ("p --policy first --policy first", 2, USAGE),
+    ("p --format text", 2, USAGE),
     ("--help", 2, USAGE),
 ];
 

@@ -1,4 +1,4 @@
-use Rattle.ask_words.proofs.request.Solve.{reports}
+use Rattle.ask_words.proofs.request.OfSolve.{reports}
 use Rattle.ask_words.proofs.laws.solve_reports.Goals as goal
 
 pub returns : goal.returns
