@@ -11,11 +11,7 @@ use ask_words::{Analysis, Format, Purpose, Request, WordsFault, read_words};
 use std::alloc::{AllocError, Global};
 
 // The words with another before them.
-fn words_behind(
-    alloc: Global,
-    first: &str,
-    words: &[String],
-) -> Result<Vec<String>, AllocError>
+fn words_behind(alloc: Global, first: &str, words: &[String]) -> Result<Vec<String>, AllocError>
     ensures { IfOk result (λ all. map string_bytes all.items ≡ first.now ∷ map string_bytes words.now) }
 {
     let mut all = Vec::new(alloc);

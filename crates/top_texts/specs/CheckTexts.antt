@@ -15,7 +15,7 @@ use Rattle.ask_checks.specs.Places.{BreaksCheck, NoneBreaksCheck}
 use Rattle.ask_words.specs.declared.format.Format.{Format}
 use Rattle.ask_words.specs.declared.request.Domain.{Domain}
 use Rattle.ask_words.specs.declared.request.Policy.{Policy}
-use Rattle.top_texts.specs.Formats.{checks_in}
+use Rattle.top_written.specs.Formats.{checks_in}
 use Rattle.top_texts.specs.Meanings.{Meanings}
 use Rattle.top_texts.specs.Rounds.{HasRounds}
 use Rattle.top_texts.specs.Texts.{IsSolvedSystem}

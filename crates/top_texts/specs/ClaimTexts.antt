@@ -19,7 +19,7 @@ use Rattle.ask_verdicts.specs.declared.outcome.Verdict.TheVariants.{Proved, Open
 use Rattle.ask_words.specs.declared.format.Format.{Format}
 use Rattle.ask_words.specs.declared.request.Domain.{Domain}
 use Rattle.ask_words.specs.declared.request.Policy.{Policy}
-use Rattle.top_texts.specs.Formats.{claims_in}
+use Rattle.top_written.specs.Formats.{claims_in}
 use Rattle.top_texts.specs.Meanings.{Meanings}
 use Rattle.top_texts.specs.Rounds.{HasRounds}
 use Rattle.top_texts.specs.Texts.{IsReady, IsRefused, IsSolvedSystem}

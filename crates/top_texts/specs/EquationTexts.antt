@@ -11,7 +11,7 @@ use Rattle.flow_rationals.specs.System.{system_of}
 use Rattle.flow_rationals.specs.Values.{Values}
 use Rattle.ask_words.specs.declared.format.Format.{Format}
 use Rattle.ask_words.specs.declared.request.Policy.{Policy}
-use Rattle.top_texts.specs.Formats.{values_in}
+use Rattle.top_written.specs.Formats.{values_in}
 use Rattle.top_texts.specs.Rounds.{HasRounds}
 use Rattle.top_status.specs.declared.status.TextCause.{TextCause}
 use Rattle.top_status.specs.declared.status.TextCause.TheVariants.{Equ}

@@ -11,7 +11,7 @@ use Rattle.out_report.specs.Heads.{head_lines}
 use Rattle.ask_words.specs.declared.format.Format.{Format}
 use Rattle.ask_words.specs.declared.request.Domain.{Domain}
 use Rattle.ask_words.specs.declared.request.Policy.{Policy}
-use Rattle.top_texts.specs.Formats.{report_in}
+use Rattle.top_written.specs.Formats.{report_in}
 use Rattle.top_texts.specs.Rounds.{HasRounds, IsSystemFor}
 use Rattle.top_texts.specs.Texts.{IsAnalysed, IsReady}
 

@@ -12,7 +12,6 @@ pub mod TransitionTexts
 pub mod Generated
 pub mod Questions
 pub mod Spots
-pub mod Formats
 pub mod LeastReports
 pub mod MadeCertificates
 pub mod Exact

@@ -22,7 +22,7 @@ use Rattle.ask_words.specs.declared.request.Policy.{Policy}
 use Rattle.top_texts.specs.Checks.{IsCheckSpot, IsCompositionSpot, IsFormFault, IsRefusedCertificate, NoneIsWide, IsStopped, system_with}
 use Rattle.top_texts.specs.Checks.{theirs}
 use Rattle.top_texts.specs.Endings.{CheckEnd, UpgradeEnd}
-use Rattle.top_texts.specs.Formats.{report_of_in}
+use Rattle.top_written.specs.Formats.{report_of_in}
 use Rattle.top_texts.specs.Questions.{IsExcessIn, Question, QuestionEnds}
 use Rattle.top_texts.specs.Policies.{rule_of}
 use Rattle.top_texts.specs.Rounds.{EndsWithin, HasRounds, RunsOut}

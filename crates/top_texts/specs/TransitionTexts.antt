@@ -12,7 +12,7 @@ use Rattle.flow_systems.specs.Equations.{Least, Vector}
 use Rattle.ask_words.specs.declared.format.Format.{Format}
 use Rattle.ask_words.specs.declared.request.Domain.{Domain}
 use Rattle.ask_words.specs.declared.request.Policy.{Policy}
-use Rattle.top_texts.specs.Formats.{report_in}
+use Rattle.top_written.specs.Formats.{report_in}
 use Rattle.top_texts.specs.Rounds.{HasRounds}
 use Rattle.top_texts.specs.Texts.{HasTemplate}
 use Rattle.top_status.specs.declared.status.TextCause.{TextCause}

@@ -9,13 +9,12 @@ ghost use Rattle.flow_rationals.specs.Equations.{are_equations};
 ghost use Rattle.ask_words.specs.declared.request.Policy.{Policy as PolicyValue};
 ghost use Rattle.top_texts.specs.EquationTexts.{AreValuesOf};
 ghost use Rattle.top_texts.specs.Exact.{exact};
-ghost use Rattle.top_texts.specs.Formats.{values_in};
+ghost use Rattle.top_written.specs.Formats.{values_in};
 ghost use Rattle.top_texts.specs.Outcomes.{IsUnanswered};
 ghost use Rattle.top_texts.specs.Questions.{equations_question};
 
 use crate::analyse::rounds::solve;
 use crate::refusal::Refusal;
-use crate::written::written_values;
 use ask_words::{Format, Policy};
 use base_watch::Watch;
 use flow_rationals::{
@@ -24,6 +23,7 @@ use flow_rationals::{
 use flow_systems::{Bounds, Footer, System};
 use std::alloc::{AllocError, Global};
 use top_status::TextCause;
+use top_written::written_values;
 
 // The refusal of a text that has this fault.
 fn equation_refusal(fault: EquFault) -> Refusal

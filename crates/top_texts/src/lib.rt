@@ -14,7 +14,6 @@ mod refusal;
 mod transitions;
 mod upgrade;
 mod verify;
-mod written;
 
 // One call for each command that is asked of texts alone.
 pub use bench::bench_text;

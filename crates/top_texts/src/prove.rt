@@ -22,7 +22,6 @@ ghost use Rattle.top_texts.specs.Texts.{IsSolvedSystem};
 use crate::analyse::rounds::solve;
 use crate::analyse::system::system_on;
 use crate::refusal::Refusal;
-use crate::written::written_claims;
 use ask_claims::{
     Claim, ClaimFault, ClaimsFault, Verdict, open_states_break, proved_verdicts_hold, read_claims,
     verdicts,
@@ -32,6 +31,7 @@ use base_watch::Watch;
 use flow_systems::{Bounds, Site, Spot, System};
 use std::alloc::Global;
 use top_status::{Excess, TextCause};
+use top_written::written_claims;
 
 // The refusal of a text of claims that has this fault over a system's names and points.
 fn claim_refusal(fault: ClaimFault) -> Refusal

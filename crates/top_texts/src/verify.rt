@@ -19,7 +19,6 @@ use crate::analyse::rounds::solve;
 use crate::analyse::system::program_system;
 use crate::program::program_of;
 use crate::refusal::Refusal;
-use crate::written::written_checks;
 use ask_checks::{ChecksFault, check_verdicts, has_open, open_states_break, proved_verdicts_hold};
 use ask_verdicts::Verdict;
 use ask_words::{Domain, Format, Policy};
@@ -28,6 +27,7 @@ use flow_edges::{CheckCases, Checks};
 use flow_systems::{Bounds, Site, Spot, System};
 use std::alloc::Global;
 use top_status::Excess;
+use top_written::written_checks;
 
 /// The verdicts on the checks of a program.
 #[derive(Drop)]

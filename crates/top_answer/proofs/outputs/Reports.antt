@@ -19,7 +19,7 @@ use Rattle.ask_words.specs.declared.request.Domain.{Domain}
 use Rattle.ask_words.specs.declared.request.Policy.{Policy}
 use Rattle.top_texts.specs.Checks.{system_with}
 use Rattle.top_texts.specs.Exact.{exact}
-use Rattle.top_texts.specs.Formats.{report_in}
+use Rattle.top_written.specs.Formats.{report_in}
 use Rattle.top_texts.specs.LeastReports.{IsLeastReport, IsReportOf}
 use Rattle.top_texts.specs.Texts.{HasTemplate, IsSolvedSystem}
 use Rattle.top_texts.specs.TransitionTexts.{IsAutoReport}

@@ -19,7 +19,7 @@ use Rattle.flow_systems.specs.View.{equations_of}
 use Rattle.flow_systems.proofs.Sizes.{both}
 use Rattle.flow_systems.proofs.states.Soundness.{program_soundness}
 use Rattle.ask_words.specs.declared.format.Format.{Format}
-use Rattle.top_texts.specs.Formats.{report_in, report_of_in}
+use Rattle.top_written.specs.Formats.{report_in, report_of_in}
 use Rattle.top_texts.specs.Reports.{IsLeastReport}
 use Rattle.flow_templates.specs.declared.limits.TheConstants.{MOST_ROWS}
 

@@ -22,7 +22,7 @@ use Rattle.ask_words.specs.declared.request.Policy.{Policy}
 use Rattle.ask_words.specs.declared.request.Purpose.TheVariants.{Report}
 use Rattle.top_texts.specs.CheckTexts.{AreCheckVerdictsOf, HasChecks, ending_of}
 use Rattle.top_texts.specs.Exact.{exact}
-use Rattle.top_texts.specs.Formats.{checks_in}
+use Rattle.top_written.specs.Formats.{checks_in}
 use Rattle.top_texts.specs.Outcomes.{AreUnverified, IsHalted, IsRefusedBy, IsUnanswered}
 use Rattle.top_texts.specs.Policies.{rule_of}
 use Rattle.top_texts.specs.Questions.{checks_question}

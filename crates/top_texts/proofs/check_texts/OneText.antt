@@ -25,7 +25,7 @@ use Rattle.ask_words.specs.declared.request.Domain.{Domain}
 use Rattle.ask_words.specs.declared.request.Policy.{Policy}
 use Rattle.top_texts.specs.CheckTexts.{AreCheckVerdictsOf, ChecksEnd, IsJudged, all_proved, some_open}
 use Rattle.top_texts.specs.Exact.{exact}
-use Rattle.top_texts.specs.Formats.{checks_in}
+use Rattle.top_written.specs.Formats.{checks_in}
 use Rattle.top_texts.specs.Rounds.{HasRounds, RunsOut, chosen_by}
 use Rattle.top_texts.specs.Texts.{HasTemplate, IsSolvable, IsSolvedSystem}
 use Rattle.top_status.specs.declared.status.Status.{Status}

@@ -15,7 +15,7 @@ use Rattle.cert_types.specs.declared.cert.Cert.{Cert}
 use Rattle.ask_words.specs.declared.format.Format.{Format}
 use Rattle.top_texts.specs.Checks.{IsSpelt, NoneIsWide, system_with, theirs}
 use Rattle.top_texts.specs.Outcomes.{FitsProgram, IsUnaccepted}
-use Rattle.top_texts.specs.Formats.{report_of_in}
+use Rattle.top_written.specs.Formats.{report_of_in}
 use Rattle.top_texts.specs.Reports.{IsLeastReport, IsReportBy}
 use Rattle.top_texts.proofs.analyse.Solved.{least_report, same_equations}
 use Rattle.top_texts.specs.declared.refusal.Refusal.{Refusal}

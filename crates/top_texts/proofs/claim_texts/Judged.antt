@@ -25,7 +25,7 @@ use Rattle.ask_words.specs.declared.request.Domain.{Domain}
 use Rattle.ask_words.specs.declared.request.Policy.{Policy}
 use Rattle.ask_words.specs.declared.request.Purpose.TheVariants.{Report}
 use Rattle.top_texts.specs.ClaimTexts.{AreClaimsOf, AreNoClaims, AreVerdictsOf, IsClaimedSystem}
-use Rattle.top_texts.specs.Formats.{claims_in}
+use Rattle.top_written.specs.Formats.{claims_in}
 use Rattle.top_texts.specs.Exact.{exact}
 use Rattle.top_texts.specs.Outcomes.{AreUnjudged, IsHalted, IsRefusedBy, IsUnanswered}
 use Rattle.top_texts.specs.Policies.{rule_of}

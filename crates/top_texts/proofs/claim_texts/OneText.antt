@@ -1,8 +1,7 @@
 -- The texts of a program, of its rows and of claims have one list of verdicts.
-use Rattle.std.proofs.Common.{◌≡◌, ◌∙◌, ◌++◌, ◌<◌, ℕ, suc, false, List, [], ◌∷◌, length, get_or, map, refl, sym, ap, ap₂, subst, subst₂}
-use Rattle.std.specs.Prelude.{ℤ, Ok, ◌↔◌, codes, decimal}
+use Rattle.std.proofs.Common.{◌≡◌, ◌∙◌, ◌<◌, ℕ, false, List, [], ◌∷◌, length, get_or, map, sym, ap, subst, subst₂}
+use Rattle.std.specs.Prelude.{ℤ, Ok, ◌↔◌}
 use Rattle.std.specs.List.{All}
-use Rattle.std.proofs.lemmas.List.{length-map}
 use Rattle.std.proofs.lemmas.List.Elements.{All-head, All-tail}
 use Rattle.lang_tree.specs.Cases.{cases_of}
 use Rattle.lang_tree.specs.Tree.{Statements}
@@ -10,30 +9,21 @@ use Rattle.flow_edges.specs.Points.{points_of_program}
 use Rattle.flow_edges.specs.declared.point.Point.{Point}
 use Rattle.flow_edges.proofs.points.Numbering.{numbering}
 use Rattle.flow_systems.specs.Equations.{Equations, Vector}
-use Rattle.flow_systems.specs.Report.{footer_line, line}
 use Rattle.flow_systems.specs.Solutions.{equations_of_program}
-use Rattle.flow_systems.specs.declared.footer.Footer.TheVariants.{Improvements}
 use Rattle.flow_systems.proofs.equations.Leastness.{at_most_one}
 use Rattle.ask_claims.specs.AllVerdicts.{AreVerdicts, IsClaimVerdict}
 use Rattle.ask_claims.specs.Claims.{AreAtPoints, Stands, Stated, stated_of}
-use Rattle.serde_json.specs.Data.{Items, array, item, member, object, string}
-use Rattle.ask_claims.specs.Lines.{claim_lines}
-use Rattle.ask_json.specs.Claims.{claim_values, claims_value}
-use Rattle.ask_json.specs.Verdicts.{count_members, verdict_members}
-use Rattle.out_json.specs.Pieces.{value_line}
 use Rattle.ask_claims.specs.declared.claim.Claim.{Claim}
 use Rattle.ask_verdicts.specs.Breaking.{NoneOpen}
-use Rattle.ask_verdicts.specs.Lines.{count_line, verdict_text}
 use Rattle.ask_verdicts.specs.Verdicts.{SaysOpen}
 use Rattle.ask_verdicts.specs.declared.outcome.Verdict.{Verdict}
 use Rattle.ask_verdicts.specs.declared.outcome.Verdict.TheVariants.{Proved}
 use Rattle.ask_claims.proofs.laws.Lists.{verdicts_are_one}
 use Rattle.ask_words.specs.declared.format.Format.{Format}
-use Rattle.ask_words.specs.declared.format.Format.TheVariants.{Text, Json, Sarif}
 use Rattle.ask_words.specs.declared.request.Domain.{Domain}
 use Rattle.ask_words.specs.declared.request.Policy.{Policy}
 use Rattle.top_texts.specs.ClaimTexts.{AreClaimsOf, AreLeastVerdicts, AreVerdictsOf}
-use Rattle.top_texts.specs.Formats.{claims_in}
+use Rattle.top_written.proofs.formats.Claims.{SameStated, claims_agree, first_stated, rest_stated}
 use Rattle.top_texts.specs.Exact.{exact}
 use Rattle.top_texts.specs.Texts.{HasTemplate}
 use Rattle.top_texts.proofs.claim_texts.Once.{said_once, same_stated}
@@ -43,16 +33,7 @@ use Rattle.top_texts.proofs.texts.Readings.{program_once, rows_once}
 
 -- ---- claims that are stated alike
 
-abbrev SameStated : List Claim → List Claim → Type 0
-SameStated claims others = map stated_of claims ≡ map stated_of others
-
-first_stated : (c d : Claim) (cs ds : List Claim) → SameStated (c ∷ cs) (d ∷ ds) → stated_of c ≡ stated_of d
-first_stated c d cs ds e = cc
-
-rest_stated : (c d : Claim) (cs ds : List Claim) → SameStated (c ∷ cs) (d ∷ ds) → SameStated cs ds
-rest_stated c d cs ds e = cc
-
--- have the same verdicts
+-- they have the same verdicts
 module _ (names : List (List ℕ)) (points : List Point) (system : Equations) (z : Vector) where
   verdict_moves : (c d : Claim) (v : Verdict) → stated_of c ≡ stated_of d → Stands names points c → Stands names points d
       → IsClaimVerdict system z d v → IsClaimVerdict system z c v
@@ -76,52 +57,6 @@ module _ (names : List (List ℕ)) (points : List Point) (system : Equations) (z
     verdicts_move cs ds vs (rest_stated c d cs ds e) (All-tail (Stands names points) c cs h) (All-tail (Stands names points) d ds k) a.1,
   )
 
--- and the same lines
-lines_agree : (names : List (List ℕ)) (n : ℕ) (claims others : List Claim) (verdicts : List Verdict) → SameStated claims others
-    → claim_lines names n claims verdicts ≡ claim_lines names n others verdicts
-lines_agree names n [] [] vs e = refl
-lines_agree names n [] (d ∷ ds) vs e = absurd cc
-lines_agree names n (c ∷ cs) [] vs e = absurd cc
-lines_agree names n (c ∷ cs) (d ∷ ds) [] e = refl
-lines_agree names n (c ∷ cs) (d ∷ ds) (v ∷ vs) e =
-    ap₂ (λ (s : Stated) (rest : List ℕ). line (codes "claim " ++ decimal n ++ codes " " ++ s.label ++ codes ": " ++ verdict_text names v)
-    ++ rest)
-    (first_stated c d cs ds e) (lines_agree names (suc n) cs ds vs (rest_stated c d cs ds e))
-
-count_agrees : (claims others : List Claim) → SameStated claims others → length claims ≡ length others
-count_agrees claims others e = sym (length-map claims stated_of) ∙ ap length e ∙ length-map others stated_of
-
--- and the same items
-items_agree : (names : List (List ℕ)) (claims others : List Claim) (verdicts : List Verdict) → SameStated claims others
-    → claim_values names claims verdicts ≡ claim_values names others verdicts
-items_agree names [] [] vs e = refl
-items_agree names [] (d ∷ ds) vs e = absurd cc
-items_agree names (c ∷ cs) [] vs e = absurd cc
-items_agree names (c ∷ cs) (d ∷ ds) [] e = refl
-items_agree names (c ∷ cs) (d ∷ ds) (v ∷ vs) e =
-    ap₂ (λ (s : Stated) (rest : Items). item (object (member (codes "label") (string s.label) (verdict_members names v))) rest)
-    (first_stated c d cs ds e) (items_agree names cs ds vs (rest_stated c d cs ds e))
-
-line_agrees : (names : List (List ℕ)) (claims others : List Claim) (verdicts : List Verdict) (n : ℕ) → SameStated claims others
-    → value_line (claims_value names claims verdicts n) ≡ value_line (claims_value names others verdicts n)
-line_agrees names claims others verdicts n e =
-    ap (λ (items : Items). value_line (object (member (codes "claims") (array items) (count_members verdicts n))))
-    (items_agree names claims others verdicts e)
-
-same_text : (format : Format) (names : List (List ℕ)) (claims others : List Claim) (verdicts : List Verdict) (n : ℕ)
-    → SameStated claims others → claims_in format names claims verdicts n ≡ claims_in format names others verdicts n
-same_text Text names claims others verdicts n e =
-    ap₂ (λ (lines : List ℕ) k. lines ++ count_line k verdicts ++ footer_line (Improvements n))
-    (lines_agree names 0 claims others verdicts e) (count_agrees claims others e)
-same_text Json names claims others verdicts n e = line_agrees names claims others verdicts n e
-same_text Sarif names claims others verdicts n e = line_agrees names claims others verdicts n e
-
-text_agrees : (format : Format) (names : List (List ℕ)) (claims others : List Claim) (verdicts again : List Verdict) (n m : ℕ)
-    → SameStated claims others → verdicts ≡ again → n ≡ m
-    → claims_in format names claims verdicts n ≡ claims_in format names others again m
-text_agrees format names claims others verdicts again n m e same rounds =
-    ap₂ (λ (vs : List Verdict) k. claims_in format names claims vs k) same rounds ∙ same_text format names claims others again m e
-
 -- ---- the verdicts of a program
 
 at_points : (names : List (List ℕ)) (body : Statements) (template : List (List ℤ)) (claims : List Claim)
@@ -139,7 +74,7 @@ least_once given names body template claims others v w n m format one other roun
     let same = at_most_one system v w a.least b.least.solves b.least.below in
     let moved = verdicts_move names (points_of_program body) system w claims others b.verdicts stated h.stand k.stand b.verdicts_are in
     a.written
-    ∙ text_agrees format names claims others a.verdicts b.verdicts n m stated
+    ∙ claims_agree format names claims others a.verdicts b.verdicts n m stated
     (verdicts_are_one system v w claims a.verdicts b.verdicts same (at_points names body template claims h.stand) a.verdicts_are moved)
     rounds
     ∙ sym b.written

@@ -22,7 +22,7 @@ use Rattle.ask_words.specs.declared.request.Policy.{Policy}
 use Rattle.ask_words.specs.declared.request.Purpose.TheVariants.{Report}
 use Rattle.ask_words.specs.declared.format.Format.{Format}
 use Rattle.top_texts.specs.EquationTexts.{AreValuesOf, IsEquationSystem}
-use Rattle.top_texts.specs.Formats.{values_in}
+use Rattle.top_written.specs.Formats.{values_in}
 use Rattle.top_texts.specs.Outcomes.{IsHalted, IsUnanswered}
 use Rattle.top_texts.specs.Exact.{exact}
 use Rattle.top_texts.specs.Policies.{rule_of}

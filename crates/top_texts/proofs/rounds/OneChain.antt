@@ -19,7 +19,7 @@ use Rattle.solve_rounds.specs.declared.solution.Solved.{Solved}
 use Rattle.ask_words.specs.declared.format.Format.{Format}
 use Rattle.ask_words.specs.declared.request.Policy.{Policy}
 use Rattle.ask_words.specs.declared.request.Policy.TheVariants.{Best, First}
-use Rattle.top_texts.specs.Formats.{report_of_in}
+use Rattle.top_written.specs.Formats.{report_of_in}
 use Rattle.top_texts.specs.Outcomes.{IsRoundsReport}
 use Rattle.top_texts.specs.Policies.{rule_of}
 use Rattle.top_texts.specs.Rounds.{EndsWithin, HasRounds, RunsOut, chosen_by}

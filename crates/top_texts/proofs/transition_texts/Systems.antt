@@ -19,7 +19,7 @@ use Rattle.ask_words.specs.declared.format.Format.{Format}
 use Rattle.ask_words.specs.declared.request.Domain.{Domain}
 use Rattle.ask_words.specs.declared.request.Policy.{Policy}
 use Rattle.top_texts.specs.Exact.{exact}
-use Rattle.top_texts.specs.Formats.{report_in}
+use Rattle.top_written.specs.Formats.{report_in}
 use Rattle.top_texts.specs.Outcomes.{IsRefusedAlong, IsRoundsReport, IsUnanswered}
 use Rattle.top_texts.specs.Questions.{QuestionEnds, rounds_end, transitions_question}
 use Rattle.top_texts.specs.Texts.{HasTemplate}

@@ -15,13 +15,13 @@ ghost use Rattle.top_texts.specs.Outcomes.{IsHalted, IsRoundsReport};
 ghost use Rattle.top_texts.specs.Policies.{rule_of};
 
 use crate::refusal::Refusal;
-use crate::written::written_report;
 use ask_words::{Format, Policy};
 use base_watch::Watch;
 use flow_systems::{Footer, System};
 use solve_rounds::{Halt, Solved, least_by_best, least_by_first};
 use std::alloc::Global;
 use top_status::Excess;
+use top_written::written_report;
 
 // The rounds over a system by a policy.
 fn rounds_by<W: Watch>(

@@ -18,7 +18,6 @@ ghost use Rattle.top_texts.specs.Reports.{IsReportBy};
 
 use super::certificate::{is_countable, system_of};
 use crate::refusal::Refusal;
-use crate::written::written_report;
 use ask_words::Format;
 use cert_checker::{CheckFault, Scratch, check};
 use cert_types::Cert;
@@ -28,6 +27,7 @@ use lang_tree::Program;
 use solve_transformer::{PathFault, Paths, compose_all};
 use std::alloc::Global;
 use top_status::{CertCause, Excess};
+use top_written::written_report;
 
 // The composed edges of a system.
 fn paths_of(alloc: Global, system: &System) -> Result<Paths, Refusal>

@@ -1,7 +1,7 @@
 use Rattle.std.proofs.Common.{◌≡◌, ℕ, List, rules, subst}
 use Rattle.flow_systems.specs.View.{equations_of, vector_at}
 use Rattle.ask_claims.specs.AllVerdicts.{AreVerdicts}
-use Rattle.top_texts.specs.Formats.{claims_in}
+use Rattle.top_written.specs.Formats.{claims_in}
 use Rattle.ask_claims.specs.declared.claim.Claim.{Claim}
 use Rattle.ask_verdicts.specs.declared.outcome.Verdict.{Verdict}
 use Rattle.ask_words.specs.declared.request.Purpose.TheVariants.{Report}

@@ -5,7 +5,7 @@ use Rattle.flow_edges.specs.Checks.{checks_of_program}
 use Rattle.flow_edges.specs.declared.checked.CheckCases.{CheckCases}
 use Rattle.flow_systems.specs.States.{RationalState}
 use Rattle.flow_systems.specs.View.{equations_of, vector_at}
-use Rattle.top_texts.specs.Formats.{checks_in}
+use Rattle.top_written.specs.Formats.{checks_in}
 use Rattle.ask_checks.specs.Verdicts.{AreCheckVerdicts}
 use Rattle.ask_verdicts.specs.Breaking.{is_case}
 use Rattle.ask_verdicts.specs.declared.outcome.Verdict.{Verdict}

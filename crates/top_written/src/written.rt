@@ -4,7 +4,7 @@ ghost use Rattle.std.specs.Prelude.{◌≡◌, ◌*◌, ◌+◌, ◌≤◌, IfOk
 ghost use Rattle.base_limits.specs.declared.limits.TheConstants.{MOST_TEXT_BYTES};
 ghost use Rattle.flow_systems.specs.View.{vector_of};
 ghost use Rattle.lang_tree.specs.declared.limits.TheConstants.{MOST_VARIABLES};
-ghost use Rattle.top_texts.specs.Formats.{checks_in, claims_in, report_of_in, values_in};
+ghost use Rattle.top_written.specs.Formats.{checks_in, claims_in, report_of_in, values_in};
 
 use ask_checks::checks_text;
 use ask_claims::{Claim, verdicts_text};
@@ -18,8 +18,8 @@ use out_json::{report_json, values_json};
 use out_report::{report, values};
 use std::alloc::{AllocError, Global};
 
-// The whole report on the bounds of a system.
-pub(crate) fn written_report(
+/// The whole report on the bounds of a system.
+pub fn written_report(
     alloc: Global,
     system: &System,
     bounds: &Bounds,
@@ -36,8 +36,8 @@ pub(crate) fn written_report(
     }
 }
 
-// The values of names: the bounds of a point, counted from 0, where each point has one row for each of these names.
-pub(crate) fn written_values(
+/// The values of names: the bounds of a point, counted from 0, where each point has one row for each of these names.
+pub fn written_values(
     alloc: Global,
     names: &[Name],
     bounds: &Bounds,
@@ -56,8 +56,8 @@ pub(crate) fn written_values(
     }
 }
 
-// The verdicts on claims.
-pub(crate) fn written_claims(
+/// The verdicts on claims.
+pub fn written_claims(
     alloc: Global,
     names: &[Name],
     claims: &[Claim],
@@ -73,8 +73,8 @@ pub(crate) fn written_claims(
     }
 }
 
-// The verdicts on the checks of the text of a file.
-pub(crate) fn written_checks(
+/// The verdicts on the checks of the text of a file.
+pub fn written_checks(
     alloc: Global,
     file: &[u8],
     text: &[u8],
