@@ -274,7 +274,7 @@ fn is_whole(alloc: Global) -> Result<bool, AllocError> {
     let words = strings(alloc, &["solve", "p"])?;
     let mut shelf = PlainShelf::new(alloc, files);
     let mut out = PlainSink::new(alloc, 4096)?;
-    let mut err = PlainSink::new(alloc, 512)?;
+    let mut err = PlainSink::new(alloc, 1024)?;
     let status = run_in_memory(alloc, &words, &mut shelf, &mut out, &mut err);
     Ok(status == Status::Done && out.bytes() == WHOLE && err.bytes().is_empty())
 }
