@@ -66,7 +66,7 @@ abbrev pub IsNoted : Analysis (List ℕ) → List ℕ → Type 0
 IsNoted a bytes = IsSolvable a.program a.domain a.policy a.improvements × IsAnnotatedOf a.program a.domain bytes
 
 -- what is written for a request, at an ending, by a program whose `solve` writes the text with the annotations of the least vector in place
--- of its report, whatever format is asked for
+-- of its report; it has one format
 abbrev pub writes_noted : Meanings → Request → Status → List ℕ → Type 0
 writes_noted m (Analyse Report a format) status bytes = done_writes (λ made. IsNoted a made) status bytes
 writes_noted m asked status bytes = (command_of m asked).writes status bytes

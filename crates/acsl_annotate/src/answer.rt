@@ -123,7 +123,7 @@ fn annotation_of<W: Watch>(
     }
 }
 
-// The answer to words that begin with `solve`, with the usage line of the program that reports.
+// The answer to words as those of `solve`, with the usage line of the program that reports.
 fn annotation_by<W: Watch>(
     alloc: Global,
     words: &[String],
@@ -157,7 +157,7 @@ fn with_usage(answer: Answer) -> Answer
     }
 }
 
-/// The answer to words that begin with `solve`.
+/// The answer to words as those of `solve`.
 pub(crate) fn annotation_as_solve<W: Watch>(
     alloc: Global,
     words: &[String],
@@ -177,8 +177,8 @@ pub(crate) fn annotation_as_solve<W: Watch>(
     with_usage(annotation_by(alloc, words, contents, watch))
 }
 
-/// What the program answers to `words`, a program's name and the options of `solve`, and to the contents of the files that they name: those
-/// that `top_answer::answer` has for `solve`. Nothing is read, and nothing is written.
+/// What the program answers to `words`, a program's name and the options of `solve` but the format, and to the contents of the files that
+/// they name: those that `top_answer::answer` has for `solve`. Nothing is read, and nothing is written.
 ///
 /// The causes, and their order, are those of `top_answer::answer` for `solve` and these words. `watch` is told as there, and no clause
 /// mentions it.

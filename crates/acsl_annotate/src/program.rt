@@ -8,7 +8,7 @@ use std::alloc::Global;
 use top_answer::Answer;
 use top_run::Program;
 
-/// The program `tmpl_acsl`, asked with words that begin with `solve`.
+/// The program `tmpl_acsl`, asked with words as those of `solve`.
 #[derive(Clone, Copy, Debug, Drop)]
 pub struct Annotating;
 

@@ -16,8 +16,8 @@ use std::alloc::Global;
 use top_answer::{Exact, Meaning};
 use top_run::{Status, run_as, run_without_words};
 
-/// Does all that the program does, and says how it ended. `words` are a program's name and the options of `solve`; the annotated text
-/// goes to `out`, and the message of every other ending to `err` (docs/USING.md, "Annotations").
+/// Does all that the program does, and says how it ended. `words` are a program's name and the options of `solve` but the format; the
+/// annotated text goes to `out`, and the message of every other ending to `err` (docs/USING.md, "Annotations").
 ///
 /// Where the words ask for progress, `watch` is told of rounds, turns and pivots, as by `top_run::run`.
 ///
