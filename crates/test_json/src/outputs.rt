@@ -125,7 +125,8 @@ const ASSERTS_JSON: &[u8] = b"{\"checks\":[\
     \"verdict\":\"open\"}\
     ],\"improvements\":0,\"proved\":1}\n";
 
-const ASSERTS_SARIF: &[u8] = b"{\"$schema\":\"https://json.schemastore.org/sarif-2.1.0.json\",\"runs\":[{\"results\":[\
+const ASSERTS_SARIF: &[u8] =
+    b"{\"$schema\":\"https://json.schemastore.org/sarif-2.1.0.json\",\"runs\":[{\"results\":[\
     {\"level\":\"warning\",\"locations\":[{\"physicalLocation\":{\"artifactLocation\":{\"uri\":\"a%20b/%C3%BC-1.c\"},\
     \"region\":{\"startColumn\":5,\"startLine\":5}}}],\
     \"message\":{\"text\":\"assert: open at b = 11, _ = 7, a2 = 10, a = -1, B = 0\"},\"ruleId\":\"assert\"},\
