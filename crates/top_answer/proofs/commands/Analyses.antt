@@ -15,7 +15,7 @@ use Rattle.ask_files.specs.declared.which.Which.TheVariants as which
 use Rattle.ask_words.specs.Request.{analysis_in, certify_in, format_in, solve_in}
 use Rattle.ask_words.specs.Values.{formats}
 use Rattle.ask_words.specs.declared.format.Format.{Format}
-use Rattle.ask_words.specs.declared.format.Format.TheVariants as format
+use Rattle.ask_words.specs.declared.format.Format.TheVariants.{Text as AsText}
 use Rattle.ask_words.specs.declared.request.Analysis.{Analysis}
 use Rattle.ask_words.specs.declared.request.Domain.{Domain}
 use Rattle.ask_words.specs.declared.request.Policy.{Policy}
@@ -132,7 +132,7 @@ solve_range given r e =
 -- so are those of a certificate
 pub certify_range : (given : List Row) (r : Request) → certify_in given ≡ Some r → IsInRange r
 certify_range given r e =
-    let made : Analysis (List ℕ) → Request = λ a. Analyse AsCertificate a format.Text in
+    let made : Analysis (List ℕ) → Request = λ a. Analyse AsCertificate a AsText in
     let a = map_some made (analysis_in given) r e in
     subst (λ r. IsInRange r) a.2 (analysis_bounds given a.0 a.1)
 
