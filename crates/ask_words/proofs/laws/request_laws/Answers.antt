@@ -37,10 +37,6 @@ pub returns-clause-help : goal.returns-clause-help
 unfolding clap_on_literals request_of
 returns-clause-help c = refl
 
-pub returns-clause-unknown : goal.returns-clause-unknown
-unfolding clap_on_literals request_of
-returns-clause-unknown c = refl
-
 pub returns-clause-json : goal.returns-clause-json
 unfolding clap_on_literals request_of
 returns-clause-json c = refl
