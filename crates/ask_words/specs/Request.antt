@@ -21,7 +21,6 @@ use Rattle.ask_words.specs.declared.request.Policy.{Policy}
 use Rattle.ask_words.specs.declared.request.Policy.TheVariants.{Best, First}
 use Rattle.ask_words.specs.declared.request.Request.TheVariants.{Analyse, Check, Bench, Upgrade, Prove, Transitions, Equations, Points}
 use Rattle.ask_words.specs.declared.request.Request.TheVariants.{Verify, Help}
-use Rattle.ask_words.specs.declared.request.Purpose.{Purpose}
 use Rattle.ask_words.specs.declared.request.Purpose.TheVariants.{Report, Certificate}
 
 -- ---- the command line, as `clap` sees it

@@ -37,14 +37,18 @@ record FindsAlone (word : Text) (rows : List Row) : Type 0 where
 found : (x : ℕ) (rest : Text) → eqb x 45 ≡ false → (rows : List Row)
     × (entered (built tmpl_app) (Some (codes "solve", (x ∷ rest) ∷ [])) ≡ Some (codes "solve", rows)) × FindsAlone (x ∷ rest) rows
 unfolding clap_on_literals
-found x rest e = rw (e, no_short x rest e) (_, refl, record {
-  program = refl;
-  domain = refl;
-  file = refl;
-  improvements = refl;
-  policy = refl;
-  written = refl;
-})
+found x rest e = rw (e, no_short x rest e) (
+  _,
+  refl,
+  record {
+    program = refl;
+    domain = refl;
+    file = refl;
+    improvements = refl;
+    policy = refl;
+    written = refl;
+  },
+)
 
 -- a program alone is analysed over intervals, and its report is a text
 analysed : (word : Text) (rows : List Row) → FindsAlone word rows

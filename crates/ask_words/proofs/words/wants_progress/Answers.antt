@@ -1,7 +1,7 @@
-use Rattle.std.proofs.Common.{◌≡◌, List, map, ap, subst, sym, ◌∙◌, false, string_bytes, ⊎_elim, refl}
+use Rattle.std.proofs.Common.{◌≡◌, List, map, ap, subst, sym, ◌∙◌, string_bytes, ⊎_elim, refl}
 use Rattle.clap.specs.Words.{App, IsAmong, Text, app_of, fault_of, is_simple, is_simple_and_free, kind_of, subcommand_of}
 use Rattle.clap.specs.Words.{subcommand_rows_of}
-use Rattle.ask_words.specs.Request.{progress_in, tmpl_app, wants_progress}
+use Rattle.ask_words.specs.Request.{progress_in, tmpl_app}
 use Rattle.ask_words.proofs.words.Parsed.{free, simple, told, untold}
 use Rattle.ask_words.proofs.words.wants_progress.Goals as goal
 
