@@ -1,2 +1,4 @@
 pub mod Rests
+pub mod Pushed
 pub mod told
+pub mod log

@@ -1,14 +1,16 @@
--- What is left of the items of claims and checks.
-use Rattle.std.proofs.Common.{◌≡◌, ◌∙◌, ⊎_elim, ◌≤◌, ℕ, Bool, List, [], ◌∷◌, length, drop, min, refl, ap, arith}
+-- What is left of the items of claims and checks, and what comes next of those of open checks.
+use Rattle.std.proofs.Common.{◌≡◌, ◌∙◌, ⊎_elim, ◌≤◌, ℕ, Bool, List, [], ◌∷◌, ◌++◌, length, drop, min, refl, sym, ap, append_assoc, arith}
 use Rattle.std.proofs.lemmas.Bool.{cases_lt}
 use Rattle.std.proofs.lemmas.List.{drop_all}
 use Rattle.serde_json.specs.Data.{Items, no_items}
+use Rattle.serde_json.specs.Written.{comma_if, items_text}
 use Rattle.flow_edges.specs.declared.checked.CheckCases.{CheckCases}
 use Rattle.ask_verdicts.specs.declared.outcome.Verdict.{Verdict}
+use Rattle.ask_verdicts.specs.declared.outcome.Verdict.TheVariants.{Proved, Open}
 use Rattle.ask_claims.specs.declared.claim.Claim.{Claim}
 use Rattle.ask_json.specs.Checks.{check_values}
 use Rattle.ask_json.specs.Claims.{claim_values}
-use Rattle.ask_json.specs.Sarif.{results}
+use Rattle.ask_json.specs.Sarif.{is_later, open_text, results}
 
 -- nothing is left where one of two lists is at its end, if nothing is made of an empty one
 rest_end : {A B : Type 0} (items : List A → List B → Items) → ((ys : List B) → items [] ys ≡ no_items)
@@ -44,3 +46,11 @@ no_results uri text names (check ∷ checks) = refl
 pub results_rest : (uri text : List ℕ) (names : List (List ℕ)) (checks : List CheckCases) (verdicts : List Verdict) (i : ℕ)
     → min (length checks) (length verdicts) ≤ i → results uri text names (drop i checks) (drop i verdicts) ≡ no_items
 results_rest uri text names = rest_end (results uri text names) (λ verdicts. refl) (no_results uri text names)
+
+-- a check and its verdict are told before those behind them
+pub next_result : (later : Bool) (uri text : List ℕ) (names : List (List ℕ)) (check : CheckCases) (checks : List CheckCases)
+    (verdict : Verdict) (verdicts : List Verdict)
+    → items_text later (results uri text names (check ∷ checks) (verdict ∷ verdicts))
+    ≡ open_text later uri text names check verdict ++ items_text (is_later later verdict) (results uri text names checks verdicts)
+next_result later uri text names check checks Proved verdicts = refl
+next_result later uri text names check checks (Open state) verdicts = sym (append_assoc (comma_if later) _ _)

@@ -1,13 +1,17 @@
 -- Verdicts on claims as a JSON value.
 use Rattle.std.specs.Prelude.{ℕ, List, [], ◌∷◌, codes}
-use Rattle.serde_json.specs.Data.{Data, string, array, object, Items, no_items, item, member}
+use Rattle.serde_json.specs.Data.{Data, string, array, object, Items, no_items, item, Members, member}
 use Rattle.ask_verdicts.specs.declared.outcome.Verdict.{Verdict}
 use Rattle.ask_claims.specs.declared.claim.Claim.{Claim}
 use Rattle.ask_json.specs.Verdicts.{count_members, verdict_members}
 
 -- a claim with its verdict
+abbrev pub claim_members : List (List ℕ) → Claim → Verdict → Members
+claim_members names claim verdict = member (codes "label") (string claim.label) (verdict_members names verdict)
+
+-- the same as an object
 abbrev pub claim_value : List (List ℕ) → Claim → Verdict → Data
-claim_value names claim verdict = object (member (codes "label") (string claim.label) (verdict_members names verdict))
+claim_value names claim verdict = object (claim_members names claim verdict)
 
 -- each claim with its verdict
 abbrev pub claim_values : List (List ℕ) → List Claim → List Verdict → Items

@@ -9,7 +9,7 @@ use Rattle.ask_verdicts.specs.declared.outcome.Verdict.TheVariants.{Proved, Open
 use Rattle.ask_checks.specs.Lines.{checks_text}
 use Rattle.ask_claims.specs.Lines.{verdicts_text}
 use Rattle.ask_claims.specs.declared.claim.Claim.{Claim}
-use Rattle.out_json.specs.Told.{behind, items_told, number_told, text_told}
+use Rattle.out_json.specs.Told.{digits_told, items_told, text_told}
 use Rattle.ask_json.specs.Checks.{checks_value}
 use Rattle.ask_json.specs.Claims.{claims_value}
 
@@ -35,10 +35,13 @@ abbrev pub items_len : Items → ℕ
 items_len no_items = 0
 items_len (item d ds) = suc (items_len ds)
 
--- how many are proved, of so many, and how many improvements were made
-abbrev pub counts_told : Items → Data → List ℕ
-counts_told items d = line (number_told (codes "proved ") (get (codes "proved") d) ++ codes " of " ++ decimal (items_len items))
-    ++ line (number_told (codes "improvements: ") (get (codes "improvements") d))
+-- how many are proved, of so many
+abbrev pub proved_told : Items → Data → List ℕ
+proved_told items d = line (codes "proved " ++ digits_told (get (codes "proved") d) ++ codes " of " ++ decimal (items_len items))
+
+-- how many improvements were made
+abbrev pub improvements_told : Data → List ℕ
+improvements_told d = line (codes "improvements: " ++ digits_told (get (codes "improvements") d))
 
 -- ---- claims and checks
 
@@ -50,18 +53,20 @@ claim_lines_told names k (item d ds) = line (codes "claim " ++ decimal k ++ code
 
 -- the lines of verdicts on claims
 abbrev pub claims_told : List (List ℕ) → Data → List ℕ
-claims_told names d = claim_lines_told names 0 (items_told (get (codes "claims") d)) ++ counts_told (items_told (get (codes "claims") d)) d
+claims_told names d = claim_lines_told names 0 (items_told (get (codes "claims") d))
+    ++ proved_told (items_told (get (codes "claims") d)) d ++ improvements_told d
 
 -- a line for each check, the first of them having the number k
 abbrev pub check_lines_told : List (List ℕ) → ℕ → Items → List ℕ
 check_lines_told names k no_items = []
-check_lines_told names k (item d ds) = line (codes "check " ++ decimal k ++ number_told (codes " at ") (get (codes "line") d)
-    ++ number_told (codes ":") (get (codes "column") d) ++ codes ": " ++ text_told (get (codes "kind") d) ++ codes ": "
+check_lines_told names k (item d ds) = line (codes "check " ++ decimal k ++ codes " at " ++ digits_told (get (codes "line") d)
+    ++ codes ":" ++ digits_told (get (codes "column") d) ++ codes ": " ++ text_told (get (codes "kind") d) ++ codes ": "
     ++ verdict_told names d) ++ check_lines_told names (suc k) ds
 
 -- the lines of verdicts on checks
 abbrev pub checks_told : List (List ℕ) → Data → List ℕ
-checks_told names d = check_lines_told names 0 (items_told (get (codes "checks") d)) ++ counts_told (items_told (get (codes "checks") d)) d
+checks_told names d = check_lines_told names 0 (items_told (get (codes "checks") d))
+    ++ proved_told (items_told (get (codes "checks") d)) d ++ improvements_told d
 
 -- ---- laws
 

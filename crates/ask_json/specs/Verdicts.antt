@@ -17,12 +17,19 @@ abbrev pub state_of : List (List ℕ) → Verdict → Data
 state_of names Proved = null
 state_of names (Open state) = state_value names state
 
+-- the word
+abbrev pub word_members : Verdict → Members
+word_members verdict = member (codes "verdict") (string (word_of verdict)) no_members
+
 -- the state and the word
 abbrev pub verdict_members : List (List ℕ) → Verdict → Members
-verdict_members names verdict =
-    member (codes "state") (state_of names verdict) (member (codes "verdict") (string (word_of verdict)) no_members)
+verdict_members names verdict = member (codes "state") (state_of names verdict) (word_members verdict)
+
+-- so many improvements were made, and so many verdicts are `Proved`
+abbrev pub counted_members : ℕ → ℕ → Members
+counted_members improvements proved =
+    member (codes "improvements") (count improvements) (member (codes "proved") (count proved) no_members)
 
 -- how many improvements were made, and how many verdicts are `Proved`
 abbrev pub count_members : List Verdict → ℕ → Members
-count_members verdicts improvements =
-    member (codes "improvements") (count improvements) (member (codes "proved") (count (count_by is_proved verdicts)) no_members)
+count_members verdicts improvements = counted_members improvements (count_by is_proved verdicts)

@@ -4,5 +4,5 @@
 mod text;
 
 pub use text::{
-    push_begin, push_key, push_number, push_number_member, push_text, push_text_member,
+    push_begin, push_key, push_list, push_number, push_number_member, push_text, push_text_member,
 };

@@ -97,6 +97,15 @@ pub fn push_key(out: &mut Vec<u8>, later: bool, key: &[u8]) -> Result<(), AllocE
     Ok(())
 }
 
+/// Appends a member's key, its colon and the bracket that opens its list, behind a comma where it isn't the first.
+pub fn push_list(out: &mut Vec<u8>, later: bool, key: &[u8]) -> Result<(), AllocError>
+    ensures { IfOk result (λ _. out.new.items ≡ out.old.items ++ (comma_if later ++ (quoted key.now ++ 58 ∷ 91 ∷ []))) }
+{
+    push_key(out, later, key)?;
+    out.extend_from_slice(b"[")?;
+    Ok(())
+}
+
 /// Appends a number's decimal digits.
 pub fn push_number(out: &mut Vec<u8>, number: u64) -> Result<(), AllocError>
     ensures { IfOk result (λ _. out.new.items ≡ out.old.items ++ decimal number) }

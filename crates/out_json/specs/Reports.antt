@@ -55,19 +55,30 @@ point_bounds template bounds neg_inf = no_items
 point_bounds template bounds (fin q) = row_bounds 0 template bounds
 point_bounds template bounds pos_inf = row_bounds 0 template bounds
 
+-- the name of a point
+abbrev pub name_members : Place → Members → Members
+name_members place rest = member (codes "name") (name_value place) rest
+
+-- its line and its name
+abbrev pub line_members : Point → Members → Members
+line_members point rest = member (codes "line") (line_value point.place point.line) (name_members point.place rest)
+
 -- what a point is, and where
 abbrev pub place_members : Point → Members → Members
-place_members point rest = member (codes "kind") (string (kind_text point.place)) (member (codes "line") (line_value point.place point.line)
-    (member (codes "name") (name_value point.place) rest))
+place_members point rest = member (codes "kind") (string (kind_text point.place)) (line_members point rest)
 
 -- the number of a point, and whether it is reachable
 abbrev pub last_members : ℕ → Bool → Members
 last_members p reachable = member (codes "point") (count p) (member (codes "reachable") (boolean reachable) no_members)
 
+-- a point with these bounds, by the first of them
+abbrev pub bounded_members : List (List ℤ) → (ℕ → Ext) → Ext → ℕ → Point → Members
+bounded_members template bounds first p point = member (codes "bounds") (array (point_bounds template bounds first))
+    (place_members point (last_members p (is_reachable first)))
+
 -- a point with its bounds
 abbrev pub point_value : List (List ℤ) → Vector → ℕ → Point → Data
-point_value template v p point = object (member (codes "bounds") (array (point_bounds template (v p) (v p 0)))
-    (place_members point (last_members p (is_reachable (v p 0)))))
+point_value template v p point = object (bounded_members template (v p) (v p 0) p point)
 
 -- each point in order, the first having the number p
 abbrev pub point_values : List (List ℤ) → Vector → ℕ → List Point → Items
@@ -79,15 +90,21 @@ abbrev pub row_values : List (List ℕ) → List (List ℤ) → Items
 row_values names [] = no_items
 row_values names (row ∷ rows) = item (string (row_text names row)) (row_values names rows)
 
+-- the variables
+abbrev pub variable_members : List (List ℕ) → Members
+variable_members names = member (codes "variables") (array (texts names)) no_members
+
 -- the rows and the variables
-abbrev pub name_members : List (List ℕ) → List (List ℤ) → Members
-name_members names template =
-    member (codes "rows") (array (row_values names template)) (member (codes "variables") (array (texts names)) no_members)
+abbrev pub row_members : List (List ℕ) → List (List ℤ) → Members
+row_members names template = member (codes "rows") (array (row_values names template)) (variable_members names)
+
+-- the points with their bounds, the rows and the variables
+abbrev pub body_members : List (List ℕ) → List Point → List (List ℤ) → Vector → Members
+body_members names points template v = member (codes "points") (array (point_values template v 0 points)) (row_members names template)
 
 -- how it ends, the points with their bounds, the rows and the variables
 abbrev pub report_value : List (List ℕ) → List Point → List (List ℤ) → Vector → Footer → Data
-report_value names points template v footer =
-    object (footer_member footer (member (codes "points") (array (point_values template v 0 points)) (name_members names template)))
+report_value names points template v footer = object (footer_member footer (body_members names points template v))
 
 -- the report of a vector of a system
 abbrev pub report_value_of : System → Vector → Footer → Data

@@ -33,6 +33,11 @@ abbrev pub number_told : List ℕ → Option Data → List ℕ
 number_told words (Some (number (unsigned n))) = words ++ decimal n
 number_told words _ = []
 
+-- the decimal digits of a number; nothing where there is none
+abbrev pub digits_told : Option Data → List ℕ
+digits_told (Some (number (unsigned n))) = decimal n
+digits_told _ = []
+
 -- words, and a text behind them; nothing where there is none
 abbrev pub behind : List ℕ → Option Data → List ℕ
 behind words (Some (string text)) = words ++ text

@@ -1,18 +1,18 @@
 //! Points with their bounds.
 
-ghost use Rattle.std.specs.Prelude.{◌≡◌, ◌≤◌, ◌<◌, ◌+◌, ◌*◌, ◌++◌, IfOk, false, true, length, map};
-ghost use Rattle.serde_json.specs.Data.{array, boolean, member, no_members};
-ghost use Rattle.serde_json.specs.Written.{compact_text, items_text, members_text};
+ghost use Rattle.std.specs.Prelude.{◌≡◌, ◌≤◌, ◌<◌, ◌+◌, ◌*◌, ◌++◌, ◌∷◌, IfOk, codes, false, true, length, map};
+ghost use Rattle.json.specs.Print.{quoted};
+ghost use Rattle.serde_json.specs.Written.{comma_if, compact_text, items_text, members_text};
 ghost use Rattle.base_fractions.specs.Extended.{extended};
+ghost use Rattle.flow_systems.specs.Report.{bound_text};
 ghost use Rattle.flow_systems.specs.View.{vector_of};
 ghost use Rattle.out_report.specs.Points.{bounds_from, point_of};
-ghost use Rattle.out_json.specs.Pieces.{count};
-ghost use Rattle.out_json.specs.Reports.{is_reachable, kind_text, last_members, line_value, name_value, place_members, point_bounds};
-ghost use Rattle.out_json.specs.Reports.{point_value, point_values, row_bounds};
+ghost use Rattle.out_json.specs.Reports.{bounded_members, is_reachable, kind_text, last_members, line_members, line_value};
+ghost use Rattle.out_json.specs.Reports.{name_members, name_value, place_members, point_bounds, point_value, point_values, row_bounds};
 
 use base_fractions::Ext;
 use base_json::{
-    push_begin, push_key, push_number, push_number_member, push_text, push_text_member,
+    push_begin, push_key, push_list, push_number, push_number_member, push_text, push_text_member,
 };
 use flow_edges::{Place, Point};
 use flow_systems::System;
@@ -74,6 +74,44 @@ fn push_last(out: &mut Vec<u8>, number: usize, is_reachable: bool) -> Result<(),
     Ok(())
 }
 
+/// Appends the name of a point, its number, and whether it is reachable.
+fn push_named(
+    out: &mut Vec<u8>,
+    place: &Place,
+    number: usize,
+    is_reachable: bool,
+) -> Result<(), AllocError>
+    ensures { IfOk result (λ _. out.new.items
+        ≡ out.old.items ++ members_text true (name_members place.now (last_members number is_reachable))) }
+{
+    push_key(out, true, b"name")?;
+    push_name(out, place)?;
+    push_last(out, number, is_reachable)
+}
+
+/// Appends what a point is, as a member.
+fn push_kind(out: &mut Vec<u8>, place: &Place) -> Result<(), AllocError>
+    ensures { IfOk result (λ _. out.new.items
+        ≡ out.old.items ++ (comma_if true ++ (quoted (codes "kind") ++ 58 ∷ quoted (kind_text place.now)))) }
+{
+    push_text_member(out, true, b"kind", kind_of(place))
+}
+
+/// Appends the line of a point, its name, its number, and whether it is reachable.
+fn push_lined(
+    out: &mut Vec<u8>,
+    point: &Point,
+    number: usize,
+    is_reachable: bool,
+) -> Result<(), AllocError>
+    ensures { IfOk result (λ _. out.new.items
+        ≡ out.old.items ++ members_text true (line_members point.now (last_members number is_reachable))) }
+{
+    push_key(out, true, b"line")?;
+    push_line(out, &point.place, point.line)?;
+    push_named(out, &point.place, number, is_reachable)
+}
+
 /// Appends what a point is and where, its number, and whether it is reachable.
 fn push_place(
     out: &mut Vec<u8>,
@@ -84,12 +122,37 @@ fn push_place(
     ensures { IfOk result (λ _. out.new.items
         ≡ out.old.items ++ members_text true (place_members point.now (last_members number is_reachable))) }
 {
-    push_text_member(out, true, b"kind", kind_of(&point.place))?;
-    push_key(out, true, b"line")?;
-    push_line(out, &point.place, point.line)?;
-    push_key(out, true, b"name")?;
-    push_name(out, &point.place)?;
-    push_last(out, number, is_reachable)
+    push_kind(out, &point.place)?;
+    push_lined(out, point, number, is_reachable)?;
+    Ok(())
+}
+
+/// The bound of a row at the point whose bounds begin at `first`.
+fn bound_of(bounds: &[Ext], first: usize, row: usize) -> Ext
+    requires { first + row < length bounds.now }
+    ensures { extended result ≡ bounds_from bounds.now first row }
+{
+    bounds[first + row]
+}
+
+/// Appends a bound as a text.
+fn push_bound(out: &mut Vec<u8>, bound: Ext) -> Result<(), AllocError>
+    ensures { IfOk result (λ _. out.new.items ≡ out.old.items ++ quoted (bound_text (extended bound))) }
+{
+    push_text(out, bound.text().bytes())
+}
+
+/// Appends the bound of a row as a text.
+fn push_row_bound(
+    out: &mut Vec<u8>,
+    bounds: &[Ext],
+    first: usize,
+    row: usize,
+) -> Result<(), AllocError>
+    requires { first + row < length bounds.now }
+    ensures { IfOk result (λ _. out.new.items ≡ out.old.items ++ quoted (bound_text (bounds_from bounds.now first row))) }
+{
+    push_bound(out, bound_of(bounds, first, row))
 }
 
 /// Appends a bound for each row as items; that of the first stands at `first`.
@@ -105,20 +168,10 @@ fn push_rows(
 {
     for index in 0..rows.len() {
         push_begin(out, index > 0)?;
-        push_text(out, bounds[first + index].text().bytes())?;
+        push_row_bound(out, bounds, first, index)?;
     }
     out.extend_from_slice(b"]")?;
     Ok(())
-}
-
-/// Whether a point with this first bound is reachable.
-fn is_reachable(bound: Ext) -> bool
-    ensures { result ≡ is_reachable (extended bound) }
-{
-    match bound {
-        Ext::NegInf => false,
-        Ext::Fin(_) | Ext::PosInf => true,
-    }
 }
 
 /// Appends the bounds of a point: none where it is unreachable.
@@ -131,16 +184,54 @@ fn push_bounds(
     requires some { 0 < length rows.now }
     requires within { first + length rows.now ≤ length bounds.now }
     ensures { IfOk result (λ _. out.new.items ≡ out.old.items
-        ++ compact_text (array (point_bounds rows.now (bounds_from bounds.now first) (bounds_from bounds.now first 0)))) }
+        ++ items_text false (point_bounds rows.now (bounds_from bounds.now first) (bounds_from bounds.now first 0))) }
 {
-    out.extend_from_slice(b"[")?;
-    match bounds[first] {
+    match bound_of(bounds, first, 0) {
         Ext::NegInf => {
             out.extend_from_slice(b"]")?;
             Ok(())
         }
         _ => push_rows(out, rows, bounds, first),
     }
+}
+
+/// Whether a point with this first bound is reachable.
+fn is_reachable(bound: Ext) -> bool
+    ensures { result ≡ is_reachable (extended bound) }
+{
+    match bound {
+        Ext::NegInf => false,
+        Ext::Fin(_) | Ext::PosInf => true,
+    }
+}
+
+/// Whether the point whose bounds begin at `first` is reachable.
+fn is_reached(bounds: &[Ext], first: usize) -> bool
+    requires { first < length bounds.now }
+    ensures { result ≡ is_reachable (bounds_from bounds.now first 0) }
+{
+    is_reachable(bound_of(bounds, first, 0))
+}
+
+/// Appends the members of a point whose bounds begin at `first`.
+fn push_members(
+    out: &mut Vec<u8>,
+    rows: &[Coeffs],
+    bounds: &[Ext],
+    first: usize,
+    number: usize,
+    point: &Point,
+) -> Result<(), AllocError>
+    requires some { 0 < length rows.now }
+    requires within { first + length rows.now ≤ length bounds.now }
+    ensures { IfOk result (λ _. out.new.items ≡ out.old.items ++ members_text false (bounded_members rows.now
+        (bounds_from bounds.now first) (bounds_from bounds.now first 0) number point.now)) }
+{
+    push_list(out, false, b"bounds")?;
+    push_bounds(out, rows, bounds, first)?;
+    let is_reachable = is_reached(bounds, first);
+    push_place(out, point, number, is_reachable)?;
+    Ok(())
 }
 
 /// Appends a point.
@@ -156,16 +247,14 @@ fn push_point(
         (vector_of (length system.now.template) (map extended bounds.now)) number (point_of system.now.flow.points number))) }
 {
     let rows = system.template.as_slice();
-    let first = number * rows.len();
     out.extend_from_slice(b"{")?;
-    push_key(out, false, b"bounds")?;
-    push_bounds(out, rows, bounds, first)?;
-    let is_reachable = is_reachable(bounds[first]);
-    push_place(
+    push_members(
         out,
-        &system.flow.points.as_slice()[number],
+        rows,
+        bounds,
+        number * rows.len(),
         number,
-        is_reachable,
+        &system.flow.points.as_slice()[number],
     )
 }
 

@@ -17,17 +17,10 @@ use std::collections::BTreeMap;
 type Variables = BTreeMap<Vec<u8>, Frac>;
 
 /// Puts a variable among others.
-#[tactic(auto, using(crate::proofs::states::Entries::inserted))]
-fn put_variable(
-    alloc: Global,
-    variables: &mut Variables,
-    name: &Name,
-    value: Frac,
-) -> Result<(), AllocError>
+fn put_variable(variables: &mut Variables, name: Vec<u8>, value: Frac) -> Result<(), AllocError>
     ensures { IfOk result (λ _. entry_members variables.new.entries
-        ≡ put name.now (string (frac_text value)) (entry_members variables.old.entries)) }
+        ≡ put name.items (string (frac_text value)) (entry_members variables.old.entries)) }
 {
-    let name = name.bytes().to_vec(alloc)?;
     variables.insert(name, value)?;
     Ok(())
 }
@@ -38,7 +31,8 @@ fn variables_of(alloc: Global, names: &[Name], state: &[Frac]) -> Result<Variabl
 {
     let mut variables = BTreeMap::new(alloc);
     for index in 0..names.len().min(state.len()) {
-        put_variable(alloc, &mut variables, &names[index], state[index])?;
+        let name = names[index].bytes().to_vec(alloc)?;
+        put_variable(&mut variables, name, state[index])?;
     }
     Ok(variables)
 }

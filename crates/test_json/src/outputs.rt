@@ -159,11 +159,10 @@ const OUTPUTS: &[Case] = &[
     ),
     (
         Asked::Equations,
-        b"a = max(0);\nb = max(2*a - 1:2, a);\nc = max(0, c + 1);",
+        b"a = max(1, 2*a); b = max(1:2, 0*a);",
         b"",
         Format::Json,
-        b"{\"improvements\":2,\"values\":[{\"name\":\"a\",\"value\":\"0\"},{\"name\":\"b\",\"value\":\"0\"},\
-        {\"name\":\"c\",\"value\":\"+inf\"}]}\n",
+        b"{\"improvements\":2,\"values\":[{\"name\":\"a\",\"value\":\"+inf\"},{\"name\":\"b\",\"value\":\"1/2\"}]}\n",
     ),
     (
         Asked::Prove,

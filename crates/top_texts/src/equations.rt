@@ -20,7 +20,7 @@ use base_watch::Watch;
 use flow_rationals::{
     EquFault, Equations, least_above_equal_right_sides, least_vectors_are_least_above, read, system,
 };
-use flow_systems::{Bounds, Footer, System};
+use flow_systems::{Bounds, System};
 use std::alloc::{AllocError, Global};
 use top_status::TextCause;
 use top_written::written_values;
@@ -65,14 +65,7 @@ fn lines_of(
 {
     let rows = system.template.as_slice().len();
     let names = &system.flow.names.as_slice()[..rows];
-    written_values(
-        alloc,
-        names,
-        bounds,
-        1,
-        Footer::Improvements(improvements),
-        format,
-    )
+    written_values(alloc, names, bounds, 1, improvements, format)
 }
 
 /// The values of a text's equations in a format, with the number of improvements by the policy, of which there may be `limit`

@@ -3,6 +3,7 @@
 ghost use Rattle.std.specs.Prelude.{◌≡◌, ◌*◌, ◌+◌, ◌≤◌, IfOk, length};
 ghost use Rattle.base_limits.specs.declared.limits.TheConstants.{MOST_TEXT_BYTES};
 ghost use Rattle.flow_systems.specs.View.{vector_of};
+ghost use Rattle.flow_systems.specs.declared.footer.Footer.TheVariants.{Improvements};
 ghost use Rattle.lang_tree.specs.declared.limits.TheConstants.{MOST_VARIABLES};
 ghost use Rattle.top_written.specs.Formats.{checks_in, claims_in, report_of_in, values_in};
 
@@ -42,17 +43,23 @@ pub fn written_values(
     names: &[Name],
     bounds: &Bounds,
     point: u32,
-    footer: Footer,
+    improvements: u32,
     format: Format,
 ) -> Result<Vec<u8>, AllocError>
     requires names { length names.now ≤ MOST_VARIABLES }
     requires bounds { (point + 1) * length names.now ≤ length bounds.now }
     ensures { IfOk result (λ bytes. bytes.items
-        ≡ values_in format names.now (vector_of (length names.now) bounds.now point) footer) }
+        ≡ values_in format names.now (vector_of (length names.now) bounds.now point) (Improvements improvements)) }
 {
     match format {
-        Format::Text => values(alloc, names, bounds, point, footer),
-        Format::Json | Format::Sarif => values_json(alloc, names, bounds, point, footer),
+        Format::Text => values(
+            alloc,
+            names,
+            bounds,
+            point,
+            Footer::Improvements(improvements),
+        ),
+        Format::Json | Format::Sarif => values_json(alloc, names, bounds, point, improvements),
     }
 }
 

@@ -15,10 +15,11 @@ use Rattle.ask_json.specs.Claims.{claim_values, claims_value}
 use Rattle.ask_json.specs.Told.{AreApart, AreWhole, check_lines_told, checks_told, claim_lines_told, claims_told, items_len}
 use Rattle.ask_json.proofs.told.Verdicts.{verdict_is}
 
--- the last two lines
-abbrev ends_with : List Verdict → ℕ → ℕ → List ℕ
-ends_with verdicts improvements n =
-    line (codes "proved " ++ decimal (count_by is_proved verdicts) ++ codes " of " ++ decimal n) ++ footer_line (Improvements improvements)
+-- lines, and the last two
+abbrev ends_with : List Verdict → ℕ → List ℕ → ℕ → List ℕ
+ends_with verdicts improvements lines n = lines
+    ++ line (codes "proved " ++ decimal (count_by is_proved verdicts) ++ codes " of " ++ decimal n)
+    ++ footer_line (Improvements improvements)
 
 claims_are : (names : List (List ℕ)) (k : ℕ) (claims : List Claim) (verdicts : List Verdict) → AreApart names
     → AreWhole (length names) verdicts
@@ -41,7 +42,7 @@ pub claims_are_told : (names : List (List ℕ)) (claims : List Claim) (verdicts 
     → AreWhole (length names) verdicts → length verdicts ≡ length claims
     → claims_told names (claims_value names claims verdicts improvements) ≡ verdicts_text names claims verdicts improvements
 claims_are_told names claims verdicts improvements apart whole e =
-    ap₂ (λ t n. t ++ ends_with verdicts improvements n) (claims_are names 0 claims verdicts apart whole)
+    ap₂ (ends_with verdicts improvements) (claims_are names 0 claims verdicts apart whole)
     (claim_count names claims verdicts e)
 
 checks_are : (text : List ℕ) (names : List (List ℕ)) (k : ℕ) (checks : List CheckCases) (verdicts : List Verdict) → AreApart names
@@ -66,5 +67,5 @@ pub checks_are_told : (text : List ℕ) (names : List (List ℕ)) (checks : List
     → AreApart names → AreWhole (length names) verdicts → length verdicts ≡ length checks
     → checks_told names (checks_value text names checks verdicts improvements) ≡ checks_text text names checks verdicts improvements
 checks_are_told text names checks verdicts improvements apart whole e =
-    ap₂ (λ t n. t ++ ends_with verdicts improvements n) (checks_are text names 0 checks verdicts apart whole)
+    ap₂ (ends_with verdicts improvements) (checks_are text names 0 checks verdicts apart whole)
     (check_count text names checks verdicts e)

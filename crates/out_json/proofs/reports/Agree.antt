@@ -8,8 +8,8 @@ use Rattle.flow_systems.specs.declared.footer.Footer.{Footer}
 use Rattle.flow_systems.specs.Equations.{Vector}
 use Rattle.flow_systems.specs.Report.{bound_text}
 use Rattle.out_json.specs.Pieces.{footer_member}
-use Rattle.out_json.specs.Reports.{is_reachable, last_members, name_members, place_members, point_bounds, point_value}
-use Rattle.out_json.specs.Reports.{point_values, report_value, row_bounds}
+use Rattle.out_json.specs.Reports.{bounded_members, is_reachable, last_members, place_members, point_bounds}
+use Rattle.out_json.specs.Reports.{point_value, point_values, report_value, row_bounds, row_members}
 
 rows_agree : (r : ℕ) (rows : List (List ℤ)) (f g : ℕ → Ext)
     → ((s : ℕ) → r ≤ s → s < r + length rows → f s ≡ g s) → row_bounds r rows f ≡ row_bounds r rows g
@@ -29,8 +29,7 @@ module _ (template : List (List ℤ)) (some : 0 < length template) where
   point_agrees : (v w : Vector) (p : ℕ) (point : Point) → ((r : ℕ) → r < length template → v p r ≡ w p r)
       → point_value template v p point ≡ point_value template w p point
   point_agrees v w p point h =
-      ap (λ first. object (member (codes "bounds") (array (point_bounds template (v p) first))
-      (place_members point (last_members p (is_reachable first))))) (h 0 some)
+      ap (λ first. object (bounded_members template (v p) first p point)) (h 0 some)
       ∙ ap (λ items. object (member (codes "bounds") (array items) (place_members point (last_members p (is_reachable (w p 0))))))
       (bounds_agree (v p) (w p) (w p 0) h)
 
@@ -49,5 +48,5 @@ module _ (template : List (List ℤ)) (some : 0 < length template) where
       → ((p r : ℕ) → p < length points → r < length template → v p r ≡ w p r) → footer ≡ other
       → report_value names points template v footer ≡ report_value names points template w other
   report_values_agree names points v w footer other h e =
-      ap₂ (λ (items : Items) last. object (footer_member last (member (codes "points") (array items) (name_members names template))))
+      ap₂ (λ (items : Items) last. object (footer_member last (member (codes "points") (array items) (row_members names template))))
       (points_agree v w 0 points (λ p r a b. h p r (omega arith))) e

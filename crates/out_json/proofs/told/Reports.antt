@@ -1,5 +1,5 @@
 -- The lines of a report are those that its value tells.
-use Rattle.std.proofs.Common.{◌≡◌, ◌++◌, ◌∷◌, [], ℕ, suc, List, refl, ap, ap₂}
+use Rattle.std.proofs.Common.{◌≡◌, ◌++◌, ◌∷◌, [], ℕ, suc, List, refl, sym, ap, ap₂, append_assoc}
 use Rattle.std.specs.Prelude.{ℤ, Some, codes, decimal, flat_map}
 use Rattle.base_numbers.specs.Extended.{Ext, neg_inf, fin, pos_inf}
 use Rattle.serde_json.specs.Data.{string}
@@ -32,11 +32,15 @@ bounds_lines names template bounds neg_inf = refl
 bounds_lines names template bounds (fin q) = rows_lines names 0 template bounds
 bounds_lines names template bounds pos_inf = rows_lines names 0 template bounds
 
+label_is : (name digits : List ℕ) → codes "label" ++ (codes " " ++ name) ++ (codes " at line " ++ digits)
+    ≡ codes "label " ++ name ++ codes " at line " ++ digits
+label_is name digits = ap (λ t. codes "label " ++ t) (sym (append_assoc name (codes " at line ") digits))
+
 place_is : (place : Place) (at : ℕ) → text_told (Some (string (kind_text place))) ++ behind (codes " ") (Some (name_value place))
     ++ number_told (codes " at line ") (Some (line_value place at)) ≡ place_text place at
 place_is Entry at = refl
 place_is Loop at = refl
-place_is (Label name) at = refl
+place_is (Label name) at = label_is name (decimal at)
 place_is Join at = refl
 place_is Assume at = refl
 place_is Exit at = refl

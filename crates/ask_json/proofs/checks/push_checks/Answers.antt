@@ -1,9 +1,11 @@
-use Rattle.std.proofs.Common.{◌++◌, ◌≤◌, length, min, ap, ◌∙◌, arith}
+use Rattle.std.proofs.Common.{◌++◌, ◌≤◌, length, min, nat_lt, sym, ap, ◌∙◌, arith}
 use Rattle.serde_json.specs.Written.{items_text}
 use Rattle.ask_json.proofs.Rests.{checks_rest}
 use Rattle.ask_json.proofs.checks.push_checks.Goals as goal
 
-pub returns-in_ok-extend_from_slice : goal.returns-in_ok-extend_from_slice
-returns-in_ok-extend_from_slice c =
-    let over : min (length c.args.checks.now) (length c.args.verdicts.now) ≤ c.loop-number.number = omega arith in
-    ?
+pub returns : goal.returns
+returns c =
+    let l = c.loop-number in
+    let over : min (length c.args.checks.now) (length c.args.verdicts.now) ≤ l.number = omega arith in
+    c.in_ok-extend_from_slice.ensures.items ∙ sym (ap (λ ds. l.out.items ++ items_text (nat_lt 0 l.number) ds) (checks_rest _ _ _ _ _ over))
+    ∙ l.invariant

@@ -62,7 +62,7 @@ returns-clause-ok g c =
     let verdicts = c.in_ok-list.list.items in
     let bytes = c.in_ok-bytes.bytes.items in
     let improvements = c.in_ok-solved.solved.improvements in
-    let shown = λ (names : List (List ℕ)) (cs : List CheckCases) (vs : List Verdict).
+    let shown : List (List ℕ) → List CheckCases → List Verdict → List ℕ = λ names cs vs.
     checks_in c.args.format c.args.file.now c.args.text.now names cs vs improvements in
     let written : bytes ≡ shown s.flow.names checks verdicts =
     subst (λ (vs : List Verdict). bytes ≡ shown s.flow.names checks vs) c.deref-2.ensures.value
