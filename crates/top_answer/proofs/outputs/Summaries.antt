@@ -18,7 +18,7 @@ use Rattle.top_texts.specs.Rounds.{IsSystemFor}
 use Rattle.top_texts.proofs.rounds.OneChain.{rounds_once}
 use Rattle.top_texts.proofs.texts.Once.{equations_are}
 use Rattle.top_answer.specs.Commands.{IsSummary}
-use Rattle.top_answer.proofs.outputs.Vectors.{point_agrees}
+use Rattle.top_written.proofs.formats.Reports.{point_agrees}
 
 module _ (s t : System) (names : s.flow.names ≡ t.flow.names) (points : s.flow.points ≡ t.flow.points)
     (template : s.template ≡ t.template) (some_point : 0 < length t.flow.points) (some_row : 0 < length t.template)

@@ -28,7 +28,7 @@ module _ (names : List (List ℕ)) (template : List (List ℤ)) (some : 0 < leng
   bounds_agree f g pos_inf h = rows_agree names 0 template f g (λ r a b. h r (omega arith))
 
   -- the lines of a point depend on its bounds at the rows
-  point_agrees : (v w : Vector) (p : ℕ) (point : Point) → ((r : ℕ) → r < length template → v p r ≡ w p r)
+  pub point_agrees : (v w : Vector) (p : ℕ) (point : Point) → ((r : ℕ) → r < length template → v p r ≡ w p r)
       → point_lines names template v p point ≡ point_lines names template w p point
   point_agrees v w p point h = ap (λ lines. head_line p point ++ lines)
       (ap (bound_lines names template (v p)) (h 0 some) ∙ bounds_agree (v p) (w p) (w p 0) h)
