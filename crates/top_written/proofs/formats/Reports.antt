@@ -1,5 +1,5 @@
 -- Vectors that agree at the points and the rows have reports that are written alike, where there is a row.
-use Rattle.std.proofs.Common.{◌≡◌, ◌++◌, ◌+◌, ◌<◌, ◌≤◌, ℕ, suc, List, [], ◌∷◌, length, refl, ap, ap₂, arith}
+use Rattle.std.proofs.Common.{◌≡◌, ◌∙◌, ◌++◌, ◌+◌, ◌<◌, ◌≤◌, ℕ, suc, List, [], ◌∷◌, length, refl, ap, ap₂, arith}
 use Rattle.std.specs.Prelude.{ℤ}
 use Rattle.base_numbers.specs.Extended.{Ext, neg_inf, fin, pos_inf}
 use Rattle.flow_edges.specs.declared.point.Point.{Point}
