@@ -15,7 +15,7 @@ use Rattle.ask_checks.specs.Places.{BreaksCheck, NoneBreaksCheck}
 use Rattle.ask_words.specs.declared.format.Format.{Format}
 use Rattle.ask_words.specs.declared.request.Domain.{Domain}
 use Rattle.ask_words.specs.declared.request.Policy.{Policy}
-use Rattle.top_written.specs.Formats.{checks_in}
+use Rattle.top_written.specs.Formats.{checks_in as checks_written}
 use Rattle.top_texts.specs.Meanings.{Meanings}
 use Rattle.top_texts.specs.Rounds.{HasRounds}
 use Rattle.top_texts.specs.Texts.{IsSolvedSystem}
@@ -92,4 +92,4 @@ pub record AreCheckVerdictsOf (m : Meanings) (file text : List ℕ) (rows : Doma
       (checks_of_program judged.solved.body) verdicts
   pub speak : SpeakOfChecks (length judged.solved.names) judged.solved.body
       (equations_of_program (length judged.solved.names) judged.solved.body judged.solved.template) judged.vector verdicts
-  pub written : bytes ≡ checks_in format file text judged.solved.names (checks_of_program judged.solved.body) verdicts judged.rounds
+  pub written : bytes ≡ checks_written format file text judged.solved.names (checks_of_program judged.solved.body) verdicts judged.rounds
