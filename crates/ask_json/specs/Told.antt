@@ -15,11 +15,16 @@ use Rattle.ask_json.specs.Claims.{claims_value}
 
 -- ---- a verdict
 
+-- a name and its value, and what is told behind it; nothing where it has none
+abbrev pub value_then : List ℕ → List ℕ → Option Data → List ℕ → List ℕ
+value_then before name (Some d) rest = before ++ (name ++ codes " = " ++ text_told (Some d)) ++ rest
+value_then before name None rest = []
+
 -- the values of the variables of these names, by the members of a state: these bytes stand before the first, and a comma before every later
 -- one
 abbrev pub values_told : List ℕ → List (List ℕ) → Data → List ℕ
 values_told before [] d = []
-values_told before (name ∷ names) d = before ++ (name ++ codes " = " ++ text_told (get name d)) ++ values_told (codes ", ") names d
+values_told before (name ∷ names) d = value_then before name (get name d) (values_told (codes ", ") names d)
 
 -- the values of a state; nothing where there is none
 abbrev pub state_told : List (List ℕ) → Option Data → List ℕ
@@ -80,24 +85,14 @@ abbrev pub AreApart : List (List ℕ) → Type 0
 AreApart [] = Unit {0}
 AreApart (name ∷ names) = IsNoneOf name names × AreApart names
 
--- an open verdict has a value for each of so many variables
-abbrev pub IsWhole : ℕ → Verdict → Type 0
-IsWhole variables Proved = Unit {0}
-IsWhole variables (Open state) = length state ≡ variables
-
--- each open one has
-abbrev pub AreWhole : ℕ → List Verdict → Type 0
-AreWhole variables [] = Unit {0}
-AreWhole variables (verdict ∷ verdicts) = IsWhole variables verdict × AreWhole variables verdicts
-
 -- the lines of verdicts on claims are those that their value tells, with the names in order of declaration
 abbrev pub ClaimsAreTold : Type 0
 ClaimsAreTold = (names : List (List ℕ)) (claims : List Claim) (verdicts : List Verdict) (improvements : ℕ) → AreApart names
-    → AreWhole (length names) verdicts → length verdicts ≡ length claims
+    → length verdicts ≡ length claims
     → claims_told names (claims_value names claims verdicts improvements) ≡ verdicts_text names claims verdicts improvements
 
 -- the lines of verdicts on checks are those that their value tells, with the names in order of declaration
 abbrev pub ChecksAreTold : Type 0
 ChecksAreTold = (text : List ℕ) (names : List (List ℕ)) (checks : List CheckCases) (verdicts : List Verdict) (improvements : ℕ)
-    → AreApart names → AreWhole (length names) verdicts → length verdicts ≡ length checks
+    → AreApart names → length verdicts ≡ length checks
     → checks_told names (checks_value text names checks verdicts improvements) ≡ checks_text text names checks verdicts improvements
