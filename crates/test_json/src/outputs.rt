@@ -1,10 +1,14 @@
 //! Whole outputs.
 
+ghost use Rattle.std.specs.Prelude.{◌≤◌, length};
+ghost use Rattle.base_limits.specs.declared.limits.TheConstants.{MOST_TEXT_BYTES};
+
 use ask_words::{Domain, Format, Policy};
+use base_limits::MOST_TEXT_BYTES;
 use base_watch::Unwatched;
 use std::alloc::Global;
 use top_texts::{
-    Refusal, certificate_of, equations_text, prove_text, read_given, report_by, report_of,
+    Given, Refusal, certificate_of, equations_text, prove_text, read_given, report_by, report_of,
     system_on, transitions_text, verify_text,
 };
 
@@ -22,14 +26,20 @@ enum Asked {
 const LIMIT: u32 = 1000;
 
 // The report of the certificate that the rounds make.
-fn checked(alloc: Global, text: &[u8], format: Format) -> Result<Vec<u8>, Refusal> {
+fn checked(alloc: Global, text: &[u8], format: Format) -> Result<Vec<u8>, Refusal>
+    requires { length text.now ≤ MOST_TEXT_BYTES }
+{
     let system = system_on(alloc, text, Domain::Intervals)?;
     let bytes = certificate_of(alloc, &system, Policy::Best, LIMIT, &mut Unwatched)?;
-    let given = read_given(alloc, text, &bytes)?;
-    report_by(alloc, &given.program, given.flow, &given.cert, format)
+    let Given {
+        program,
+        flow,
+        cert,
+    } = read_given(alloc, text, &bytes)?;
+    report_by(alloc, &program, flow, &cert, format)
 }
 
-// The output of a command over intervals.
+// The output of a command over intervals; none where a text is longer than one may be.
 fn output(
     alloc: Global,
     asked: Asked,
@@ -37,6 +47,9 @@ fn output(
     other: &[u8],
     format: Format,
 ) -> Result<Vec<u8>, Refusal> {
+    if text.len() > MOST_TEXT_BYTES || other.len() > MOST_TEXT_BYTES {
+        return Ok(Vec::new(alloc));
+    }
     let rows = Domain::Intervals;
     let policy = Policy::Best;
     let watch = &mut Unwatched;
