@@ -1,5 +1,5 @@
--- The cases against the checks of a program within the limits have few guards, each a form over its variables.
-use Rattle.std.proofs.Common.{⊎_elim, ℕ, Bool, true, false, List, [], ◌∷◌, inl, inr, map, refl, subst}
+-- The cases against the checks of a program within the limits have few guards, each a form over its variables and hidden ones.
+use Rattle.std.proofs.Common.{◌+◌, ⊎_elim, ℕ, Bool, true, false, List, [], ◌∷◌, inl, inr, map, refl, subst}
 use Rattle.std.specs.Prelude.{◌&&◌, IsTrue, nat_le}
 use Rattle.std.specs.List.{list_all}
 use Rattle.std.proofs.lemmas.Bool.{and_from, and_parts}
@@ -8,7 +8,7 @@ use Rattle.base_facts.proofs.elements.Membership.{of_append}
 use Rattle.lang_tree.specs.Limits.{are_statements, is_kind, is_program, is_statement, is_tested}
 use Rattle.lang_tree.specs.Tree.{Statement, Statements, set, havoc, assume, only_where, check, branch, loop, jump, label, nil, cons}
 use Rattle.lang_tree.specs.Tree.{nodes_in}
-use Rattle.lang_tree.specs.declared.limits.TheConstants.{MOST_VARIABLES}
+use Rattle.lang_tree.specs.declared.limits.TheConstants.{MOST_VARIABLES, MOST_HIDDEN}
 use Rattle.flow_edges.specs.Checks.{Checked, checks_in, checks_of, checks_of_program, with_cases}
 use Rattle.flow_edges.specs.declared.checked.CheckCases.{CheckCases}
 use Rattle.ask_verdicts.specs.Breaking.{is_case}
@@ -55,9 +55,10 @@ all_cased n (c ∷ cs) h =
 
 -- so have those against the checks of a program
 pub checks_cased : (n : ℕ) (body : Statements) → IsTrue (is_program n body)
-    → IsTrue (list_all (λ (cases : CheckCases). list_all (is_case n) cases.against) (checks_of_program body))
+    → IsTrue (list_all (λ (cases : CheckCases). list_all (is_case (n + MOST_HIDDEN)) cases.against) (checks_of_program body))
 checks_cased n body h =
-    let p = and_parts (nat_le 1 n) (nat_le n MOST_VARIABLES && (nat_le (nodes_in body) 512 && are_statements n false body)) h in
-    let q = and_parts (nat_le n MOST_VARIABLES) (nat_le (nodes_in body) 512 && are_statements n false body) p.1 in
-    let r = and_parts (nat_le (nodes_in body) 512) (are_statements n false body) q.1 in
-    all_cased n (checks_in body) (λ c m. tested_in n false body c r.1 m)
+    let m = n + MOST_HIDDEN in
+    let p = and_parts (nat_le 1 n) (nat_le n MOST_VARIABLES && (nat_le (nodes_in body) 4096 && are_statements m false body)) h in
+    let q = and_parts (nat_le n MOST_VARIABLES) (nat_le (nodes_in body) 4096 && are_statements m false body) p.1 in
+    let r = and_parts (nat_le (nodes_in body) 4096) (are_statements m false body) q.1 in
+    all_cased m (checks_in body) (λ c i. tested_in m false body c r.1 i)
