@@ -76,15 +76,12 @@ fn written(alloc: Global, text: &[u8], least: &LeastBounds) -> Answer
 }
 
 // The annotated text of what an analysis reads.
-fn annotated<W: Watch>(
-    alloc: Global,
-    analysis: Analysis<&[u8]>,
-    _format: Format,
-    watch: &mut W,
-) -> Answer
+fn annotated<W: Watch>(alloc: Global, analysis: Analysis<&[u8]>, watch: &mut W) -> Answer
     requires { IsWithin (analysis_text analysis) }
-    ensures says { Says (annotating exact (Analyse Report (analysis_text analysis.entry) _format)) result.status result.bytes.items }
-    ensures names { NamesPlace (Analyse Report (analysis_text analysis.entry) _format) result.status result.message }
+    ensures says { (format : FormatValue)
+        → Says (annotating exact (Analyse Report (analysis_text analysis.entry) format)) result.status result.bytes.items }
+    ensures names { (format : FormatValue)
+        → NamesPlace (Analyse Report (analysis_text analysis.entry) format) result.status result.message }
 {
     match least_on(
         alloc,
@@ -99,25 +96,24 @@ fn annotated<W: Watch>(
     }
 }
 
-// The answer to an analysis over the contents of its files.
+// The answer to an analysis over the contents of its files, whatever the format: an annotated text has one.
 fn annotation_of<W: Watch>(
     alloc: Global,
     analysis: Analysis<&str>,
-    format: Format,
     contents: &[&[u8]],
     watch: &mut W,
 ) -> Answer
     requires { analysis.improvements ≤ MOST_IMPROVEMENTS }
-    ensures { AnswersRequest (annotating exact) (Analyse Report (analysis_text analysis.entry) format) (texts_of contents.now) result.status
-        result.bytes.items result.message }
+    ensures { (format : FormatValue) → AnswersRequest (annotating exact) (Analyse Report (analysis_text analysis.entry) format)
+        (texts_of contents.now) result.status result.bytes.items result.message }
 {
     let request = Request::Analyse {
         purpose: Purpose::Report,
         analysis,
-        format,
+        format: Format::Text,
     };
     match first_unread(alloc, request, contents) {
-        Ok(None) => annotated(alloc, analysis_with(analysis, contents), format, watch),
+        Ok(None) => annotated(alloc, analysis_with(analysis, contents), watch),
         Ok(Some(cause)) => plain_answer(alloc, Status::Read(cause)),
         Err(_) => plain_answer(alloc, Status::Memory),
     }
@@ -135,7 +131,7 @@ fn annotation_by<W: Watch>(
         result.bytes.items result.message }
 {
     match read_analysis(alloc, words) {
-        Ok(asked) => annotation_of(alloc, asked.analysis, asked.format, contents, watch),
+        Ok(analysis) => annotation_of(alloc, analysis, contents, watch),
         Err(WordsFault::Usage) => plain_answer(alloc, Status::Usage),
         Err(WordsFault::NoMemory) => plain_answer(alloc, Status::Memory),
     }

@@ -2,12 +2,13 @@
 
 ghost use Rattle.std.specs.Prelude.{◌≡◌, ◌∷◌, IfOk, IsErrOf, None, Some, map, string_bytes};
 ghost use Rattle.ask_words.specs.Request.{analysis_text, request_of};
+ghost use Rattle.ask_words.specs.declared.format.Format.{Format as FormatValue};
 ghost use Rattle.ask_words.specs.declared.request.Purpose.TheVariants.{Report};
 ghost use Rattle.ask_words.specs.declared.request.Request.TheVariants.{Analyse};
 ghost use Rattle.acsl_annotate.specs.Words.{IsSolve, WordsReport, are_plain, as_solve};
 
 use ask_words::laws::{request_laws, solve_reports};
-use ask_words::{Analysis, Format, Purpose, Request, WordsFault, read_words};
+use ask_words::{Analysis, Purpose, Request, WordsFault, read_words};
 use std::alloc::{AllocError, Global};
 
 // The words with another before them.
@@ -53,21 +54,14 @@ fn words_report()
     solve_reports();
 }
 
-// An analysis, and the format that is asked for beside it, which changes nothing here.
-#[derive(Clone, Copy)]
-pub(crate) struct Worded<'a> {
-    pub analysis: Analysis<&'a str>,
-    pub format: Format,
-}
-
-// What such words ask for.
+// The analysis whose report such words ask for, in whatever format.
 pub(crate) fn read_analysis<'a>(
     alloc: Global,
     words: &'a [String],
-) -> Result<Worded<'a>, WordsFault>
+) -> Result<Analysis<&'a str>, WordsFault>
     requires { IsSolve (map string_bytes words.now) }
-    ensures ok { IfOk result (λ asked.
-        request_of (map string_bytes words.entry.now) ≡ Some (Analyse Report (analysis_text asked.analysis) asked.format)) }
+    ensures ok { IfOk result (λ analysis. (format : FormatValue)
+        × (request_of (map string_bytes words.entry.now) ≡ Some (Analyse Report (analysis_text analysis) format))) }
     ensures usage { IsErrOf result WordsFault.Usage → request_of (map string_bytes words.entry.now) ≡ None }
 {
     words_report();
@@ -76,9 +70,9 @@ pub(crate) fn read_analysis<'a>(
             Request::Analyse {
                 purpose: Purpose::Report,
                 analysis,
-                format,
+                ..
             },
-        ) => Ok(Worded { analysis, format }),
+        ) => Ok(analysis),
         // They ask for nothing else.
         Ok(_) => Err(WordsFault::Usage),
         Err(fault) => Err(fault),

@@ -4,7 +4,7 @@ use Rattle.lang_grammar.specs.Grammar.{Token, token}
 use Rattle.lang_tree.specs.declared.change.Change.{Change}
 use Rattle.lang_tree.specs.declared.change.Change.TheVariants as change
 use Rattle.lang_tree.specs.declared.check.Check.{Check}
-use Rattle.lang_tree.specs.Tree.{LoopKind, while_loop, for_loop, do_loop}
+use Rattle.lang_tree.specs.Tree.{Deed, sets, havocs, wheres, checks, LoopKind, while_loop, for_loop, do_loop}
 use Rattle.lang_tree.specs.Tree.{Statement, Statements, set, havoc, assume, only_where, check, branch, loop, jump, label, nil, cons}
 
 -- a token at another place
@@ -21,15 +21,22 @@ change_without_line change.Unchanged = change.Unchanged
 change_without_line (change.Set var form line) = change.Set var form 0
 change_without_line (change.Havoc var line) = change.Havoc var 0
 
--- the kind of a loop without the line of its change
-abbrev pub kind_without_line : LoopKind → LoopKind
-kind_without_line while_loop = while_loop
-kind_without_line (for_loop c) = for_loop (change_without_line c)
-kind_without_line do_loop = do_loop
-
 -- what a check is for, without its place
 abbrev pub check_without_place : Check → Check
 check_without_place about = record about { at = 0 }
+
+-- a deed without its line, and without the place of its check
+abbrev pub deed_without_line : Deed → Deed
+deed_without_line (sets var form line) = sets var form 0
+deed_without_line (havocs var line) = havocs var 0
+deed_without_line (wheres cond line) = wheres cond 0
+deed_without_line (checks about cond line) = checks (check_without_place about) cond 0
+
+-- the kind of a loop without the lines of its prelude and of its change
+abbrev pub kind_without_line : LoopKind → LoopKind
+kind_without_line (while_loop p) = while_loop (map deed_without_line p)
+kind_without_line (for_loop p g) = for_loop (map deed_without_line p) (map deed_without_line g)
+kind_without_line (do_loop p) = do_loop (map deed_without_line p)
 
 abbrev mutual
   -- a statement whose lines are all 0, and the places of whose checks are

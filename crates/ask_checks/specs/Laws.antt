@@ -8,6 +8,7 @@ use Rattle.lang_tree.specs.Runs.{Configuration, IsRun, CheckIsTrue}
 use Rattle.flow_edges.specs.declared.checked.CheckCases.{CheckCases}
 use Rattle.flow_edges.specs.declared.edge.Edge.{Edge}
 use Rattle.flow_systems.specs.States.{RationalState}
+use Rattle.flow_systems.specs.SystemLimits.{is_over}
 use Rattle.flow_systems.specs.Equations.{Equations, Vector, PostSolution}
 use Rattle.flow_systems.specs.Solutions.{equations_of_program}
 use Rattle.flow_systems.specs.SolutionLaws.{IsSame}
@@ -22,10 +23,12 @@ use Rattle.ask_checks.specs.declared.outcome.ChecksFault.TheVariants.{NoMemory}
 abbrev pub check_of : Check → Condition → CheckCases
 check_of about c = record { check = about; against = cases_of false c }
 
--- a check that no state breaks at a post-solution of a program's system is true in every run of the program
+-- a check that no state breaks at a post-solution of a program's system, whose rows are over its variables, is true in every run of the
+-- program
 abbrev pub ProvedChecksHold : Type 0
 ProvedChecksHold = (variables : ℕ) (body : Statements) (template : List (List ℤ)) (v : Vector) (about : Check) (c : Condition) →
-    IsTrue (is_program variables body) → PostSolution (equations_of_program variables body template) v →
+    IsTrue (is_program variables body) → IsTrue (is_over variables template) →
+    PostSolution (equations_of_program variables body template) v →
     NoneBreaksCheck (equations_of_program variables body template) v (check_of about c) →
     (run : List Configuration) → IsRun variables body run → CheckIsTrue about c run
 
@@ -33,7 +36,8 @@ ProvedChecksHold = (variables : ℕ) (body : Statements) (template : List (List 
 abbrev pub ProvedVerdictsHold : Type 0
 ProvedVerdictsHold = (variables : ℕ) (body : Statements) (template : List (List ℤ)) (v : Vector) (checks : List CheckCases)
     (verdicts : List Verdict) (k : ℕ) (about : Check) (c : Condition) →
-    IsTrue (is_program variables body) → PostSolution (equations_of_program variables body template) v →
+    IsTrue (is_program variables body) → IsTrue (is_over variables template) →
+    PostSolution (equations_of_program variables body template) v →
     AreCheckVerdicts (equations_of_program variables body template) v checks verdicts →
     slice_get checks k ≡ Some (check_of about c) → slice_get verdicts k ≡ Some Proved →
     (run : List Configuration) → IsRun variables body run → CheckIsTrue about c run

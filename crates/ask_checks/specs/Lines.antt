@@ -3,7 +3,7 @@ use Rattle.std.specs.Prelude.{◌+◌, ◌==◌, ◌++◌, ℕ, suc, not, List, 
 use Rattle.std.specs.List.{suffix_len}
 use Rattle.lang_tokens.specs.Lines.{line_at}
 use Rattle.lang_tree.specs.declared.check.CheckKind.{CheckKind}
-use Rattle.lang_tree.specs.declared.check.CheckKind.TheVariants.{Assert}
+use Rattle.lang_tree.specs.declared.check.CheckKind.TheVariants.{Assert, Divisor, Error, Index, Range}
 use Rattle.flow_edges.specs.declared.checked.CheckCases.{CheckCases}
 use Rattle.flow_systems.specs.declared.footer.Footer.TheVariants.{Improvements}
 use Rattle.flow_systems.specs.Report.{footer_line, line}
@@ -17,6 +17,10 @@ column_at text at = 1 + suffix_len (λ b. not (b == 10)) (take at text)
 -- what a check is for
 abbrev pub kind_text : CheckKind → List ℕ
 kind_text Assert = codes "assert"
+kind_text Divisor = codes "divisor"
+kind_text Error = codes "error"
+kind_text Index = codes "index"
+kind_text Range = codes "range"
 
 -- the line of a check of a text
 abbrev pub check_line : List ℕ → List (List ℕ) → ℕ → CheckCases → Verdict → List ℕ

@@ -1,11 +1,12 @@
 //! What bounds say of a check.
 
-ghost use Rattle.std.specs.Prelude.{◌≡◌, ◌↔◌, ◌<◌, ◌≤◌, IfOk, IfErr, OnOk, IsTrue, length};
+ghost use Rattle.std.specs.Prelude.{◌+◌, ◌≡◌, ◌↔◌, ◌<◌, ◌≤◌, IfOk, IfErr, OnOk, IsTrue, length};
 ghost use Rattle.std.specs.List.{list_all};
 ghost use Rattle.flow_edges.specs.FlowLimits.{is_action};
 ghost use Rattle.flow_systems.specs.View.{equations_of, vector_at, IsVectorOf};
 ghost use Rattle.ask_verdicts.specs.Breaking.{is_case};
 ghost use Rattle.ask_checks.specs.Verdicts.{NoneOn, SaysOpen, SaysOpenOn, FitsOn, FaultOn, CheckFits, IsCheckFault, IsCheckVerdict};
+ghost use Rattle.lang_tree.specs.declared.limits.TheConstants.{MOST_HIDDEN};
 
 use crate::outcome::CheckFault;
 use ask_verdicts::{Verdict, VerdictFault, capped, verdict};
@@ -35,8 +36,8 @@ fn edge_verdict(
     requires bounds { IsVectorOf system.now bounds.now }
     requires point { edge.now.from < length system.now.flow.points }
     requires few { length edge.now.actions ≤ 256 }
-    requires actions { IsTrue (list_all (is_action (length system.now.flow.names)) edge.now.actions) }
-    requires against { IsTrue (list_all (is_case (length system.now.flow.names)) check.now.against) }
+    requires actions { IsTrue (list_all (is_action (length system.now.flow.names + MOST_HIDDEN)) edge.now.actions) }
+    requires against { IsTrue (list_all (is_case (length system.now.flow.names + MOST_HIDDEN)) check.now.against) }
     ensures proved { IfOk result (λ v. (v ≡ Verdict.Proved) ↔
         NoneOn (equations_of system.now) (vector_at system.now bounds.now) check.now edge.now) }
     ensures state { IfOk result (SaysOpenOn (equations_of system.now) (vector_at system.now bounds.now) check.now edge.now) }
@@ -64,7 +65,7 @@ pub fn check_verdict(
     check: &CheckCases,
 ) -> Result<Verdict, CheckFault>
     requires bounds { IsVectorOf system.now bounds.now }
-    requires against { IsTrue (list_all (is_case (length system.now.flow.names)) check.now.against) }
+    requires against { IsTrue (list_all (is_case (length system.now.flow.names + MOST_HIDDEN)) check.now.against) }
     ensures verdict { IfOk result (IsCheckVerdict (equations_of system.now) (vector_at system.now bounds.now) check.now) }
     ensures fits { OnOk result (CheckFits (equations_of system.now) (vector_at system.now bounds.now) check.now) }
     ensures refused { IfErr result (IsCheckFault (equations_of system.now) (vector_at system.now bounds.now) check.now) }

@@ -3,8 +3,8 @@
 ghost use Rattle.ask_checks.specs.Laws.{OpenStatesBreak, ProvedChecksHold, ProvedVerdictsHold, RefusalsAreOne, VerdictsAreOne};
 ghost use Rattle.ask_checks.specs.Laws.{WideChecksDontFit};
 
-/// Where a post-solution of a program's system proves a check, it is true in every run: wherever the check stands, its condition isn't
-/// false.
+/// Where a post-solution of a program's system, whose rows are over the program's variables, proves a check, it is true in every run:
+/// wherever the check stands, its condition isn't false.
 pub fn proved_checks_hold()
     ensures { ProvedChecksHold }
 {}

@@ -31,6 +31,10 @@ pub fn kind_text(kind: CheckKind) -> &'static [u8]
 {
     match kind {
         CheckKind::Assert => b"assert",
+        CheckKind::Divisor => b"divisor",
+        CheckKind::Error => b"error",
+        CheckKind::Index => b"index",
+        CheckKind::Range => b"range",
     }
 }
 

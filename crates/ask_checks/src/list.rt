@@ -1,11 +1,12 @@
 //! What bounds say of a list of checks.
 
-ghost use Rattle.std.specs.Prelude.{◌↔◌, List, IfOk, IfErr, OnOk, IsTrue, Contains, length};
+ghost use Rattle.std.specs.Prelude.{◌+◌, ◌↔◌, List, IfOk, IfErr, OnOk, IsTrue, Contains, length};
 ghost use Rattle.std.specs.List.{list_all};
 ghost use Rattle.base_numbers.specs.Rational.{ℚ};
 ghost use Rattle.flow_systems.specs.View.{equations_of, vector_at, IsVectorOf};
 ghost use Rattle.ask_verdicts.specs.Breaking.{is_case};
 ghost use Rattle.ask_checks.specs.Verdicts.{AreCheckVerdicts, ChecksFit, IsChecksFault};
+ghost use Rattle.lang_tree.specs.declared.limits.TheConstants.{MOST_HIDDEN};
 
 use crate::judge::check_verdict;
 use crate::outcome::{CheckFault, ChecksFault};
@@ -29,7 +30,8 @@ pub fn check_verdicts(
     checks: &[CheckCases],
 ) -> Result<Vec<Verdict>, ChecksFault>
     requires bounds { IsVectorOf system.now bounds.now }
-    requires against { IsTrue (list_all (λ check. list_all (is_case (length system.now.flow.names)) check.against) checks.now) }
+    requires against { IsTrue (list_all (λ check. list_all (is_case (length system.now.flow.names + MOST_HIDDEN)) check.against)
+        checks.now) }
     ensures verdicts { IfOk result (λ list. AreCheckVerdicts (equations_of system.now) (vector_at system.now bounds.now) checks.now
         list.items) }
     ensures fits { OnOk result (ChecksFit (equations_of system.now) (vector_at system.now bounds.now) checks.now) }

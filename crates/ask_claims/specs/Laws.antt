@@ -1,10 +1,11 @@
 -- Laws: what a proved claim says of runs, what an open one says, and that verdicts and refusals are determined.
-use Rattle.std.specs.Prelude.{◌≡◌, ◌≢◌, ℕ, ℤ, List, [], Some, false, length, slice_get, Contains}
+use Rattle.std.specs.Prelude.{◌≡◌, ◌≢◌, ℕ, ℤ, List, [], Some, false, length, slice_get, Contains, IsTrue}
 use Rattle.lang_tree.specs.Tree.{Condition, Statements}
 use Rattle.lang_tree.specs.Cases.{cases_of}
 use Rattle.lang_tree.specs.View.{condition_of}
 use Rattle.lang_tree.specs.Runs.{Configuration, IsRun, IsAt}
 use Rattle.flow_systems.specs.States.{RationalState}
+use Rattle.flow_systems.specs.SystemLimits.{is_over}
 use Rattle.flow_systems.specs.Equations.{Equations, Vector, PostSolution}
 use Rattle.flow_systems.specs.Solutions.{equations_of_program}
 use Rattle.flow_systems.specs.SolutionLaws.{IsSame}
@@ -18,11 +19,11 @@ use Rattle.ask_claims.specs.AllVerdicts.{AreVerdicts, BreaksAgainst, ClaimsFit, 
 use Rattle.ask_claims.specs.Claims.{AreAtPoints}
 use Rattle.ask_claims.specs.Truth.{IsTrueAt}
 
--- where no state that fits a post-solution of a program's system at a point passes a case against a condition, the condition is true at
--- every configuration at this point in every run
+-- where no state that fits a post-solution of a program's system, whose rows are over its variables, at a point passes a case against a
+-- condition, the condition is true at every configuration at this point in every run
 abbrev pub ProvedClaimsHold : Type 0
 ProvedClaimsHold = (variables : ℕ) (body : Statements) (template : List (List ℤ)) (v : Vector) (p : ℕ) (c : Condition) →
-    PostSolution (equations_of_program variables body template) v →
+    IsTrue (is_over variables template) → PostSolution (equations_of_program variables body template) v →
     NoneOpen (equations_of_program variables body template) v p [] (cases_of false c) (length (cases_of false c)) →
     (run : List Configuration) (now : Configuration) → IsRun variables body run → Contains run now → IsAt now p → IsTrueAt c now.state
 
@@ -39,14 +40,14 @@ VerdictsAreOne = (system : Equations) (z w : Vector) (claims : List Claim) (verd
     → AreAtPoints system claims →
     AreVerdicts system z claims verdicts → AreVerdicts system w claims again → verdicts ≡ again
 
--- where a verdict on a list of claims at a post-solution of a program's system is that a claim is proved, the claim's condition is true
--- at every configuration at its point in every run
+-- where a verdict on a list of claims at a post-solution of a program's system, whose rows are over its variables, is that a claim is
+-- proved, the claim's condition is true at every configuration at its point in every run
 abbrev pub ProvedVerdictsHold : Type 0
 ProvedVerdictsHold = (variables : ℕ) (body : Statements) (template : List (List ℤ)) (v : Vector) (claims : List Claim)
     (verdicts : List Verdict)
     (k : ℕ) (claim : Claim) →
-    PostSolution (equations_of_program variables body template) v → AreVerdicts (equations_of_program variables body template) v claims
-    verdicts →
+    IsTrue (is_over variables template) → PostSolution (equations_of_program variables body template) v →
+    AreVerdicts (equations_of_program variables body template) v claims verdicts →
     slice_get claims k ≡ Some claim → slice_get verdicts k ≡ Some Proved → claim.against ≡ cases_of false (condition_of claim.cond) →
     (run : List Configuration) (now : Configuration) → IsRun variables body run → Contains run now → IsAt now claim.point →
     IsTrueAt (condition_of claim.cond) now.state

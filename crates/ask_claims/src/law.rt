@@ -8,8 +8,8 @@ ghost use Rattle.ask_claims.specs.Grammar.{ReadsClaims, Written};
 ghost use Rattle.ask_claims.specs.Laws.{OpenStatesBreak, ProvedClaimsHold, ProvedVerdictsHold, RefusalsAreOne, VerdictsAreOne};
 ghost use Rattle.ask_claims.specs.Laws.{WideClaimsDontFit};
 
-/// Where a post-solution of a program's system proves a claim, in every run the condition isn't false at any configuration
-/// at the point; and it is true there, if it has no free choice.
+/// Where a post-solution of a program's system, whose rows are over the program's variables, proves a claim, in every run the condition
+/// isn't false at any configuration at the point; and it is true there, if it has no free choice.
 pub fn proved_claims_hold()
     ensures { ProvedClaimsHold }
 {}

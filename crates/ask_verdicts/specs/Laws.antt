@@ -1,5 +1,5 @@
 -- Laws: what a proved verdict says of runs, what an open one says, and that verdicts and refusals are determined.
-use Rattle.std.specs.Prelude.{◌≡◌, ◌≢◌, ℕ, ◌<◌, List, false, length}
+use Rattle.std.specs.Prelude.{◌≡◌, ◌≢◌, ℕ, ◌<◌, ◌≤◌, List, false, length}
 use Rattle.lang_tree.specs.declared.form.Form.{Form}
 use Rattle.lang_tree.specs.Tree.{Condition}
 use Rattle.lang_tree.specs.Cases.{cases_of}
@@ -8,7 +8,7 @@ use Rattle.flow_edges.specs.declared.edge.Action.{Action}
 use Rattle.flow_systems.specs.States.{RationalState, rational, Traces}
 use Rattle.flow_systems.specs.Equations.{Equations, Vector, Fits}
 use Rattle.flow_systems.specs.SolutionLaws.{IsSame}
-use Rattle.ask_verdicts.specs.Breaking.{BreaksSome, NoneOpen}
+use Rattle.ask_verdicts.specs.Breaking.{Breaks, BreaksSome, NoneOpen}
 use Rattle.ask_verdicts.specs.Verdicts.{SaysOpen, IsVerdict, AllFit, IsFirstFault}
 use Rattle.ask_verdicts.specs.declared.outcome.Verdict.{Verdict}
 use Rattle.ask_verdicts.specs.declared.outcome.Verdict.TheVariants.{Open}
@@ -25,6 +25,11 @@ ProvedPlacesHold = (system : Equations) (z : Vector) (p : ℕ) (before : List Ac
 abbrev pub OpenStatesBreak : Type 0
 OpenStatesBreak = (system : Equations) (z : Vector) (p : ℕ) (before : List Action) (cases : List (List Form)) (x : RationalState) →
     SaysOpen system z p before cases (Open x) → BreaksSome system z p before cases x
+
+-- a state that breaks a case has a value for each variable, beside those that hidden ones may have
+abbrev pub BreakingStatesHaveValues : Type 0
+BreakingStatesHaveValues = (system : Equations) (z : Vector) (p : ℕ) (before : List Action) (case : List Form) (x : RationalState) →
+    Breaks system z p before case x → system.variables ≤ length x
 
 -- vectors with the same bounds give one verdict at a place of the system
 abbrev pub VerdictsAreOne : Type 0

@@ -10,7 +10,8 @@ use Rattle.ask_verdicts.specs.declared.outcome.Verdict.TheVariants.{Proved, Open
 abbrev pub value_text : List ℕ → ℚ → List ℕ
 value_text name x = name ++ codes " = " ++ frac_text x
 
--- each name with its value: these bytes stand before the first, and a comma before every later one
+-- each name with its value: these bytes stand before the first, and a comma before every later one; a value that has no name is that of a
+-- hidden variable, and isn't told
 abbrev pub state_text : List ℕ → List (List ℕ) → List ℚ → List ℕ
 state_text before [] xs = []
 state_text before (name ∷ names) [] = []

@@ -1,6 +1,6 @@
 //! What bounds say of a condition at a place.
 
-ghost use Rattle.std.specs.Prelude.{◌≡◌, ◌↔◌, ◌<◌, ◌≤◌, IfOk, IfErr, OnOk, IsTrue, MatchOption, length};
+ghost use Rattle.std.specs.Prelude.{◌+◌, ◌≡◌, ◌↔◌, ◌<◌, ◌≤◌, IfOk, IfErr, OnOk, IsTrue, MatchOption, length};
 ghost use Rattle.std.specs.List.{list_all};
 ghost use Rattle.lang_tree.specs.Limits.{is_form};
 ghost use Rattle.flow_edges.specs.FlowLimits.{is_action};
@@ -8,6 +8,7 @@ ghost use Rattle.flow_systems.specs.View.{equations_of, vector_at, IsVectorOf};
 ghost use Rattle.lp_simplex.specs.Operations.{capped};
 ghost use Rattle.ask_verdicts.specs.Breaking.{NoneBreaks, NoneOpen, is_case};
 ghost use Rattle.ask_verdicts.specs.Verdicts.{FitsFor, AllFit, IsBreaking, SaysOpen, IsFaultFor, IsFirstFault};
+ghost use Rattle.lang_tree.specs.declared.limits.TheConstants.{MOST_HIDDEN};
 
 use crate::outcome::{Verdict, VerdictFault};
 use flow_edges::{Action, Case};
@@ -39,8 +40,8 @@ fn breaking_state(
     requires bounds { IsVectorOf system.now bounds.now }
     requires point { point < length system.now.flow.points }
     requires few { length before.now ≤ 256 }
-    requires actions { IsTrue (list_all (is_action (length system.now.flow.names)) before.now) }
-    requires case { IsTrue (is_case (length system.now.flow.names) case.now) }
+    requires actions { IsTrue (list_all (is_action (length system.now.flow.names + MOST_HIDDEN)) before.now) }
+    requires case { IsTrue (is_case (length system.now.flow.names + MOST_HIDDEN) case.now) }
     ensures state { IfOk result (λ found. MatchOption found
         (NoneBreaks (equations_of system.now) (vector_at system.now bounds.now) point before.now case.now)
         (IsBreaking (equations_of system.now) (vector_at system.now bounds.now) point before.now case.now)) }
@@ -73,8 +74,8 @@ pub fn verdict(
     requires bounds { IsVectorOf system.now bounds.now }
     requires point { point < length system.now.flow.points }
     requires few { length before.now ≤ 256 }
-    requires actions { IsTrue (list_all (is_action (length system.now.flow.names)) before.now) }
-    requires against { IsTrue (list_all (is_case (length system.now.flow.names)) against.now) }
+    requires actions { IsTrue (list_all (is_action (length system.now.flow.names + MOST_HIDDEN)) before.now) }
+    requires against { IsTrue (list_all (is_case (length system.now.flow.names + MOST_HIDDEN)) against.now) }
     ensures proved { IfOk result (λ v. (v ≡ Verdict.Proved) ↔
         NoneOpen (equations_of system.now) (vector_at system.now bounds.now) point before.now against.now (length against.now)) }
     ensures state { IfOk result (SaysOpen (equations_of system.now) (vector_at system.now bounds.now) point before.now against.now) }

@@ -7,6 +7,9 @@ mod lines;
 mod outcome;
 
 pub use judge::{capped, verdict};
-pub use law::{open_states_break, proved_places_hold, refusals_are_one, verdicts_are_one};
+pub use law::{
+    breaking_states_have_values, open_states_break, proved_places_hold, refusals_are_one,
+    verdicts_are_one,
+};
 pub use lines::{is_proved, push_counts, push_verdict};
 pub use outcome::{Verdict, VerdictFault};

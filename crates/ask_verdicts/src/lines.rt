@@ -19,7 +19,7 @@ fn push_value(text: &mut Vec<u8>, name: &Name, value: Frac) -> Result<(), AllocE
     Ok(())
 }
 
-/// Appends the values of all variables, in order of declaration.
+/// Appends the values of the variables of these names, in order of declaration. Hidden variables have no name, and theirs aren't told.
 fn push_state(text: &mut Vec<u8>, names: &[Name], state: &[Frac]) -> Result<(), AllocError>
     ensures { IfOk result (λ _. text.new.items ≡ text.old.items ++ state_text (codes " at ") names.now state.now) }
 {
@@ -32,7 +32,7 @@ fn push_state(text: &mut Vec<u8>, names: &[Name], state: &[Frac]) -> Result<(), 
     Ok(())
 }
 
-/// Appends what a verdict says: `proved`, or `open at ` with the values of the variables of these names.
+/// Appends what a verdict says: `proved`, or `open at ` with the values of the variables of these names, and of these alone.
 pub fn push_verdict(text: &mut Vec<u8>, names: &[Name], verdict: &Verdict) -> Result<(), AllocError>
     ensures { IfOk result (λ _. text.new.items ≡ text.old.items ++ verdict_text names.now verdict.now) }
 {

@@ -9,7 +9,8 @@ pub enum Verdict {
     /// No rational state that is found there passes a case against the condition: none that actions lead to from one that
     /// fits the bounds at the point.
     Proved,
-    /// This one does: it has one fraction for each variable, in order of declaration.
+    /// This one does: it has one fraction for each variable, in order of declaration, and then one for each hidden variable up to the
+    /// last that has been given a value there.
     Open { state: Fracs },
 }
 

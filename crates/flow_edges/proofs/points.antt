@@ -1,2 +1,3 @@
 pub mod Numbering
 pub mod Examples
+pub mod DeedExamples

@@ -2,14 +2,15 @@
 use Rattle.std.specs.Prelude.{ℕ, ◌||◌, Bool, true, false, List, [], ◌∷◌, ◌++◌, Option, Some, None, length, nat_lt, option_map, position}
 use Rattle.std.specs.Prelude.{if◌then◌else◌}
 use Rattle.lang_tree.specs.Tree.{Condition, Statement, Statements, set, havoc, assume, only_where, check, branch, loop, jump, label}
-use Rattle.lang_tree.specs.Tree.{nil, cons}
+use Rattle.lang_tree.specs.Tree.{nil, cons, Deed, sets, havocs, wheres, checks, LoopKind, while_loop, for_loop, do_loop}
 use Rattle.lang_tree.specs.Cases.{cases_of}
 use Rattle.lang_tree.specs.PointNumbers.{point_count}
 use Rattle.flow_edges.specs.declared.edge.Edge.{Edge}
 use Rattle.flow_edges.specs.declared.fault.FlowFault.{FlowFault}
 use Rattle.flow_edges.specs.declared.fault.FlowFault.TheVariants as fault
 use Rattle.flow_edges.specs.Edges.{edges_of_program}
-use Rattle.flow_edges.specs.declared.limits.TheConstants.{MOST_POINTS}
+use Rattle.flow_edges.specs.Checks.{checks_in}
+use Rattle.flow_edges.specs.declared.limits.TheConstants.{MOST_POINTS, MOST_CHECKS}
 
 -- a condition has more than 64 cases for this truth
 abbrev pub is_wide : Bool → Condition → Bool
@@ -18,6 +19,20 @@ is_wide truth c = nat_lt 64 (length (cases_of truth c))
 -- the line alone where the test holds
 abbrev pub line_if : Bool → ℕ → List ℕ
 line_if b line = if b then line ∷ [] else []
+
+-- the lines of deeds whose condition has more than 64 cases for the truth that is used: true at a `where`, false at a check
+abbrev pub wide_deeds : List Deed → List ℕ
+wide_deeds [] = []
+wide_deeds (sets var form line ∷ ds) = wide_deeds ds
+wide_deeds (havocs var line ∷ ds) = wide_deeds ds
+wide_deeds (wheres c line ∷ ds) = line_if (is_wide true c) line ++ wide_deeds ds
+wide_deeds (checks about c line ∷ ds) = line_if (is_wide false c) line ++ wide_deeds ds
+
+-- those of a loop, given its condition's: the prelude's before it, the change's behind it
+abbrev pub wide_kind : LoopKind → List ℕ → List ℕ
+wide_kind (while_loop p) tested = wide_deeds p ++ tested
+wide_kind (for_loop p g) tested = wide_deeds p ++ (tested ++ wide_deeds g)
+wide_kind (do_loop p) tested = wide_deeds p ++ tested
 
 abbrev mutual
   -- the lines of a statement and of those in it, in order of the text,
@@ -30,7 +45,7 @@ abbrev mutual
   wide_lines_of (check about c line) = line_if (is_wide false c) line
   wide_lines_of (branch c first second line) = line_if (is_wide true c || is_wide false c) line
       ++ (wide_lines_in first ++ wide_lines_in second)
-  wide_lines_of (loop kind c body line) = line_if (is_wide true c || is_wide false c) line ++ wide_lines_in body
+  wide_lines_of (loop kind c body line) = wide_kind kind (line_if (is_wide true c || is_wide false c) line) ++ wide_lines_in body
   wide_lines_of (jump kind line) = []
   wide_lines_of (label name line) = []
 
@@ -68,6 +83,10 @@ abbrev pub fault_or : Option FlowFault → Option FlowFault → Option FlowFault
 fault_or None other = other
 fault_or (Some f) other = Some f
 
--- the first fault of a program: what is seen by counting, or else the first edge that is too long
+-- too many checks
+abbrev pub checks_fault : Statements → Option FlowFault
+checks_fault body = if nat_lt MOST_CHECKS (length (checks_in body)) then Some (fault.Checks (length (checks_in body))) else None
+
+-- the first fault of a program: what is seen by counting, or else the first edge that is too long, or else too many checks
 abbrev pub fault_of_program : Statements → Option FlowFault
-fault_of_program body = fault_or (counted_fault body) (long_fault (edges_of_program body))
+fault_of_program body = fault_or (counted_fault body) (fault_or (long_fault (edges_of_program body)) (checks_fault body))

@@ -1,5 +1,5 @@
 -- Which points and edges make a flow within the limits.
-use Rattle.std.specs.Prelude.{◌==◌, ◌&&◌, ◌||◌, ℕ, Bool, true, false, not, List, [], ◌∷◌, length, nat_lt, nat_le}
+use Rattle.std.specs.Prelude.{◌+◌, ◌==◌, ◌&&◌, ◌||◌, ℕ, Bool, true, false, not, List, [], ◌∷◌, length, nat_lt, nat_le}
 use Rattle.std.specs.List.{list_all}
 use Rattle.lang_tree.specs.Limits.{is_form}
 use Rattle.flow_edges.specs.declared.edge.Action.{Action}
@@ -9,7 +9,7 @@ use Rattle.flow_edges.specs.declared.point.Place.{Place}
 use Rattle.flow_edges.specs.declared.point.Place.TheVariants.{Entry, Loop, Label, Join, Assume, Exit}
 use Rattle.flow_edges.specs.declared.point.Point.{Point}
 use Rattle.flow_edges.specs.declared.limits.TheConstants.{MOST_POINTS}
-use Rattle.lang_tree.specs.declared.limits.TheConstants.{MOST_VARIABLES}
+use Rattle.lang_tree.specs.declared.limits.TheConstants.{MOST_VARIABLES, MOST_HIDDEN}
 
 -- the entry
 abbrev pub is_entry : Place → Bool
@@ -50,10 +50,11 @@ abbrev pub is_edge : ℕ → ℕ → Edge → Bool
 is_edge n points e = nat_lt e.from points && (nat_lt 0 e.to && (nat_lt e.to points
     && (nat_le (length e.actions) 256 && list_all (is_action n) e.actions)))
 
--- at least one name and two points, and no more of them and of edges than there may be
+-- at least one name and two points, and no more of them and of edges than there may be; actions are over the variables of these names and
+-- the hidden ones behind them
 abbrev pub is_flow : List (List ℕ) → List Point → List Edge → Bool
 is_flow names points edges =
     (nat_le 1 (length names) && nat_le (length names) MOST_VARIABLES)
     && ((nat_le 2 (length points) && nat_le (length points) MOST_POINTS)
     && ((begins_with_entry points && list_all has_line points)
-    && (nat_le (length edges) 256 && list_all (is_edge (length names) (length points)) edges)))
+    && (nat_le (length edges) 256 && list_all (is_edge (length names + MOST_HIDDEN) (length points)) edges)))

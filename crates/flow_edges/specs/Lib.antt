@@ -6,8 +6,8 @@ pub mod Paths
 pub mod Edges
 pub mod PathLaws
 pub mod Counts
+pub mod Checks
 pub mod Faults
 pub mod Trails
 pub mod Places
-pub mod Checks
 pub mod CheckLaws

@@ -3,7 +3,7 @@ use Rattle.std.specs.Prelude.{◌≡◌, ◌↔◌, ℕ, ◌<◌, List, ◌∷�
 use Rattle.std.specs.List.{range_with_len}
 use Rattle.base_facts.specs.Elements.{In}
 use Rattle.lang_tree.specs.Tree.{Statements}
-use Rattle.lang_tree.specs.PointNumbers.{points_in, point_count}
+use Rattle.lang_tree.specs.PointNumbers.{points_in, exit_of, point_count}
 use Rattle.lang_tree.specs.Meaning.{State}
 use Rattle.lang_tree.specs.Runs.{Item, node, mark, turn, end, Does, start_work}
 use Rattle.flow_edges.specs.declared.edge.Action.{Action}
@@ -25,7 +25,8 @@ PointsAreNumbered = (body : Statements) → IsNumbered body
 -- labelled steps come to the mark of a point exactly where the list has work after it, and leave that work alone after it
 abbrev pub BehindPoints : Type 0
 BehindPoints = (body : Statements) (p : ℕ) (rest : List Item) →
-    (slice_get (behind_points body) p ≡ Some (Some rest)) ↔ ((actions : List Action) × Leads (start_work body) actions (mark p ∷ rest))
+    (slice_get (behind_points body) p ≡ Some (Some rest)) ↔ ((actions : List Action) × Leads (exit_of body) (start_work body) actions
+    (mark p ∷ rest))
 
 -- the item is the mark of a point
 abbrev pub IsMark : Item → Type 0
@@ -38,14 +39,14 @@ IsMark (end kind c body line n) = ⊥
 -- such a step
 abbrev pub StepsAreRecorded : Type 0
 StepsAreRecorded =
-    (item : Item) (rest : List Item) (x : State) (work : List Item) (y : State) → ¬ (IsMark item) →
-    Does item rest x work y ↔ ((s : Labelled) × In (steps_of item rest) s × (s.work ≡ work) × Acts s.actions x y)
+    (exit : ℕ) (item : Item) (rest : List Item) (x : State) (work : List Item) (y : State) → ¬ (IsMark item) →
+    Does exit item rest x work y ↔ ((s : Labelled) × In (steps_of exit item rest) s × (s.work ≡ work) × Acts s.actions x y)
 
 -- an item that is no mark leads on by its labelled steps, in their order, and by nothing else
 abbrev pub WaysAreSteps : Type 0
 WaysAreSteps =
-    (item : Item) (rest : List Item) → ¬ (IsMark item) →
-    ways_from (item ∷ rest) ≡ flat_map (λ s. prefixed s.actions (ways_from s.work)) (steps_of item rest)
+    (exit : ℕ) (item : Item) (rest : List Item) → ¬ (IsMark item) →
+    ways_from exit (item ∷ rest) ≡ flat_map (λ s. prefixed s.actions (ways_from exit s.work)) (steps_of exit item rest)
 
 -- these edges are exactly the paths of a program
 pub record EdgesArePaths (edges : List Edge) (body : Statements) : Type 0 where

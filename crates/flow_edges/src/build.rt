@@ -6,12 +6,13 @@ ghost use Rattle.flow_edges.specs.Edges.{edges_of_program};
 ghost use Rattle.flow_edges.specs.Points.{points_of_program};
 ghost use Rattle.flow_edges.specs.Faults.{counted_fault, fault_of_program, is_long};
 
+use crate::checked::check_count;
 use crate::count::points_in;
 use crate::edge::{Edge, Edges};
 use crate::edge_count::edge_count;
 use crate::fault::FlowFault;
 use crate::graph::Flow;
-use crate::limits::MOST_POINTS;
+use crate::limits::{MOST_CHECKS, MOST_POINTS};
 use crate::places::points_of_program;
 use crate::point_edges::edges_of;
 use crate::wide::wide_line;
@@ -46,6 +47,10 @@ pub fn flow(alloc: Global, program: &Program) -> Result<Flow, FlowFault>
     let edges = edges_of(alloc, &program.body, exit)?;
     if let Some(edge) = long_edge(&edges) {
         return Err(FlowFault::Actions { edge });
+    }
+    let count = check_count(program.body.as_slice());
+    if count > MOST_CHECKS {
+        return Err(FlowFault::Checks { count });
     }
     let names = program.names.again(alloc)?;
     let points = points_of_program(alloc, &program.body)?;

@@ -2,7 +2,7 @@
 
 ghost use Rattle.std.specs.Prelude.{◌≡◌};
 ghost use Rattle.lang_tree.specs.View.{statement_of, statements_of};
-ghost use Rattle.flow_edges.specs.Edges.{complete, completes};
+ghost use Rattle.flow_edges.specs.Edges.{complete, completes, leave_in, may_leave};
 
 use lang_tree::Stmt;
 
@@ -17,7 +17,8 @@ pub(crate) fn complete(stmts: &[Stmt]) -> bool
     completes(stmt) && complete(rest)
 }
 
-/// Whether what comes after the statement is reached from it, and not by a jump alone. A loop may always be left.
+/// Whether what comes after the statement is reached from it, and not by a jump alone. A `While` and a `For` may always be left, a
+/// `Do` where its test is reached or a `Break` of it.
 #[cycle(completion)]
 pub(crate) fn completes(stmt: &Stmt) -> bool
     ensures { result ≡ completes (statement_of stmt.now) }
@@ -26,15 +27,37 @@ pub(crate) fn completes(stmt: &Stmt) -> bool
         Stmt::If { first, second, .. } => {
             complete(first.as_slice()) || complete(second.as_slice())
         }
-        Stmt::Break { .. } | Stmt::Continue { .. } => false,
+        Stmt::Do { body, .. } => complete(body.as_slice()) || leave_in(body.as_slice()),
+        Stmt::Break { .. } | Stmt::Continue { .. } | Stmt::Return { .. } => false,
         Stmt::Set { .. }
         | Stmt::Havoc { .. }
         | Stmt::Assume { .. }
         | Stmt::Where { .. }
         | Stmt::Check { .. }
         | Stmt::While { .. }
-        | Stmt::Do { .. }
         | Stmt::For { .. }
         | Stmt::Label { .. } => true,
+    }
+}
+
+/// Whether a `Break` or a `Continue` of the loop around the statements is reached in them.
+#[cycle(completion)]
+fn leave_in(stmts: &[Stmt]) -> bool
+    ensures { result ≡ leave_in (statements_of stmts.now) }
+{
+    let Some((stmt, rest)) = stmts.split_first() else {
+        return false;
+    };
+    may_leave(stmt) || completes(stmt) && leave_in(rest)
+}
+
+#[cycle(completion)]
+fn may_leave(stmt: &Stmt) -> bool
+    ensures { result ≡ may_leave (statement_of stmt.now) }
+{
+    match stmt {
+        Stmt::If { first, second, .. } => leave_in(first.as_slice()) || leave_in(second.as_slice()),
+        Stmt::Break { .. } | Stmt::Continue { .. } => true,
+        _ => false,
     }
 }

@@ -38,7 +38,8 @@ pub(crate) fn points_of(stmt: &Stmt) -> u32
         | Stmt::Where { .. }
         | Stmt::Check { .. }
         | Stmt::Break { .. }
-        | Stmt::Continue { .. } => 0,
+        | Stmt::Continue { .. }
+        | Stmt::Return { .. } => 0,
         Stmt::Assume { cond, .. } => { if splits(cond) { 1 } else { 0 } }
         Stmt::If { first, second, .. } => points_in(first.as_slice())
             + points_in(second.as_slice())

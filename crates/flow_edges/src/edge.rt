@@ -3,7 +3,7 @@
 use base_list::Sequence;
 use lang_tree::{Check, Form};
 
-/// One action of an edge. Variables are numbered from 0 in order of declaration.
+/// One action of an edge. Variables are numbered from 0 in order of declaration, and hidden ones behind them.
 #[derive(Drop)]
 pub enum Action {
     /// Goes on only where the form is at most 0.

@@ -1,15 +1,15 @@
 //! How many ways and edges a program has, counted before they are made.
 
 ghost use Rattle.std.specs.Prelude.{◌≡◌, ◌+◌, ◌*◌, ◌≤◌, ◌||◌, ℕ, length, min, true, false, if◌then◌else◌};
-ghost use Rattle.lang_tree.specs.View.{condition_of, statement_of, statements_of};
+ghost use Rattle.lang_tree.specs.View.{condition_of, deeds_of, statement_of, statements_of};
 ghost use Rattle.flow_edges.specs.Edges.{complete, edges_of_program};
-ghost use Rattle.flow_edges.specs.Counts.{AreCounted, case_count, edge_count_in, edge_count_of, way_count_in};
+ghost use Rattle.flow_edges.specs.Counts.{AreCounted, case_count, deeds_count, edge_count_in, edge_count_of, tested_count, way_count_in};
 
 use crate::completion::{complete, completes};
 use crate::count::splits;
 use crate::listing::case_count;
 use crate::saturated::{ENOUGH, product, sum};
-use lang_tree::{Block, Cond, Stmt};
+use lang_tree::{Block, Cond, Deed, Stmt};
 
 /// How many ways go on by a `break` and by a `continue`, counted up to `ENOUGH`.
 #[derive(Clone, Copy)]
@@ -63,6 +63,7 @@ fn way_count(stmts: &[Stmt], jumps: JumpCounts, next: u32) -> u32
         Stmt::While { .. } | Stmt::Do { .. } | Stmt::For { .. } | Stmt::Label { .. } => 1,
         Stmt::Break { .. } => jumps.broken,
         Stmt::Continue { .. } => jumps.continued,
+        Stmt::Return { .. } => 1,
     }
 }
 
@@ -98,7 +99,8 @@ fn edge_count_of(stmt: &Stmt, jumps: JumpCounts, next: u32) -> u32
         | Stmt::Where { .. }
         | Stmt::Check { .. }
         | Stmt::Break { .. }
-        | Stmt::Continue { .. } => 0,
+        | Stmt::Continue { .. }
+        | Stmt::Return { .. } => 0,
         Stmt::Assume { cond, .. } => { if splits(cond) { next } else { 0 } }
         Stmt::If { first, second, .. } => sum(
             edge_count_in(first.as_slice(), jumps, 1),
@@ -107,17 +109,29 @@ fn edge_count_of(stmt: &Stmt, jumps: JumpCounts, next: u32) -> u32
                 join_count(first, second, next),
             ),
         ),
-        Stmt::While { cond, body, .. } | Stmt::For { cond, body, .. } => {
-            let inner = JumpCounts {
-                broken: next,
-                continued: 1,
-            };
-            let stmts = body.as_slice();
-            let head = choice_count(cond, way_count(stmts, inner, 1), next);
-            sum(head, edge_count_in(stmts, inner, 1))
+        Stmt::While {
+            prelude,
+            cond,
+            body,
+            ..
+        } => tested_count(prelude.as_slice(), cond, body, 1, next),
+        Stmt::For {
+            prelude,
+            cond,
+            change,
+            body,
+            ..
+        } => {
+            let end = deeds_count(change.as_slice(), 1);
+            tested_count(prelude.as_slice(), cond, body, end, next)
         }
-        Stmt::Do { cond, body, .. } => {
-            let end = choice_count(cond, 1, next);
+        Stmt::Do {
+            prelude,
+            cond,
+            body,
+            ..
+        } => {
+            let end = deeds_count(prelude.as_slice(), choice_count(cond, 1, next));
             let inner = JumpCounts {
                 broken: next,
                 continued: end,
@@ -129,6 +143,37 @@ fn edge_count_of(stmt: &Stmt, jumps: JumpCounts, next: u32) -> u32
             )
         }
         Stmt::Label { .. } => next,
+    }
+}
+
+/// The number of edges from the head of a loop that tests its condition there and from the points of its body, from the number of ways
+/// from the end of its body.
+#[cycle(edge_counts)]
+fn tested_count(prelude: &[Deed], cond: &Cond, body: &Block, end: u32, next: u32) -> u32
+    requires end { end ≤ ENOUGH }
+    requires next { next ≤ ENOUGH }
+    ensures { result ≡ min (tested_count (deeds_of prelude.now) (condition_of cond.now) body.now end next) ENOUGH }
+{
+    let inner = JumpCounts {
+        broken: next,
+        continued: end,
+    };
+    let stmts = body.as_slice();
+    let turn = choice_count(cond, way_count(stmts, inner, end), next);
+    sum(deeds_count(prelude, turn), edge_count_in(stmts, inner, end))
+}
+
+/// The number of ways along the deeds, from the number of those from what comes after them; counted up to `ENOUGH`.
+fn deeds_count(deeds: &[Deed], next: u32) -> u32
+    requires { next ≤ ENOUGH }
+    ensures { result ≡ min (deeds_count (deeds_of deeds.now) next) ENOUGH }
+{
+    let Some((deed, rest)) = deeds.split_first() else {
+        return next;
+    };
+    match deed {
+        Deed::Where { cond, .. } => product(case_count(cond, true), deeds_count(rest, next)),
+        Deed::Set { .. } | Deed::Havoc { .. } | Deed::Check { .. } => deeds_count(rest, next),
     }
 }
 

@@ -87,6 +87,10 @@ pub(crate) fn walk(
         }
         Stmt::Break { .. } => go_on(alloc, edges, &trail, jumps.broken.as_slice()),
         Stmt::Continue { .. } => go_on(alloc, edges, &trail, jumps.continued.as_slice()),
+        Stmt::Return { .. } => {
+            edges.push(trail.end(jumps.exit))?;
+            Ok(())
+        }
     }
 }
 

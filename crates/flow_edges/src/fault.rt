@@ -16,6 +16,8 @@ pub enum FlowFault {
     Edges,
     /// The edge with this number, from 0, has more than 256 actions; of several such edges it is the lowest.
     Actions { edge: u32 },
+    /// There are this many checks, which is more than `MOST_CHECKS`.
+    Checks { count: u32 },
     NoMemory,
 }
 

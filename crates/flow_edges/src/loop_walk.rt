@@ -2,52 +2,43 @@
 
 ghost use Rattle.std.specs.Prelude.{◌≡◌, ◌<◌, ◌+◌, ◌^◌, ◌++◌, IfOk, OnOk, IsTrue};
 ghost use Rattle.lang_tree.specs.Tree.{do_loop};
-ghost use Rattle.lang_tree.specs.View.{condition_of, statements_of};
+ghost use Rattle.lang_tree.specs.View.{condition_of, deeds_of, statements_of};
 ghost use Rattle.lang_tree.specs.PointNumbers.{points_in};
-ghost use Rattle.flow_edges.specs.Constants.{have_room, have_rooms};
-ghost use Rattle.flow_edges.specs.Edges.{arrived, changed, end_ways};
+ghost use Rattle.flow_edges.specs.Constants.{deeds_room, have_room, have_rooms};
+ghost use Rattle.flow_edges.specs.Edges.{end_ways};
 ghost use Rattle.flow_edges.specs.Trails.{begun_at, jumps_of, reached, walked, ways_by_turn};
 
-use crate::edge::{Action, Edge, Edges};
+use crate::deed_walk::begun_along;
+use crate::edge::{Edge, Edges};
 use crate::edge_walk::walk_cases;
 use crate::listing::list_cases;
-use crate::onward::{JumpEdges, arrival, arrival_by, go_on_by_case};
-use crate::trail::Trail;
-use lang_tree::{Change, Cond, Stmt};
+use crate::onward::{JumpEdges, arrival, go_on_by_case};
+use lang_tree::{Cond, Deed, Stmt};
 use std::alloc::{AllocError, Global};
-
-/// The edges walked from the end of the body of a `for` whose head is this point.
-pub(crate) fn changed(alloc: Global, change: &Change, head: u32) -> Result<Edges, AllocError>
-    ensures { IfOk result (λ edges. walked edges ≡ changed change.now (arrived head)) }
-{
-    match change {
-        Change::Unchanged => arrival(alloc, head),
-        Change::Set { var, form, .. } => {
-            let form = form.again()?;
-            arrival_by(alloc, Action::Assign { var: *var, form }, head)
-        }
-        Change::Havoc { var, .. } => arrival_by(alloc, Action::Havoc { var: *var }, head),
-    }
-}
 
 /// The edges walked from the end of the body of a `do` whose head is this point: to the head again, or past the loop and on
 /// by each of those that were walked from there.
 pub(crate) fn repeated(
     alloc: Global,
+    prelude: &[Deed],
     cond: &Cond,
     head: u32,
     after: &[Edge],
 ) -> Result<Edges, AllocError>
-    requires { IsTrue (have_room (condition_of cond.now)) }
-    ensures { IfOk result (λ edges. edges ≡ reached (begun_at head) (end_ways do_loop (condition_of cond.now) head (walked after.now))) }
+    requires deeds { IsTrue (deeds_room (deeds_of prelude.now)) }
+    requires room { IsTrue (have_room (condition_of cond.now)) }
+    ensures { IfOk result (λ edges. edges ≡ reached (begun_at head)
+        (end_ways (do_loop (deeds_of prelude.now)) (condition_of cond.now) head (walked after.now))) }
 {
     let mut edges = Vec::new(alloc);
-    let trail = Trail::new(alloc, head);
     let again = arrival(alloc, head)?;
     let held = list_cases(alloc, cond, true)?;
-    go_on_by_case(alloc, &mut edges, &trail, &held, again.as_slice())?;
     let failed = list_cases(alloc, cond, false)?;
-    go_on_by_case(alloc, &mut edges, &trail, &failed, after)?;
+    let trails = begun_along(alloc, head, prelude)?;
+    for trail in trails.as_slice() {
+        go_on_by_case(alloc, &mut edges, trail, &held, again.as_slice())?;
+        go_on_by_case(alloc, &mut edges, trail, &failed, after)?;
+    }
     Ok(Edges::new(edges))
 }
 
@@ -55,29 +46,26 @@ pub(crate) fn repeated(
 pub(crate) fn turn(
     alloc: Global,
     edges: &mut Vec<Edge>,
+    prelude: &[Deed],
     cond: &Cond,
     body: &[Stmt],
     head: u32,
     jumps: &JumpEdges,
 ) -> Result<(), AllocError>
+    requires deeds { IsTrue (deeds_room (deeds_of prelude.now)) }
     requires room { IsTrue (have_room (condition_of cond.now)) }
     requires room_inside { IsTrue (have_rooms (statements_of body.now)) }
     requires numbers { head + 1 + points_in (statements_of body.now) < 2 ^ 32 }
-    ensures { OnOk result (edges.new.items ≡ edges.old.items
-        ++ reached (begun_at head) (ways_by_turn (condition_of cond.now) (statements_of body.now) head (jumps_of jumps.now))) }
+    ensures { OnOk result (edges.new.items ≡ edges.old.items ++ reached (begun_at head)
+        (ways_by_turn (deeds_of prelude.now) (condition_of cond.now) (statements_of body.now) head (jumps_of jumps.now))) }
 {
-    let trail = Trail::new(alloc, head);
     let held = list_cases(alloc, cond, true)?;
-    walk_cases(
-        alloc,
-        edges,
-        &trail,
-        &held,
-        body,
-        head + 1,
-        jumps,
-        jumps.continued.as_slice(),
-    )?;
     let failed = list_cases(alloc, cond, false)?;
-    go_on_by_case(alloc, edges, &trail, &failed, jumps.broken.as_slice())
+    let trails = begun_along(alloc, head, prelude)?;
+    for trail in trails.as_slice() {
+        let end = jumps.continued.as_slice();
+        walk_cases(alloc, edges, trail, &held, body, head + 1, jumps, end)?;
+        go_on_by_case(alloc, edges, trail, &failed, jumps.broken.as_slice())?;
+    }
+    Ok(())
 }

@@ -1,29 +1,32 @@
 //! Where a walk goes on, given by edges that have been walked already.
 
 ghost use Rattle.std.specs.Prelude.{◌≡◌, ◌++◌, [], ◌∷◌, IfOk, OnOk};
-ghost use Rattle.flow_edges.specs.Edges.{arrived, prefixed};
+ghost use Rattle.flow_edges.specs.Edges.{arrived};
 ghost use Rattle.flow_edges.specs.Trails.{reached, split, walked};
 
 use crate::case::Cases;
-use crate::edge::{Action, Edge, Edges};
+use crate::edge::{Edge, Edges};
 use crate::trail::Trail;
 use std::alloc::{AllocError, Global};
 
-/// Where jumps go on: the edges walked from past the innermost loop, and from the end of its body.
+/// Where jumps go on: the edges walked from past the innermost loop, and from the end of its body; and the exit's point.
 #[derive(Drop)]
 pub(crate) struct JumpEdges {
     pub(crate) broken: Edges,
     pub(crate) continued: Edges,
+    pub(crate) exit: u32,
 }
 
-/// Where no loop is, a jump leads nowhere.
-pub(crate) fn no_jumps(alloc: Global) -> JumpEdges
+/// Where no loop is, a jump leads nowhere but to the exit.
+pub(crate) fn no_jumps(alloc: Global, exit: u32) -> JumpEdges
     ensures broken { result.broken ≡ [] }
     ensures continued { result.continued ≡ [] }
+    ensures exit { result.exit ≡ exit }
 {
     JumpEdges {
         broken: Edges::new(Vec::new(alloc)),
         continued: Edges::new(Vec::new(alloc)),
+        exit,
     }
 }
 
@@ -32,15 +35,6 @@ pub(crate) fn arrival(alloc: Global, point: u32) -> Result<Edges, AllocError>
     ensures { IfOk result (λ edges. walked edges ≡ arrived point) }
 {
     only(alloc, Trail::new(alloc, point).end(point))
-}
-
-/// The one edge that comes to the point by the action.
-pub(crate) fn arrival_by(alloc: Global, action: Action, point: u32) -> Result<Edges, AllocError>
-    ensures { IfOk result (λ edges. walked edges ≡ prefixed (action ∷ []) (arrived point)) }
-{
-    let mut trail = Trail::new(alloc, point);
-    trail.add(action)?;
-    only(alloc, trail.end(point))
 }
 
 fn only(alloc: Global, edge: Edge) -> Result<Edges, AllocError>

@@ -51,7 +51,8 @@ fn add_points_in(points: &mut Vec<Point>, stmt: &Stmt) -> Result<(), AllocError>
         | Stmt::Where { .. }
         | Stmt::Check { .. }
         | Stmt::Break { .. }
-        | Stmt::Continue { .. } => Ok(()),
+        | Stmt::Continue { .. }
+        | Stmt::Return { .. } => Ok(()),
         Stmt::Assume { cond, line } => {
             if splits(cond) {
                 add_point(points, Place::Assume, *line)

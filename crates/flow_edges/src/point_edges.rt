@@ -1,21 +1,22 @@
 //! The edges of a program, point by point.
 
 ghost use Rattle.std.specs.Prelude.{◌≡◌, ◌<◌, ◌+◌, ◌^◌, ◌++◌, OnOk, IfOk, IsTrue};
-ghost use Rattle.lang_tree.specs.View.{condition_of, statement_of, statements_of};
+ghost use Rattle.lang_tree.specs.View.{condition_of, deeds_of, statement_of, statements_of};
 ghost use Rattle.lang_tree.specs.PointNumbers.{exit_of, join_of, points_in, points_of};
-ghost use Rattle.flow_edges.specs.Constants.{has_rooms, have_room, have_rooms};
+ghost use Rattle.flow_edges.specs.Constants.{deeds_room, has_rooms, have_room, have_rooms};
 ghost use Rattle.flow_edges.specs.Edges.{arrived, ways_in};
 ghost use Rattle.flow_edges.specs.Trails.{begun_at, edges_in_loop, edges_in_node, edges_in_nodes, jumps_of, kept_edges, reached, walked};
 ghost use Rattle.flow_edges.specs.Trails.{ways_by_turn};
 
 use crate::completion::{complete, completes};
 use crate::count::{points_in, points_of, splits};
+use crate::deed_walk::changed;
 use crate::edge::{Edge, Edges};
 use crate::edge_walk::walk;
-use crate::loop_walk::{changed, repeated, turn};
+use crate::loop_walk::{repeated, turn};
 use crate::onward::{JumpEdges, arrival, no_jumps};
 use crate::trail::Trail;
-use lang_tree::{Block, Cond, Stmt};
+use lang_tree::{Block, Cond, Deed, Stmt};
 use std::alloc::{AllocError, Global};
 
 /// The edges of the program in order, each with at most 257 of its actions. `exit` is the number of the last point.
@@ -25,7 +26,7 @@ pub(crate) fn edges_of(alloc: Global, body: &Block, exit: u32) -> Result<Vec<Edg
     ensures { IfOk result (λ edges. edges.items ≡ kept_edges body.now) }
 {
     let mut edges = Vec::new(alloc);
-    let jumps = no_jumps(alloc);
+    let jumps = no_jumps(alloc, exit);
     let next = arrival(alloc, exit)?;
     let stmts = body.as_slice();
     walk(
@@ -97,7 +98,8 @@ fn add_edges_in(
         | Stmt::Where { .. }
         | Stmt::Check { .. }
         | Stmt::Break { .. }
-        | Stmt::Continue { .. } => Ok(()),
+        | Stmt::Continue { .. }
+        | Stmt::Return { .. } => Ok(()),
         Stmt::Assume { cond, .. } => {
             if splits(cond) {
                 let trail = Trail::new(alloc, first);
@@ -123,7 +125,7 @@ fn add_edges_in(
         }
         Stmt::While { .. } | Stmt::Do { .. } | Stmt::For { .. } => {
             let broken = edges_along(alloc, first, rest, later, jumps, next)?;
-            add_loop(alloc, edges, stmt, first, broken)
+            add_loop(alloc, edges, stmt, first, broken, jumps.exit)
         }
         Stmt::Label { .. } => {
             let trail = Trail::new(alloc, first);
@@ -166,30 +168,58 @@ fn add_loop(
     stmt: &Stmt,
     head: u32,
     broken: Edges,
+    exit: u32,
 ) -> Result<(), AllocError>
     requires room { IsTrue (has_rooms (statement_of stmt.now)) }
     requires numbers { head + points_of (statement_of stmt.now) < 2 ^ 32 }
-    ensures { OnOk result (edges.new.items ≡ edges.old.items ++ edges_in_loop (statement_of stmt.now) head (walked broken)) }
+    ensures { OnOk result (edges.new.items ≡ edges.old.items ++ edges_in_loop (statement_of stmt.now) head (walked broken)
+        (arrived exit)) }
 {
     match stmt {
-        Stmt::While { cond, body, .. } => {
+        Stmt::While {
+            prelude,
+            cond,
+            body,
+            ..
+        } => {
             let continued = arrival(alloc, head)?;
-            let jumps = JumpEdges { broken, continued };
-            add_tested_loop(alloc, edges, cond, body.as_slice(), head, &jumps)
+            let jumps = JumpEdges {
+                broken,
+                continued,
+                exit,
+            };
+            let deeds = prelude.as_slice();
+            add_tested_loop(alloc, edges, deeds, cond, body.as_slice(), head, &jumps)
         }
         Stmt::For {
+            prelude,
             cond,
             change,
             body,
             ..
         } => {
-            let continued = changed(alloc, change, head)?;
-            let jumps = JumpEdges { broken, continued };
-            add_tested_loop(alloc, edges, cond, body.as_slice(), head, &jumps)
+            let continued = changed(alloc, change.as_slice(), head)?;
+            let jumps = JumpEdges {
+                broken,
+                continued,
+                exit,
+            };
+            let deeds = prelude.as_slice();
+            add_tested_loop(alloc, edges, deeds, cond, body.as_slice(), head, &jumps)
         }
-        Stmt::Do { cond, body, .. } => {
-            let continued = repeated(alloc, cond, head, broken.as_slice())?;
-            let jumps = JumpEdges { broken, continued };
+        Stmt::Do {
+            prelude,
+            cond,
+            body,
+            ..
+        } => {
+            let deeds = prelude.as_slice();
+            let continued = repeated(alloc, deeds, cond, head, broken.as_slice())?;
+            let jumps = JumpEdges {
+                broken,
+                continued,
+                exit,
+            };
             add_do(alloc, edges, body.as_slice(), head, &jumps)
         }
         Stmt::Set { .. }
@@ -200,6 +230,7 @@ fn add_loop(
         | Stmt::If { .. }
         | Stmt::Break { .. }
         | Stmt::Continue { .. }
+        | Stmt::Return { .. }
         | Stmt::Label { .. } => Ok(()),
     }
 }
@@ -209,19 +240,21 @@ fn add_loop(
 fn add_tested_loop(
     alloc: Global,
     edges: &mut Vec<Edge>,
+    prelude: &[Deed],
     cond: &Cond,
     body: &[Stmt],
     head: u32,
     jumps: &JumpEdges,
 ) -> Result<(), AllocError>
+    requires deeds { IsTrue (deeds_room (deeds_of prelude.now)) }
     requires room { IsTrue (have_room (condition_of cond.now)) }
     requires room_inside { IsTrue (have_rooms (statements_of body.now)) }
     requires numbers { head + 1 + points_in (statements_of body.now) < 2 ^ 32 }
-    ensures { let ways = ways_by_turn (condition_of cond.now) (statements_of body.now) head (jumps_of jumps.now) in
+    ensures { let ways = ways_by_turn (deeds_of prelude.now) (condition_of cond.now) (statements_of body.now) head (jumps_of jumps.now) in
         OnOk result (edges.new.items ≡ edges.old.items ++ (reached (begun_at head) ways
         ++ edges_in_nodes (statements_of body.now) (head + 1) (jumps_of jumps.now) (walked jumps.now.continued))) }
 {
-    turn(alloc, edges, cond, body, head, jumps)?;
+    turn(alloc, edges, prelude, cond, body, head, jumps)?;
     add_edges(
         alloc,
         edges,

@@ -1,11 +1,11 @@
 //! Conditions with more cases than an edge may be split into.
 
 ghost use Rattle.std.specs.Prelude.{◌≡◌};
-ghost use Rattle.lang_tree.specs.View.{condition_of, statement_of, statements_of};
-ghost use Rattle.flow_edges.specs.Faults.{first_of, is_wide, wide_lines_in, wide_lines_of};
+ghost use Rattle.lang_tree.specs.View.{condition_of, deeds_of, statement_of, statements_of};
+ghost use Rattle.flow_edges.specs.Faults.{first_of, is_wide, wide_deeds, wide_lines_in, wide_lines_of};
 
 use crate::listing::{MOST_CASES, case_count};
-use lang_tree::{Cond, Stmt};
+use lang_tree::{Cond, Deed, Stmt};
 
 /// The line of the first statement whose condition has more than 64 cases for a truth that is used.
 #[cycle(wide)]
@@ -30,6 +30,7 @@ fn wide_line_in(stmt: &Stmt) -> Option<u32>
         | Stmt::Havoc { .. }
         | Stmt::Break { .. }
         | Stmt::Continue { .. }
+        | Stmt::Return { .. }
         | Stmt::Label { .. } => None,
         Stmt::Check { cond, line, .. } => {
             if is_wide(cond, false) {
@@ -59,19 +60,70 @@ fn wide_line_in(stmt: &Stmt) -> Option<u32>
                 None => wide_line(second.as_slice()),
             }
         }
-        Stmt::While { cond, body, line }
-        | Stmt::Do { cond, body, line }
-        | Stmt::For {
+        Stmt::While {
+            prelude,
             cond,
             body,
             line,
-            ..
+        }
+        | Stmt::Do {
+            prelude,
+            cond,
+            body,
+            line,
         } => {
+            if let Some(inner) = wide_deed(prelude.as_slice()) {
+                return Some(inner);
+            }
             if is_wide(cond, true) || is_wide(cond, false) {
                 return Some(*line);
             }
             wide_line(body.as_slice())
         }
+        Stmt::For {
+            prelude,
+            cond,
+            change,
+            body,
+            line,
+        } => {
+            if let Some(inner) = wide_deed(prelude.as_slice()) {
+                return Some(inner);
+            }
+            if is_wide(cond, true) || is_wide(cond, false) {
+                return Some(*line);
+            }
+            if let Some(inner) = wide_deed(change.as_slice()) {
+                return Some(inner);
+            }
+            wide_line(body.as_slice())
+        }
+    }
+}
+
+/// The line of the first deed whose condition has more than 64 cases for the truth that is used.
+fn wide_deed(deeds: &[Deed]) -> Option<u32>
+    ensures { result ≡ first_of (wide_deeds (deeds_of deeds.now)) }
+{
+    let Some((deed, rest)) = deeds.split_first() else {
+        return None;
+    };
+    match deed {
+        Deed::Where { cond, line } => {
+            if is_wide(cond, true) {
+                Some(*line)
+            } else {
+                wide_deed(rest)
+            }
+        }
+        Deed::Check { cond, line, .. } => {
+            if is_wide(cond, false) {
+                Some(*line)
+            } else {
+                wide_deed(rest)
+            }
+        }
+        Deed::Set { .. } | Deed::Havoc { .. } => wide_deed(rest),
     }
 }
 

@@ -9,3 +9,4 @@ pub mod Faults
 pub mod fit_tests
 pub mod trace_tests
 pub mod free_values
+pub mod EdgeActions

@@ -1,5 +1,5 @@
 -- How many names, points, edges and rows there are at most.
-use Rattle.std.proofs.Common.{◌≤◌, Bool, true, false, ◌&&◌, List, length, refl, sym, true≢false}
+use Rattle.std.proofs.Common.{◌+◌, ◌≤◌, Bool, true, false, ◌&&◌, List, length, refl, sym, true≢false}
 use Rattle.std.specs.Prelude.{IsTrue, nat_le, ℤ}
 use Rattle.std.specs.List.{list_all}
 use Rattle.std.proofs.lemmas.Bool.{leb-true}
@@ -8,7 +8,7 @@ use Rattle.flow_edges.specs.FlowLimits.{begins_with_entry, has_line, is_edge}
 use Rattle.flow_templates.specs.Rows.{is_template}
 use Rattle.flow_templates.specs.declared.limits.TheConstants.{MOST_ROWS}
 use Rattle.flow_edges.specs.declared.limits.TheConstants.{MOST_POINTS}
-use Rattle.lang_tree.specs.declared.limits.TheConstants.{MOST_VARIABLES}
+use Rattle.lang_tree.specs.declared.limits.TheConstants.{MOST_VARIABLES, MOST_HIDDEN}
 
 -- two tests that hold together each hold
 pub both : (a b : Bool) → IsTrue (a && b) → IsTrue a × IsTrue b
@@ -25,7 +25,7 @@ pub record FlowSizes (flow : Flow) : Type 0 where
   -- there are at most as many points as allowed
   pub points : length flow.points ≤ MOST_POINTS
   -- each edge is within the limits
-  pub edges : IsTrue (list_all (is_edge (length flow.names) (length flow.points)) flow.edges)
+  pub edges : IsTrue (list_all (is_edge (length flow.names + MOST_HIDDEN) (length flow.points)) flow.edges)
 
 -- the sizes of each flow are within the limits
 pub flow_sizes : (flow : Flow) → FlowSizes flow
@@ -35,7 +35,8 @@ flow_sizes flow =
     let c = both (begins_with_entry flow.points && list_all has_line flow.points) _ b.1 in
     let n = both (nat_le 1 (length flow.names)) (nat_le (length flow.names) MOST_VARIABLES) a.0 in
     let p = both (nat_le 2 (length flow.points)) (nat_le (length flow.points) MOST_POINTS) b.0 in
-    let e = both (nat_le (length flow.edges) 256) (list_all (is_edge (length flow.names) (length flow.points)) flow.edges) c.1 in
+    let e = both (nat_le (length flow.edges) 256)
+    (list_all (is_edge (length flow.names + MOST_HIDDEN) (length flow.points)) flow.edges) c.1 in
     record {
       names = leb-true (length flow.names) MOST_VARIABLES n.1;
       two_points = leb-true 2 (length flow.points) p.0;

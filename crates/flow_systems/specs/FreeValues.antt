@@ -1,6 +1,7 @@
 -- A trace by its start and the values that its free assignments take.
-use Rattle.std.specs.Prelude.{◌≡◌, ◌↔◌, ℕ, suc, List, [], ◌∷◌, length, slice_set}
+use Rattle.std.specs.Prelude.{◌≡◌, ◌↔◌, ℕ, suc, List, [], ◌∷◌, length}
 use Rattle.base_numbers.specs.Rational.{ℚ, zero_ℚ, ◌≤ℚ◌}
+use Rattle.lang_tree.specs.Meaning.{put}
 use Rattle.flow_edges.specs.declared.edge.Action.{Action}
 use Rattle.flow_edges.specs.declared.edge.Action.TheVariants.{Guard, Assign, Havoc, Check}
 use Rattle.flow_systems.specs.States.{RationalState, valueℚ, Traces}
@@ -18,9 +19,9 @@ abbrev pub Follows : List Action → RationalState → List ℚ → RationalStat
 Follows [] x [] y = y ≡ x
 Follows [] x (q ∷ free) y = ⊥
 Follows (Guard form ∷ actions) x free y = (valueℚ form x ≤ℚ zero_ℚ) × Follows actions x free y
-Follows (Assign var form ∷ actions) x free y = Follows actions (slice_set x var (valueℚ form x)) free y
+Follows (Assign var form ∷ actions) x free y = Follows actions (put zero_ℚ x var (valueℚ form x)) free y
 Follows (Havoc var ∷ actions) x [] y = ⊥
-Follows (Havoc var ∷ actions) x (q ∷ free) y = Follows actions (slice_set x var q) free y
+Follows (Havoc var ∷ actions) x (q ∷ free) y = Follows actions (put zero_ℚ x var q) free y
 Follows (Check about ∷ actions) x free y = Follows actions x free y
 
 -- each trace along the actions takes some values, one for each free assignment, and these determine its end

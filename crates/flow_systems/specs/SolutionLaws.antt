@@ -1,5 +1,5 @@
 -- What is so of every solution.
-use Rattle.std.specs.Prelude.{◌≡◌, ◌⊎◌, ℕ, ◌<◌, ℤ, List, length, slice_get, Some}
+use Rattle.std.specs.Prelude.{◌≡◌, ◌⊎◌, ℕ, ◌<◌, ℤ, List, length, slice_get, Some, IsTrue}
 use Rattle.base_numbers.specs.Rational.{whole}
 use Rattle.base_numbers.specs.Extended.{Ext, neg_inf, ◌<ᴱ◌}
 use Rattle.lang_tree.specs.declared.form.Form.{Form}
@@ -7,17 +7,19 @@ use Rattle.lang_tree.specs.Tree.{Statements}
 use Rattle.lang_tree.specs.Meaning.{State, dot, value}
 use Rattle.flow_edges.specs.PathLaws.{EdgesArePaths}
 use Rattle.flow_systems.specs.States.{dotℚ, valueℚ, rational}
+use Rattle.flow_systems.specs.SystemLimits.{is_over}
 use Rattle.flow_systems.specs.Equations.{Equations, Vector, PostSolution, Exceeds, Solves, IsBelow, Least}
 use Rattle.flow_systems.specs.Solutions.{equations_of_program, Holds}
 
--- where the edges are the paths of a program, every post-solution holds
+-- where the edges are the paths of a program and the rows are over its variables, every post-solution holds
 abbrev pub PostSolutionsHold : Type 0
-PostSolutionsHold = (system : Equations) (body : Statements) (v : Vector) → EdgesArePaths system.edges body → PostSolution system v
-    → Holds system body v
+PostSolutionsHold = (system : Equations) (body : Statements) (v : Vector) → IsTrue (is_over system.variables system.template)
+    → EdgesArePaths system.edges body → PostSolution system v → Holds system body v
 
--- every post-solution of a program's system holds
+-- every post-solution of a program's system, whose rows are over the program's variables, holds
 abbrev pub ProgramPostSolutionsHold : Type 0
 ProgramPostSolutionsHold = (variables : ℕ) (body : Statements) (template : List (List ℤ)) (v : Vector) →
+    IsTrue (is_over variables template) →
     PostSolution (equations_of_program variables body template) v → Holds (equations_of_program variables body template) body v
 
 -- a row and a form have the same value at an integer state and at the rational state that it is

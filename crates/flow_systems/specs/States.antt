@@ -1,16 +1,16 @@
 -- Rational states, and traces along actions.
-use Rattle.std.specs.Prelude.{◌≡◌, ℤ, List, [], ◌∷◌, map, slice_set}
+use Rattle.std.specs.Prelude.{◌≡◌, ℤ, List, [], ◌∷◌, map}
 use Rattle.base_numbers.specs.Rational.{ℚ, whole, zero_ℚ, ◌+ℚ◌, ◌*ℚ◌, ◌≤ℚ◌}
 use Rattle.lang_tree.specs.declared.form.Form.{Form}
-use Rattle.lang_tree.specs.Meaning.{State}
+use Rattle.lang_tree.specs.Meaning.{State, put}
 use Rattle.flow_edges.specs.declared.edge.Action.{Action}
 use Rattle.flow_edges.specs.declared.edge.Action.TheVariants.{Guard, Assign, Havoc, Check}
 
--- one fraction per variable, in order of declaration
+-- one fraction per variable, in order of declaration, and then for hidden ones: those up to the last that has been given a value
 abbrev pub RationalState : Type 0
 RationalState = List ℚ
 
--- the sum of the products of coefficients and values: the value of a row
+-- the sum of the products of coefficients and values: the value of a row; a variable without a value counts as 0
 abbrev pub dotℚ : List ℤ → RationalState → ℚ
 dotℚ [] xs = zero_ℚ
 dotℚ (c ∷ cs) [] = zero_ℚ
@@ -29,6 +29,6 @@ rational x = map whole x
 abbrev pub Traces : List Action → RationalState → RationalState → Type 0
 Traces [] x y = y ≡ x
 Traces (Guard form ∷ actions) x y = (valueℚ form x ≤ℚ zero_ℚ) × Traces actions x y
-Traces (Assign var form ∷ actions) x y = Traces actions (slice_set x var (valueℚ form x)) y
-Traces (Havoc var ∷ actions) x y = (q : ℚ) × Traces actions (slice_set x var q) y
+Traces (Assign var form ∷ actions) x y = Traces actions (put zero_ℚ x var (valueℚ form x)) y
+Traces (Havoc var ∷ actions) x y = (q : ℚ) × Traces actions (put zero_ℚ x var q) y
 Traces (Check about ∷ actions) x y = Traces actions x y

@@ -1,7 +1,8 @@
 -- The operations by which a trace is followed along actions, each guard tested where it stands, and a row is taken at its end.
-use Rattle.std.specs.Prelude.{◌≡◌, ◌↔◌, ℕ, ℤ, Bool, true, false, cond, List, [], ◌∷◌, ◌++◌, drop, slice_set, None, Some, Option, Result}
+use Rattle.std.specs.Prelude.{◌≡◌, ◌↔◌, ℕ, ℤ, Bool, true, false, cond, List, [], ◌∷◌, ◌++◌, drop, None, Some, Option, Result}
 use Rattle.std.specs.Prelude.{MatchResult}
 use Rattle.base_numbers.specs.Rational.{ℚ, zero_ℚ, le_ℚ}
+use Rattle.lang_tree.specs.Meaning.{put}
 use Rattle.flow_edges.specs.declared.edge.Action.{Action}
 use Rattle.flow_edges.specs.declared.edge.Action.TheVariants.{Guard, Assign, Havoc, Check}
 use Rattle.base_fractions.specs.declared.wide.Wide.{Wide}
@@ -17,9 +18,9 @@ trace_operations [] x free row = row_operations row x
 trace_operations (Guard form ∷ actions) x free row = form_operations form x
     ++ cond (le_ℚ (valueℚ form x) zero_ℚ) (trace_operations actions x free row) []
 trace_operations (Assign var form ∷ actions) x free row = form_operations form x
-    ++ trace_operations actions (slice_set x var (valueℚ form x)) free row
+    ++ trace_operations actions (put zero_ℚ x var (valueℚ form x)) free row
 trace_operations (Havoc var ∷ actions) x [] row = []
-trace_operations (Havoc var ∷ actions) x (q ∷ free) row = trace_operations actions (slice_set x var q) free row
+trace_operations (Havoc var ∷ actions) x (q ∷ free) row = trace_operations actions (put zero_ℚ x var q) free row
 trace_operations (Check about ∷ actions) x free row = trace_operations actions x free row
 
 -- the row's value at the trace's end; or a guard fails, so that the trace has no end

@@ -6,29 +6,30 @@ ghost use Rattle.flow_edges.specs.FlowLimits.{is_action};
 ghost use Rattle.flow_edges.specs.declared.edge.Edge.{Edge};
 ghost use Rattle.flow_systems.specs.Constants.{linear_action, action_with};
 ghost use Rattle.flow_systems.specs.FreeValues.{free_count};
+ghost use Rattle.flow_systems.specs.declared.values.TheConstants.{MOST_VALUES};
 ghost use Rattle.flow_systems.specs.TraceTests.{TraceAnswers, StepAnswers, FollowAnswers};
 
 use crate::sums::{Constants, form_value, row_value};
 use crate::system::System;
 use crate::trace::Trace;
+use crate::values::Values;
 use base_fractions::{Frac, OrderedField, Wide};
 use flow_edges::Action;
-use lang_tree::MOST_VARIABLES;
 
 // Takes one action: how many of the free values to come it took, or that its guard failed.
 fn step(
     action: &Action,
     constants: Constants,
-    state: &mut [Frac],
+    state: &mut Values,
     free: &[Frac],
 ) -> Result<Option<usize>, Wide<Frac>>
-    requires action { IsTrue (is_action (length state.old) action.now) }
+    requires action { IsTrue (is_action MOST_VALUES action.now) }
     requires free { free_count (action.now ∷ []) ≤ length free.now }
     ensures { StepAnswers (action_with constants action.now) state.old free.now state.new result }
 {
     match action {
         Action::Guard(form) => {
-            let value = form_value(form, constants, state)?;
+            let value = form_value(form, constants, state.as_slice())?;
             if value <= Frac::zero() {
                 Ok(Some(0))
             } else {
@@ -36,12 +37,12 @@ fn step(
             }
         }
         Action::Assign { var, form } => {
-            let value = form_value(form, constants, state)?;
-            state[*var as usize] = value;
+            let value = form_value(form, constants, state.as_slice())?;
+            state.put(*var as usize, value);
             Ok(Some(0))
         }
         Action::Havoc { var } => {
-            state[*var as usize] = free[0];
+            state.put(*var as usize, free[0]);
             Ok(Some(1))
         }
         Action::Check(_) => Ok(Some(0)),
@@ -52,10 +53,10 @@ fn step(
 fn follow(
     actions: &[Action],
     constants: Constants,
-    state: &mut [Frac],
+    state: &mut Values,
     free: &[Frac],
 ) -> Result<bool, Wide<Frac>>
-    requires actions { IsTrue (list_all (is_action (length state.old)) actions.now) }
+    requires actions { IsTrue (list_all (is_action MOST_VALUES) actions.now) }
     requires free { length free.now ≡ free_count actions.now }
     ensures { FollowAnswers (map (action_with constants) actions.now) state.old free.now state.new result }
 {
@@ -75,12 +76,11 @@ fn value_from(
     edge: u32,
     row: u32,
     constants: Constants,
-    state: &mut [Frac],
+    state: &mut Values,
     free: &[Frac],
 ) -> Result<Option<Frac>, Wide<Frac>>
     requires edge { edge < length system.now.flow.edges }
     requires row { row < length system.now.template }
-    requires start { length state.old ≡ length system.now.flow.names }
     requires free { (e : Edge) → slice_get system.now.flow.edges edge ≡ Some e → length free.now ≡ free_count e.actions }
     ensures { (e : Edge) (cs : List ℤ) → slice_get system.now.flow.edges edge ≡ Some e → slice_get system.now.template row ≡ Some cs →
         TraceAnswers (map (action_with constants) e.actions) state.old free.now cs result }
@@ -95,7 +95,7 @@ fn value_from(
     )? {
         return Ok(None);
     }
-    let value = row_value(rows[row as usize].as_slice(), state)?;
+    let value = row_value(rows[row as usize].as_slice(), state.as_slice())?;
     Ok(Some(value))
 }
 
@@ -114,11 +114,15 @@ fn value_along(
     ensures { (e : Edge) (cs : List ℤ) → slice_get system.now.flow.edges edge ≡ Some e → slice_get system.now.template row ≡ Some cs →
         TraceAnswers (map (action_with constants) e.actions) trace.now.start trace.now.free cs result }
 {
-    let start = trace.start.as_slice();
-    let mut values = [Frac::zero(); MOST_VARIABLES];
-    let state = &mut values[..start.len()];
-    state.copy_from_slice(start);
-    value_from(system, edge, row, constants, state, trace.free.as_slice())
+    let mut state = Values::new(trace.start.as_slice());
+    value_from(
+        system,
+        edge,
+        row,
+        constants,
+        &mut state,
+        trace.free.as_slice(),
+    )
 }
 
 /// The value of a row at the end of the trace along an edge; `None` where a guard fails. The trace has one start value for

@@ -16,6 +16,7 @@ mod spot;
 mod sums;
 mod system;
 mod trace;
+mod values;
 
 pub use bounds::Bounds;
 pub use fault::Fault;
@@ -33,3 +34,4 @@ pub use spot::{Part, PartFault, Site, Spot};
 pub use sums::{Constants, form_value, fraction, row_value};
 pub use system::{System, SystemFault};
 pub use trace::{Fracs, Trace};
+pub use values::{MOST_VALUES, Values};

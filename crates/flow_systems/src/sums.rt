@@ -1,9 +1,9 @@
 //! The values of rows and forms at states of fractions, summed from the left.
 
-ghost use Rattle.std.specs.Prelude.{◌≡◌, IsTrue, length};
+ghost use Rattle.std.specs.Prelude.{◌≡◌, IsTrue};
 ghost use Rattle.base_numbers.specs.Rational.{whole, ◌+ℚ◌, ◌*ℚ◌};
 ghost use Rattle.lang_tree.specs.Numbers.{is_number, are_numbers};
-ghost use Rattle.lang_tree.specs.Limits.{is_form};
+ghost use Rattle.lang_tree.specs.Limits.{has_numbers};
 ghost use Rattle.flow_systems.specs.States.{dotℚ, valueℚ};
 ghost use Rattle.flow_systems.specs.Constants.{form_with};
 ghost use Rattle.flow_systems.specs.Sums.{product_operations, row_operations, form_operations, SumAnswers};
@@ -36,20 +36,19 @@ fn add_product(sum: Frac, coeff: i64, value: Frac) -> Result<Frac, Wide<Frac>>
     sum.add_product(fraction(coeff), value)
 }
 
-/// The value of a row at a state, which has one value for each coefficient. It is summed from the left, starting with 0:
-/// each product has the coefficient on its left and is then added.
+/// The value of a row at a state. It is summed from the left, starting with 0: each product has the coefficient on its left
+/// and is then added. Coefficients without a value make no product, nor do values without a coefficient.
 ///
 /// # Errors
 ///
 /// The first operation whose exact result has a part above the limit, exactly where there is one. Takes no memory.
 pub fn row_value(row: &[i64], state: &[Frac]) -> Result<Frac, Wide<Frac>>
-    requires numbers { IsTrue (are_numbers row.now) }
-    requires size { length row.now ≡ length state.now }
+    requires { IsTrue (are_numbers row.now) }
     ensures { SumAnswers (dotℚ row.now state.now) (row_operations row.now state.now) result }
 {
     let mut sum = Frac::zero();
-    for (i, coeff) in row.iter().enumerate() {
-        sum = add_product(sum, *coeff, state[i])?;
+    for i in 0..row.len().min(state.len()) {
+        sum = add_product(sum, row[i], state[i])?;
     }
     Ok(sum)
 }
@@ -71,7 +70,7 @@ fn constant(form: &Form, constants: Constants) -> Frac
 ///
 /// The first operation whose exact result has a part above the limit, exactly where there is one. Takes no memory.
 pub fn form_value(form: &Form, constants: Constants, state: &[Frac]) -> Result<Frac, Wide<Frac>>
-    requires { IsTrue (is_form (length state.now) form.now) }
+    requires { IsTrue (has_numbers form.now) }
     ensures { SumAnswers (valueℚ (form_with constants form.now) state.now) (form_operations (form_with constants form.now) state.now)
         result }
 {

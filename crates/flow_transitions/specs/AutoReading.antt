@@ -9,11 +9,11 @@ use Rattle.lang_tokens.specs.Faults.{HasFault}
 use Rattle.lang_grammar.specs.View.{tokens_of}
 use Rattle.lang_tree.specs.declared.limits.TheConstants.{MOST_VARIABLES}
 use Rattle.lang_tree.specs.declared.form.Form.{Form}
-use Rattle.lang_tree.specs.Limits.{is_form}
 use Rattle.lang_tree.specs.Tree.{Condition, Statement, Statements, assume, nil, cons}
 use Rattle.lang_meaning.specs.declared.fault.ParseFault.{ParseFault}
 use Rattle.lang_meaning.specs.declared.fault.ParseFault.TheVariants as parse
 use Rattle.lang_meaning.specs.declared.fault.Limit.TheVariants.{Variables}
+use Rattle.lang_meaning.specs.Forms.{is_whole_form}
 use Rattle.lang_meaning.specs.Names.{place_of}
 use Rattle.lang_meaning.specs.Walk.{assignment}
 use Rattle.lang_meaning.specs.Expressions.{Meaning, as_truth}
@@ -257,10 +257,10 @@ pub data IsRead (text : List ℕ) (answer : AutoAnswer) : Type 0 where
   no_tokens : (f : LexFault) → HasFault text f → answer ≡ Err (fault.Lex f) → IsRead text answer
   some_tokens : (tokens : List Token) → Reads text tokens → ReadsTo text tokens (Ok start) 0 answer → IsRead text answer
 
--- the form is over n variables, if there is one
+-- the form has one coefficient for each of n variables, if there is one
 abbrev pub is_side : ℕ → Option Form → Bool
 is_side n None = true
-is_side n (Some f) = is_form n f
+is_side n (Some f) = is_whole_form n f
 
 -- a fault of an expression, as the code has it
 abbrev pub parse_fault : ParseFault → AutoFault

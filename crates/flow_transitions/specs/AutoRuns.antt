@@ -7,7 +7,7 @@ use Rattle.flow_transitions.specs.declared.auto_edge.AutoEdge.{AutoEdge}
 
 -- an act leads from one state to another as the same statement of a program does, whatever work that leaves
 abbrev pub DoesAct : Statement → State → State → Type 0
-DoesAct s x y = (work : List Item) × Does (node s 0) [] x work y
+DoesAct s x y = (work : List Item) × Does 0 (node s 0) [] x work y
 
 -- so do acts one after another
 abbrev pub DoesActs : Statements → State → State → Type 0

@@ -22,7 +22,7 @@ use lang_reader::{
     tested,
 };
 use lang_tokens::line_of;
-use lang_tree::{Cond, Stmt};
+use lang_tree::{Cond, Deeds, Stmt};
 
 // The condition of the statement at `place` is there.
 fn decided(
@@ -41,7 +41,14 @@ fn decided(
         Test::While => reader.opened(source.alloc, Within::Loop(cond, place), place),
         Test::Do(body) => {
             let line = line_of(source.text, place);
-            Ok(Mode::Ends(one(source.alloc, Stmt::Do { cond, body, line })?))
+            let prelude = Deeds::none(source.alloc);
+            let looped = Stmt::Do {
+                prelude,
+                cond,
+                body,
+                line,
+            };
+            Ok(Mode::Ends(one(source.alloc, looped)?))
         }
         Test::Demand(demand) => Ok(Mode::Ends(demanded(source, demand, place, cond)?)),
     }

@@ -2,11 +2,12 @@
 use Rattle.std.specs.Prelude.{◌≡◌, ◌⊎◌, ◌+◌, ℕ, List, drop, Result, Ok, Err, IsTrue}
 use Rattle.lang_grammar.specs.Grammar.{Token, Expr}
 use Rattle.lang_grammar.specs.Expressions.{IsLongest, FindsExpr, stops_at, nests_at}
-use Rattle.lang_tree.specs.Limits.{is_form, is_tested}
+use Rattle.lang_tree.specs.Limits.{is_tested}
 use Rattle.lang_meaning.specs.declared.fault.ParseFault.{ParseFault}
 use Rattle.lang_meaning.specs.declared.fault.ParseFault.TheVariants as fault
 use Rattle.lang_meaning.specs.declared.fault.Limit.TheVariants.{Nesting}
 use Rattle.lang_meaning.specs.Results.{◌>>=◌}
+use Rattle.lang_meaning.specs.Forms.{is_whole_form}
 use Rattle.lang_meaning.specs.Expressions.{Meaning, a_choice, a_condition, a_number, first_place, meant}
 
 -- what it is, and the number of the token behind it
@@ -24,7 +25,7 @@ ExpressionMeans text tokens from names r =
 
 -- an expression over n variables: its numbers are within their ranges, and a condition has at most 64 leaves
 abbrev pub MeaningFits : ℕ → Meaning → Type 0
-MeaningFits n (a_number f) = IsTrue (is_form n f)
+MeaningFits n (a_number f) = IsTrue (is_whole_form n f)
 MeaningFits n (a_condition c) = IsTrue (is_tested n c)
 MeaningFits n a_choice = Unit {0}
 

@@ -162,9 +162,9 @@ abbrev pub wrapped : (ℕ → ℕ) → Within → Statements → Statements
 wrapped line (of_items k) ns = ns
 wrapped line (of_branch c a) ns = one (tree.branch c ns nil (line a))
 wrapped line (of_other c first a) ns = one (tree.branch c first ns (line a))
-wrapped line (of_loop c a) ns = one (tree.loop tree.while_loop c ns (line a))
+wrapped line (of_loop c a) ns = one (tree.loop (tree.while_loop []) c ns (line a))
 wrapped line (of_body a) ns = ns
-wrapped line (of_for k a bs c g) ns = followed_by bs (one (tree.loop (tree.for_loop g) c ns (line a)))
+wrapped line (of_for k a bs c g) ns = followed_by bs (one (tree.loop (tree.for_loop [] (tree.change_deeds g)) c ns (line a)))
 
 -- the body of a loop
 abbrev pub is_body : Frame → Bool
@@ -283,7 +283,7 @@ module _ (line : ℕ → ℕ) (width : ℕ) where
   abbrev pub decided : Test → ℕ → State → List Frame → Condition → Outcome
   decided of_if a st fs c = counted a st >>= λ now. Ok (at now (under (of_branch c a) nil ∷ fs) stands)
   decided of_while a st fs c = counted a st >>= λ now. Ok (at now (under (of_loop c a) nil ∷ fs) stands)
-  decided (of_do ns) a st fs c = Ok (at st fs (ends (one (tree.loop tree.do_loop c ns (line a)))))
+  decided (of_do ns) a st fs c = Ok (at st fs (ends (one (tree.loop (tree.do_loop []) c ns (line a)))))
   decided (of_demand k) a st fs c = Ok (at st fs (ends (demanded line k a c)))
 
   -- behind a whole expression

@@ -1,8 +1,10 @@
 -- Forms over a number of variables: sums, differences and multiples. A product of two, which may be refused, is in `Walk.antt`.
-use Rattle.std.specs.Prelude.{ℕ, ℤ, pos, ◌+◌, ◌+ℤ◌, ◌-ℤ◌, ◌*ℤ◌, Bool, true, false, List, [], ◌∷◌, nat_abs, nat_le, replicate, slice_set}
+use Rattle.std.specs.Prelude.{ℕ, ℤ, pos, ◌==◌, ◌&&◌, ◌+◌, ◌+ℤ◌, ◌-ℤ◌, ◌*ℤ◌, Bool, true, false, List, [], ◌∷◌, length, nat_abs, nat_le}
+use Rattle.std.specs.Prelude.{replicate, slice_set}
 use Rattle.std.specs.List.{list_all}
 use Rattle.std.specs.Ordering.{int_eq}
 use Rattle.lang_tree.specs.declared.form.Form.{Form}
+use Rattle.lang_tree.specs.Limits.{has_numbers}
 
 -- the whole number z
 abbrev pub constant_form : ℕ → ℤ → Form
@@ -53,3 +55,7 @@ is_constant f = list_all (λ x. int_eq x (pos 0)) f.coeffs
 -- its constant is within 2^63 - 2, as that of a comparison has to be
 abbrev pub is_comparable : Form → Bool
 is_comparable f = nat_le (nat_abs f.constant + 1) 9223372036854775807
+
+-- one coefficient for each of n variables, and numbers within 2^63 - 1
+abbrev pub is_whole_form : ℕ → Form → Bool
+is_whole_form n f = length f.coeffs == n && has_numbers f

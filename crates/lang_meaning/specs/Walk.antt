@@ -297,18 +297,18 @@ module _ (line : ℕ → ℕ) (width : ℕ) where
     walk_core inside (repeat a b e c s) st =
         walk_expr st e >>= λ v. tested a v >>= λ x. counted a st >>= λ now. walk_sub true s now >>= λ r. Ok (
           r.0,
-          one (tree.loop tree.while_loop x r.1 (line a)),
+          one (tree.loop (tree.while_loop []) x r.1 (line a)),
         )
     walk_core inside (repeat_after a s b c e d i) st =
         counted a st >>= λ now. walk_sub true s now >>= λ r. walk_expr r.0 e >>= λ v. tested a v >>= λ x. Ok (
           r.0,
-          one (tree.loop tree.do_loop x r.1 (line a)),
+          one (tree.loop (tree.do_loop []) x r.1 (line a)),
         )
     walk_core inside (repeat_for a b f t l s) st =
         walk_first f st >>= λ r. walk_test a t r.0 >>= λ x. counted a r.0 >>= λ now. walk_last l now >>= λ u. walk_sub true s u.0
         >>= λ q. Ok (
           closed (length st.known) q.0,
-          followed_by r.1 (one (tree.loop (tree.for_loop u.1) x q.1 (line a))),
+          followed_by r.1 (one (tree.loop (tree.for_loop [] (tree.change_deeds u.1)) x q.1 (line a))),
         )
     walk_core inside (jumps j a b) st = jumped inside a st >>= λ now. Ok (now, one (tree.jump (jump_kind j) (line a)))
     walk_core inside (demands k a b e c d) st = counted_for k a st >>= λ now. walk_expr now e >>= λ v. tested a v

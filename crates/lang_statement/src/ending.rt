@@ -12,7 +12,7 @@ ghost use Rattle.lang_statement.specs.Closing.{GoesOn};
 
 use lang_reader::{Frame, Mode, Reader, Source, Test, Within, followed, one};
 use lang_tokens::line_of;
-use lang_tree::{Block, Stmt};
+use lang_tree::{Block, Deeds, Stmt};
 use std::alloc::AllocError;
 
 // The statement whose last part has these nodes.
@@ -47,6 +47,7 @@ fn wrapped(source: &Source, within: Within, nodes: Vec<Stmt>) -> Result<Vec<Stmt
         Within::Loop(cond, at) => one(
             source.alloc,
             Stmt::While {
+                prelude: Deeds::none(source.alloc),
                 cond,
                 body: Block::new(nodes),
                 line: line_of(source.text, at),
@@ -67,8 +68,9 @@ fn wrapped(source: &Source, within: Within, nodes: Vec<Stmt>) -> Result<Vec<Stmt
                 one(
                     source.alloc,
                     Stmt::For {
+                        prelude: Deeds::none(source.alloc),
                         cond,
-                        change,
+                        change: Deeds::of_change(source.alloc, change)?,
                         body,
                         line,
                     },

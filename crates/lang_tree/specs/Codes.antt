@@ -5,13 +5,11 @@ use base.Stored.{Coded, Gv, gcons, gnil, gnum}
 use Rattle.lang_tree.specs.declared.form.Form.{Form}
 use Rattle.lang_tree.specs.declared.cond.Rel.{Rel}
 use Rattle.lang_tree.specs.declared.cond.Rel.TheVariants.{Eq, Ne, Lt, Le, Gt, Ge}
-use Rattle.lang_tree.specs.declared.change.Change.{Change}
-use Rattle.lang_tree.specs.declared.change.Change.TheVariants as change
 use Rattle.lang_tree.specs.Tree.{Condition, free, compare, negation, both, either, LoopKind, while_loop, for_loop, do_loop, Jump, breaks}
-use Rattle.lang_tree.specs.Tree.{continues}
+use Rattle.lang_tree.specs.Tree.{continues, returns, Deed, sets, havocs, wheres, checks}
 use Rattle.lang_tree.specs.declared.check.Check.{Check}
 use Rattle.lang_tree.specs.declared.check.CheckKind.{CheckKind}
-use Rattle.lang_tree.specs.declared.check.CheckKind.TheVariants.{Assert}
+use Rattle.lang_tree.specs.declared.check.CheckKind.TheVariants.{Assert, Divisor, Error, Index, Range}
 use Rattle.lang_tree.specs.Tree.{Statement, Statements, set, havoc, assume, only_where, check, branch, loop, jump, label, nil, cons}
 
 -- ---- numbers, names and forms
@@ -120,66 +118,33 @@ condition_back (negation c) = ap negation (condition_back c)
 condition_back (both c d) = ap₂ both (condition_back c) (condition_back d)
 condition_back (either c d) = ap₂ either (condition_back c) (condition_back d)
 
--- ---- loops and jumps
--- the code of a change
-abbrev pub change_code : Change → Gv
-change_code change.Unchanged = gnil
-change_code (change.Set var form line) = gcons (form_code form) (gcons (gnum var) (gnum line))
-change_code (change.Havoc var line) = gcons gnil (gcons (gnum var) (gnum line))
-
-change_from : Gv → Change
-change_from (gcons (gcons c cs) (gcons (gnum var) (gnum line))) = change.Set var (form_from (gcons c cs)) line
-change_from (gcons gnil (gcons (gnum var) (gnum line))) = change.Havoc var line
-change_from g = change.Unchanged
-
-change_back : (c : Change) → change_from (change_code c) ≡ c
-unfolding change_from
-change_back change.Unchanged = refl
-change_back (change.Set var form line) = ap (λ f. change.Set var f line) (form_back form)
-change_back (change.Havoc var line) = refl
-
--- the code of a kind of loop
-abbrev pub kind_code : LoopKind → Gv
-kind_code while_loop = gnum 0
-kind_code (for_loop c) = gcons gnil (change_code c)
-kind_code do_loop = gnum 1
-
-kind_from : Gv → LoopKind
-kind_from (gnum zero) = while_loop
-kind_from (gcons g c) = for_loop (change_from c)
-kind_from g = do_loop
-
-kind_back : (k : LoopKind) → kind_from (kind_code k) ≡ k
-unfolding kind_from
-kind_back while_loop = refl
-kind_back (for_loop c) = ap for_loop (change_back c)
-kind_back do_loop = refl
-
--- the code of a jump
-abbrev pub jump_code : Jump → Gv
-jump_code breaks = gnum 0
-jump_code continues = gnum 1
-
-jump_from : Gv → Jump
-jump_from (gnum zero) = breaks
-jump_from g = continues
-
-jump_back : (j : Jump) → jump_from (jump_code j) ≡ j
-unfolding jump_from
-jump_back breaks = refl
-jump_back continues = refl
-
 -- ---- checks
 -- the code of a kind of check
 abbrev pub check_kind_code : CheckKind → Gv
-check_kind_code Assert = gnil
+check_kind_code Assert = gnum 0
+check_kind_code Divisor = gnum 1
+check_kind_code Error = gnum 2
+check_kind_code Index = gnum 3
+check_kind_code Range = gnum 4
+
+kind_at : ℕ → CheckKind
+kind_at zero = Assert
+kind_at (suc zero) = Divisor
+kind_at (suc (suc zero)) = Error
+kind_at (suc (suc (suc zero))) = Index
+kind_at n = Range
 
 check_kind_from : Gv → CheckKind
+check_kind_from (gnum n) = kind_at n
 check_kind_from g = Assert
 
 check_kind_back : (k : CheckKind) → check_kind_from (check_kind_code k) ≡ k
-unfolding check_kind_from
+unfolding check_kind_from kind_at
 check_kind_back Assert = refl
+check_kind_back Divisor = refl
+check_kind_back Error = refl
+check_kind_back Index = refl
+check_kind_back Range = refl
 
 -- the code of a check
 abbrev pub check_code : Check → Gv
@@ -192,6 +157,85 @@ check_from g = record { kind = Assert; at = 0 }
 check_back : (about : Check) → check_from (check_code about) ≡ about
 unfolding check_from
 check_back about = ap (λ k. let r : Check = record { kind = k; at = about.at } in r) (check_kind_back about.kind)
+
+-- ---- deeds, loops and jumps
+-- the code of a deed
+abbrev pub deed_code : Deed → Gv
+deed_code (sets var form line) = gcons (gnum 0) (gcons (gnum var) (gcons (form_code form) (gnum line)))
+deed_code (havocs var line) = gcons (gnum 1) (gcons (gnum var) (gnum line))
+deed_code (wheres cond line) = gcons (gnum 2) (gcons (condition_code cond) (gnum line))
+deed_code (checks about cond line) = gcons (gnum 3) (gcons (check_code about) (gcons (condition_code cond) (gnum line)))
+
+deed_from : Gv → Deed
+deed_from (gcons (gnum zero) (gcons (gnum var) (gcons form (gnum line)))) = sets var (form_from form) line
+deed_from (gcons (gnum (suc zero)) (gcons (gnum var) (gnum line))) = havocs var line
+deed_from (gcons (gnum (suc (suc zero))) (gcons cond (gnum line))) = wheres (condition_from cond) line
+deed_from (gcons (gnum (suc (suc (suc k)))) (gcons about (gcons cond (gnum line)))) = checks (check_from about) (condition_from cond) line
+deed_from g = havocs 0 0
+
+deed_back : (d : Deed) → deed_from (deed_code d) ≡ d
+unfolding deed_from
+deed_back (sets var form line) = ap (λ f. sets var f line) (form_back form)
+deed_back (havocs var line) = refl
+deed_back (wheres cond line) = ap (λ c. wheres c line) (condition_back cond)
+deed_back (checks about cond line) = ap₂ (λ a c. checks a c line) (check_back about) (condition_back cond)
+
+-- the code of deeds
+abbrev pub deeds_code : List Deed → Gv
+deeds_code [] = gnil
+deeds_code (d ∷ ds) = gcons (deed_code d) (deeds_code ds)
+
+deeds_from : Gv → List Deed
+deeds_from (gcons d ds) = deed_from d ∷ deeds_from ds
+deeds_from g = []
+
+deeds_back : (ds : List Deed) → deeds_from (deeds_code ds) ≡ ds
+unfolding deeds_from
+deeds_back [] = refl
+deeds_back (d ∷ ds) = ap₂ ◌∷◌ (deed_back d) (deeds_back ds)
+
+-- two lists of deeds with one code are the same
+pub deeds_inj : (x y : List Deed) → deeds_code x ≡ deeds_code y → x ≡ y
+deeds_inj x y e = sym (deeds_back x) ∙ ap deeds_from e ∙ deeds_back y
+
+-- deeds are told apart by their codes
+abbrev pub coded_deeds : Coded (List Deed)
+coded_deeds = record { code = deeds_code; inj = deeds_inj }
+
+-- the code of a kind of loop
+abbrev pub kind_code : LoopKind → Gv
+kind_code (while_loop p) = gcons (gnum 0) (deeds_code p)
+kind_code (for_loop p g) = gcons (gnum 1) (gcons (deeds_code p) (deeds_code g))
+kind_code (do_loop p) = gcons (gnum 2) (deeds_code p)
+
+kind_from : Gv → LoopKind
+kind_from (gcons (gnum zero) p) = while_loop (deeds_from p)
+kind_from (gcons (gnum (suc zero)) (gcons p g)) = for_loop (deeds_from p) (deeds_from g)
+kind_from (gcons (gnum (suc (suc k))) p) = do_loop (deeds_from p)
+kind_from g = do_loop []
+
+kind_back : (k : LoopKind) → kind_from (kind_code k) ≡ k
+unfolding kind_from
+kind_back (while_loop p) = ap while_loop (deeds_back p)
+kind_back (for_loop p g) = ap₂ for_loop (deeds_back p) (deeds_back g)
+kind_back (do_loop p) = ap do_loop (deeds_back p)
+
+-- the code of a jump
+abbrev pub jump_code : Jump → Gv
+jump_code breaks = gnum 0
+jump_code continues = gnum 1
+jump_code returns = gnum 2
+
+jump_from : Gv → Jump
+jump_from (gnum zero) = breaks
+jump_from (gnum (suc zero)) = continues
+jump_from g = returns
+
+jump_back : (j : Jump) → jump_from (jump_code j) ≡ j
+unfolding jump_from
+jump_back breaks = refl
+jump_back continues = refl
+jump_back returns = refl
 
 -- ---- statements
 abbrev mutual

@@ -3,7 +3,8 @@ use Rattle.std.specs.Prelude.{◌≤◌, List, [], ◌∷◌}
 use Rattle.std.proofs.Common.{arith}
 use denote.Param.Weighed.{most}
 use Rattle.lang_tree.specs.declared.stmt.Stmt.{Stmt}
-use Rattle.lang_tree.specs.declared.stmt.Stmt.TheVariants.{Set, Havoc, Assume, Where, Check, If, While, Do, For, Break, Continue, Label}
+use Rattle.lang_tree.specs.declared.stmt.Stmt.TheVariants.{Set, Havoc, Assume, Where, Check, If, While, Do, For, Break, Continue, Return}
+use Rattle.lang_tree.specs.declared.stmt.Stmt.TheVariants.{Label}
 use Rattle.lang_tree.specs.declared.stmt.Block.TheDeep.{deep-Stmt}
 use Rattle.lang_tree.specs.Tree.{node_count, nodes_in}
 use Rattle.lang_tree.specs.View.{statement_of, statements_of}
@@ -15,11 +16,12 @@ deep_one (Assume cond line) = omega arith
 deep_one (Where cond line) = omega arith
 deep_one (Check about cond line) = omega arith
 deep_one (If cond first second line) = omega arith
-deep_one (While cond body line) = omega arith
-deep_one (Do cond body line) = omega arith
-deep_one (For cond change body line) = omega arith
+deep_one (While prelude cond body line) = omega arith
+deep_one (Do prelude cond body line) = omega arith
+deep_one (For prelude cond change body line) = omega arith
 deep_one (Break line) = omega arith
 deep_one (Continue line) = omega arith
+deep_one (Return line) = omega arith
 deep_one (Label name line) = omega arith
 
 -- blocks nest at most as deep as they have statements

@@ -1,6 +1,7 @@
 pub mod Numbers
 pub mod Tree
 pub mod Codes
+pub mod DeedView
 pub mod View
 pub mod Falls
 pub mod Word

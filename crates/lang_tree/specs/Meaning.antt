@@ -1,15 +1,22 @@
 -- Integer states, and what forms and conditions mean at them.
-use Rattle.std.specs.Prelude.{◌≡◌, ◌≢◌, ◌⊎◌, ℤ, pos, ◌+ℤ◌, ◌*ℤ◌, ◌≤ℤ◌, ◌<ℤ◌, Bool, true, false, not, List, [], ◌∷◌}
+use Rattle.std.specs.Prelude.{◌≡◌, ◌≢◌, ◌⊎◌, ℕ, zero, suc, ℤ, pos, ◌+ℤ◌, ◌*ℤ◌, ◌≤ℤ◌, ◌<ℤ◌, Bool, true, false, not, List, [], ◌∷◌}
 use Rattle.lang_tree.specs.declared.form.Form.{Form}
 use Rattle.lang_tree.specs.declared.cond.Rel.{Rel}
 use Rattle.lang_tree.specs.declared.cond.Rel.TheVariants.{Eq, Ne, Lt, Le, Gt, Ge}
 use Rattle.lang_tree.specs.Tree.{Condition, free, compare, negation, both, either}
 
--- one integer per variable, in order of declaration
+-- the list with this value at a place; places that it lacks before this one get another value
+abbrev pub put : {A : Type 0} → A → List A → ℕ → A → List A
+put other [] zero x = x ∷ []
+put other [] (suc k) x = other ∷ put other [] k x
+put other (y ∷ ys) zero x = x ∷ ys
+put other (y ∷ ys) (suc k) x = y ∷ put other ys k x
+
+-- one integer per variable, in order of declaration, and then for hidden ones: those up to the last that has been given a value
 abbrev pub State : Type 0
 State = List ℤ
 
--- the sum of the products of coefficients and values
+-- the sum of the products of coefficients and values; a variable without a value counts as 0
 abbrev pub dot : List ℤ → State → ℤ
 dot [] xs = pos 0
 dot (c ∷ cs) [] = pos 0

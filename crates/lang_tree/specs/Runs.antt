@@ -1,15 +1,13 @@
 -- Runs of a program over integer states, by the list of work that is left to do.
-use Rattle.std.specs.Prelude.{◌≡◌, ℕ, ℤ, ◌+◌, Bool, true, false, List, [], ◌∷◌, ◌++◌, length, slice_set, if◌then◌else◌, Contains}
-use Rattle.lang_tree.specs.declared.change.Change.{Change}
-use Rattle.lang_tree.specs.declared.change.Change.TheVariants as change
+use Rattle.std.specs.Prelude.{◌≡◌, ℕ, ℤ, pos, ◌+◌, Bool, true, false, List, [], ◌∷◌, ◌++◌, length, take, if◌then◌else◌, Contains}
 use Rattle.lang_tree.specs.declared.check.Check.{Check}
-use Rattle.lang_tree.specs.Tree.{Condition, LoopKind, while_loop, for_loop, do_loop, breaks, continues}
+use Rattle.lang_tree.specs.Tree.{Condition, Deed, LoopKind, while_loop, for_loop, do_loop, breaks, continues, returns, statement_by}
 use Rattle.lang_tree.specs.Tree.{Statement, Statements, set, havoc, assume, only_where, check, branch, loop, jump, label, nil, cons}
-use Rattle.lang_tree.specs.Meaning.{State, value, MayBe}
+use Rattle.lang_tree.specs.Meaning.{State, put, value, MayBe}
 use Rattle.lang_tree.specs.PointNumbers.{splits, points_of, points_in, join_of, exit_of}
 
 -- a node: a statement with the number of the first point that it makes; the mark of a point;
--- the turn of a loop that tests its condition before its body; or the end of a loop's body
+-- the turn of a loop, at which its condition is tested; or the end of a loop's body
 pub data Item : Type 0 where
   node : Statement → ℕ → Item
   mark : ℕ → Item
@@ -34,25 +32,32 @@ branch_work truth first second n rest = (if truth then nodes first n else nodes 
 abbrev pub body_work : LoopKind → Condition → Statements → (line n : ℕ) → List Item → List Item
 body_work kind c body line n rest = nodes body (n + 1) ++ (end kind c body line n ∷ rest)
 
--- behind its head a `while` and a `for` test their condition, a `do` goes into its body
+-- deeds one after another, which make no points
+abbrev pub deeds_work : List Deed → List Item → List Item
+deeds_work [] rest = rest
+deeds_work (d ∷ ds) rest = node (statement_by d) 0 ∷ deeds_work ds rest
+
+-- behind its head a `while` and a `for` do their prelude and test their condition, a `do` goes into its body
 abbrev pub head_work : LoopKind → Condition → Statements → (line n : ℕ) → List Item → List Item
-head_work while_loop c body line n rest = turn while_loop c body line n ∷ rest
-head_work (for_loop g) c body line n rest = turn (for_loop g) c body line n ∷ rest
-head_work do_loop c body line n rest = body_work do_loop c body line n rest
+head_work (while_loop p) c body line n rest = deeds_work p (turn (while_loop p) c body line n ∷ rest)
+head_work (for_loop p g) c body line n rest = deeds_work p (turn (for_loop p g) c body line n ∷ rest)
+head_work (do_loop p) c body line n rest = body_work (do_loop p) c body line n rest
 
--- a turn goes into the body where the condition may be true, and past the loop where it may be false
+-- where the condition of a loop may be true, a `while` and a `for` go into the body, a `do` goes to its head again
+abbrev pub again_work : LoopKind → Condition → Statements → (line n : ℕ) → List Item → List Item
+again_work (while_loop p) c body line n rest = body_work (while_loop p) c body line n rest
+again_work (for_loop p g) c body line n rest = body_work (for_loop p g) c body line n rest
+again_work (do_loop p) c body line n rest = node (loop (do_loop p) c body line) n ∷ rest
+
+-- and where it may be false, all go past the loop
 abbrev pub turn_work : Bool → LoopKind → Condition → Statements → (line n : ℕ) → List Item → List Item
-turn_work truth kind c body line n rest = if truth then body_work kind c body line n rest else rest
+turn_work truth kind c body line n rest = if truth then again_work kind c body line n rest else rest
 
--- the statement that a change is comes first; it makes no point
-abbrev pub change_work : Change → List Item → List Item
-change_work change.Unchanged rest = rest
-change_work (change.Set var form line) rest = node (set var form line) 0 ∷ rest
-change_work (change.Havoc var line) rest = node (havoc var line) 0 ∷ rest
-
--- the end of a `do` goes to its head where the condition may be true, and past the loop where it may be false
-abbrev pub repeat_work : Bool → Condition → Statements → (line n : ℕ) → List Item → List Item
-repeat_work truth c body line n rest = if truth then node (loop do_loop c body line) n ∷ rest else rest
+-- behind its body a `while` goes to its head, a `for` makes its change before that, a `do` does its prelude and tests its condition
+abbrev pub end_work : LoopKind → Condition → Statements → (line n : ℕ) → List Item → List Item
+end_work (while_loop p) c body line n rest = node (loop (while_loop p) c body line) n ∷ rest
+end_work (for_loop p g) c body line n rest = deeds_work g (node (loop (for_loop p g) c body line) n ∷ rest)
+end_work (do_loop p) c body line n rest = deeds_work p (turn (do_loop p) c body line n ∷ rest)
 
 -- the work past the innermost loop: all up to the first end of a loop is dropped, and this end
 abbrev pub past_loop : List Item → List Item
@@ -70,46 +75,59 @@ end_of_body (mark p ∷ rest) = end_of_body rest
 end_of_body (turn kind c body line n ∷ rest) = end_of_body rest
 end_of_body (end kind c body line n ∷ rest) = end kind c body line n ∷ rest
 
--- one step with the first item, behind which `rest` is left, in a state: the work and the state after it
-abbrev pub Does : Item → (rest : List Item) → State → List Item → State → Type 0
-Does (mark p) rest x work y = (work ≡ rest) × (y ≡ x)
-Does (node (set var form line) n) rest x work y = (work ≡ rest) × (y ≡ slice_set x var (value form x))
-Does (node (havoc var line) n) rest x work y = (z : ℤ) × (work ≡ rest) × (y ≡ slice_set x var z)
-Does (node (assume c line) n) rest x work y = MayBe true c x × (work ≡ (if splits c then mark n ∷ rest else rest)) × (y ≡ x)
-Does (node (only_where c line) n) rest x work y = MayBe true c x × (work ≡ rest) × (y ≡ x)
-Does (node (check about c line) n) rest x work y = (work ≡ rest) × (y ≡ x)
-Does (node (branch c first second line) n) rest x work y = (truth : Bool) × MayBe truth c x × (work ≡ branch_work truth first second n rest)
+-- one step with the first item, behind which `rest` is left, in a state: the work and the state after it; a `return` leaves the mark of
+-- the exit alone
+abbrev pub Does : (exit : ℕ) → Item → (rest : List Item) → State → List Item → State → Type 0
+Does exit (mark p) rest x work y = (work ≡ rest) × (y ≡ x)
+Does exit (node (set var form line) n) rest x work y = (work ≡ rest) × (y ≡ put (pos 0) x var (value form x))
+Does exit (node (havoc var line) n) rest x work y = (z : ℤ) × (work ≡ rest) × (y ≡ put (pos 0) x var z)
+Does exit (node (assume c line) n) rest x work y = MayBe true c x × (work ≡ (if splits c then mark n ∷ rest else rest)) × (y ≡ x)
+Does exit (node (only_where c line) n) rest x work y = MayBe true c x × (work ≡ rest) × (y ≡ x)
+Does exit (node (check about c line) n) rest x work y = (work ≡ rest) × (y ≡ x)
+Does exit (node (branch c first second line) n) rest x work y = (truth : Bool) × MayBe truth c x × (work
+    ≡ branch_work truth first second n rest)
     × (y ≡ x)
-Does (node (loop kind c body line) n) rest x work y = (work ≡ mark n ∷ head_work kind c body line n rest) × (y ≡ x)
-Does (node (jump breaks line) n) rest x work y = (work ≡ past_loop rest) × (y ≡ x)
-Does (node (jump continues line) n) rest x work y = (work ≡ end_of_body rest) × (y ≡ x)
-Does (node (label name line) n) rest x work y = (work ≡ mark n ∷ rest) × (y ≡ x)
-Does (turn kind c body line n) rest x work y = (truth : Bool) × MayBe truth c x × (work ≡ turn_work truth kind c body line n rest) × (y ≡ x)
-Does (end while_loop c body line n) rest x work y = (work ≡ node (loop while_loop c body line) n ∷ rest) × (y ≡ x)
-Does (end (for_loop g) c body line n) rest x work y = (work ≡ change_work g (node (loop (for_loop g) c body line) n ∷ rest)) × (y ≡ x)
-Does (end do_loop c body line n) rest x work y = (truth : Bool) × MayBe truth c x × (work ≡ repeat_work truth c body line n rest) × (y ≡ x)
+Does exit (node (loop kind c body line) n) rest x work y = (work ≡ mark n ∷ head_work kind c body line n rest) × (y ≡ x)
+Does exit (node (jump breaks line) n) rest x work y = (work ≡ past_loop rest) × (y ≡ x)
+Does exit (node (jump continues line) n) rest x work y = (work ≡ end_of_body rest) × (y ≡ x)
+Does exit (node (jump returns line) n) rest x work y = (work ≡ mark exit ∷ []) × (y ≡ x)
+Does exit (node (label name line) n) rest x work y = (work ≡ mark n ∷ rest) × (y ≡ x)
+Does exit (turn kind c body line n) rest x work y = (truth : Bool) × MayBe truth c x × (work
+    ≡ turn_work truth kind c body line n rest) × (y ≡ x)
+Does exit (end kind c body line n) rest x work y = (work ≡ end_work kind c body line n rest) × (y ≡ x)
 
 -- the work that is left, and a state
 pub record Configuration : Type 0 where
   pub work : List Item
   pub state : State
 
--- a step does the first item
-pub record Step (before after : Configuration) : Type 0 where
+-- the state of n variables that is left before this work: at a mark the hidden ones have no values any more
+abbrev pub left_at : ℕ → List Item → State → State
+left_at n [] x = x
+left_at n (mark p ∷ rest) x = take n x
+left_at n (node s m ∷ rest) x = x
+left_at n (turn kind c body line m ∷ rest) x = x
+left_at n (end kind c body line m ∷ rest) x = x
+
+-- a step does the first item, over n variables and the hidden ones, in a program with this exit
+pub record Step (n exit : ℕ) (before after : Configuration) : Type 0 where
   pub item : Item
   pub rest : List Item
   pub first : before.work ≡ item ∷ rest
-  pub does : Does item rest before.state after.work after.state
+  -- the state before hidden values are forgotten
+  pub reached : State
+  pub does : Does exit item rest before.state after.work reached
+  pub left : after.state ≡ left_at n after.work reached
 
 -- each configuration is a step from the one before it
-abbrev pub Follows : Configuration → List Configuration → Type 0
-Follows c [] = Unit {0}
-Follows c (d ∷ ds) = Step c d × Follows d ds
+abbrev pub Follows : (n exit : ℕ) → Configuration → List Configuration → Type 0
+Follows n exit c [] = Unit {0}
+Follows n exit c (d ∷ ds) = Step n exit c d × Follows n exit d ds
 
 -- a run of a program: a list of configurations, the first of which is the start work with any state of so many variables
 abbrev pub IsRun : ℕ → Statements → List Configuration → Type 0
 IsRun variables body [] = ⊥
-IsRun variables body (c ∷ cs) = (c.work ≡ start_work body) × (length c.state ≡ variables) × Follows c cs
+IsRun variables body (c ∷ cs) = (c.work ≡ start_work body) × (length c.state ≡ variables) × Follows variables (exit_of body) c cs
 
 -- a configuration is at a point where the point's mark is the first item
 abbrev pub IsAt : Configuration → ℕ → Type 0

@@ -1,5 +1,5 @@
 -- Conditions and statements as plain trees: what a program's text reads as.
-use Rattle.std.specs.Prelude.{ℕ, ◌+◌, List}
+use Rattle.std.specs.Prelude.{ℕ, ◌+◌, List, [], ◌∷◌, length}
 use Rattle.lang_tree.specs.declared.form.Form.{Form}
 use Rattle.lang_tree.specs.declared.cond.Rel.{Rel}
 use Rattle.lang_tree.specs.declared.change.Change.{Change}
@@ -14,16 +14,26 @@ pub data Condition : Type 0 where
   both : Condition → Condition → Condition
   either : Condition → Condition → Condition
 
--- where a loop tests its condition: before its body; before it, with a change after each turn; after its body
-pub data LoopKind : Type 0 where
-  while_loop : LoopKind
-  for_loop : Change → LoopKind
-  do_loop : LoopKind
+-- what is done in one place and goes on to the next: a variable takes a form's value, or any; a condition under which alone it goes on; a
+-- check
+pub data Deed : Type 0 where
+  sets : (var : ℕ) (form : Form) (line : ℕ) → Deed
+  havocs : (var line : ℕ) → Deed
+  wheres : (cond : Condition) (line : ℕ) → Deed
+  checks : Check → (cond : Condition) (line : ℕ) → Deed
 
--- where a jump goes on: past the innermost loop that holds it, or at the end of that loop's body
+-- where a loop tests its condition: before its body; before it, with changes after each turn; after its body. The prelude is done each time
+-- before the condition is tested
+pub data LoopKind : Type 0 where
+  while_loop : (prelude : List Deed) → LoopKind
+  for_loop : (prelude change : List Deed) → LoopKind
+  do_loop : (prelude : List Deed) → LoopKind
+
+-- where a jump goes on: past the innermost loop that holds it, at the end of that loop's body, or at the program's exit
 pub data Jump : Type 0 where
   breaks : Jump
   continues : Jump
+  returns : Jump
 
 mutual
   -- a statement with its line
@@ -57,11 +67,17 @@ change_count change.Unchanged = 0
 change_count (change.Set var form line) = 1
 change_count (change.Havoc var line) = 1
 
+-- a change as deeds
+abbrev pub change_deeds : Change → List Deed
+change_deeds change.Unchanged = []
+change_deeds (change.Set var form line) = sets var form line ∷ []
+change_deeds (change.Havoc var line) = havocs var line ∷ []
+
 -- the statements of a loop besides itself and its body
 abbrev pub kind_count : LoopKind → ℕ
-kind_count while_loop = 0
-kind_count (for_loop c) = change_count c
-kind_count do_loop = 0
+kind_count (while_loop prelude) = length prelude
+kind_count (for_loop prelude change) = length prelude + length change
+kind_count (do_loop prelude) = length prelude
 
 abbrev mutual
   -- the number of statements in a statement, itself included
@@ -80,3 +96,10 @@ abbrev mutual
   pub nodes_in : Statements → ℕ
   nodes_in nil = 0
   nodes_in (cons s rest) = node_count s + nodes_in rest
+
+-- a deed is a statement, too
+abbrev pub statement_by : Deed → Statement
+statement_by (sets var form line) = set var form line
+statement_by (havocs var line) = havoc var line
+statement_by (wheres cond line) = only_where cond line
+statement_by (checks about cond line) = check about cond line

@@ -2,7 +2,7 @@
 
 ghost use Rattle.std.specs.Prelude.{◌≡◌, ◌<◌, ◌^◌, IfOk};
 ghost use Rattle.lang_tree.specs.Tree.{leaf_count};
-ghost use Rattle.lang_tree.specs.View.{condition_of};
+ghost use Rattle.lang_tree.specs.DeedView.{condition_of};
 
 use crate::form::Form;
 use std::alloc::{AllocError, Global};

@@ -1,12 +1,12 @@
 //! Statements.
 
 ghost use Rattle.std.specs.Prelude.{◌≡◌, ◌<◌, ◌^◌};
-ghost use Rattle.lang_tree.specs.Tree.{change_count, node_count, nodes_in};
+ghost use Rattle.lang_tree.specs.Tree.{node_count, nodes_in};
 ghost use Rattle.lang_tree.specs.View.{statement_of, statements_of};
 
-use crate::change::Change;
 use crate::check::Check;
 use crate::cond::Cond;
+use crate::deed::Deeds;
 use crate::form::Form;
 use crate::name::Name;
 use std::marker::Model;
@@ -49,22 +49,27 @@ pub enum Stmt {
         second: Block,
         line: u32,
     },
-    /// `body` again and again, as long as the condition may be true; past it where it may be false.
+    /// `body` again and again, as long as the condition may be true; past it where it may be false. The prelude is done each time before
+    /// the condition is tested.
     While {
+        prelude: Deeds,
         cond: Cond,
         body: Block,
         line: u32,
     },
-    /// `body`, and after it again and again, as long as the condition may be true; past it where it may be false.
+    /// `body`, and after it again and again, as long as the condition may be true; past it where it may be false. The prelude is done
+    /// each time before the condition is tested, also where a `Continue` ends the turn.
     Do {
+        prelude: Deeds,
         cond: Cond,
         body: Block,
         line: u32,
     },
     /// As `While`, with the change after each turn of `body`, also after one that a `Continue` ends.
     For {
+        prelude: Deeds,
         cond: Cond,
-        change: Change,
+        change: Deeds,
         body: Block,
         line: u32,
     },
@@ -74,6 +79,10 @@ pub enum Stmt {
     },
     /// Goes on at the end of the body of the innermost loop that holds it.
     Continue {
+        line: u32,
+    },
+    /// Goes on at the program's exit.
+    Return {
         line: u32,
     },
     /// Names this place.
@@ -146,17 +155,15 @@ fn nodes(stmt: &Stmt) -> u32
 {
     match stmt {
         Stmt::If { first, second, .. } => 1 + nodes_in(first) + nodes_in(second),
-        Stmt::While { body, .. } | Stmt::Do { body, .. } => 1 + nodes_in(body),
-        Stmt::For { change, body, .. } => 1 + change_count(change) + nodes_in(body),
+        Stmt::While { prelude, body, .. } | Stmt::Do { prelude, body, .. } => {
+            1 + prelude.count() + nodes_in(body)
+        }
+        Stmt::For {
+            prelude,
+            change,
+            body,
+            ..
+        } => 1 + (prelude.count() + change.count()) + nodes_in(body),
         _ => 1,
-    }
-}
-
-fn change_count(change: &Change) -> u32
-    ensures { result ≡ change_count change.now }
-{
-    match change {
-        Change::Unchanged => 0,
-        Change::Set { .. } | Change::Havoc { .. } => 1,
     }
 }

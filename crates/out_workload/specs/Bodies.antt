@@ -21,7 +21,7 @@ abbrev pub loops_body : ℕ → List Loop → Statements
 loops_body line [] = nil
 loops_body line (l ∷ ls) =
     cons (set l.variable (constant_form 3 (pos 0)) line)
-    (cons (loop while_loop (compare Lt (variable_form 3 l.variable (neg_ℤ (pos l.bound)))) (turn_of (line + 2) l) (line + 1))
+    (cons (loop (while_loop []) (compare Lt (variable_form 3 l.variable (neg_ℤ (pos l.bound)))) (turn_of (line + 2) l) (line + 1))
     (loops_body (line + 5) ls))
 
 -- all variables are 0 on line 2, and the loops begin on line 3

@@ -3,5 +3,4 @@ pub mod composed
 pub mod Places
 pub mod Ranges
 pub mod operations
-pub mod Alls
 pub mod behind

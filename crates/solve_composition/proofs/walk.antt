@@ -1,2 +1,4 @@
 pub mod States
 pub mod Frees
+pub mod Numbers
+pub mod Pushed

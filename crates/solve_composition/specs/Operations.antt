@@ -1,6 +1,6 @@
 -- The operations by which edges are composed: edges by number; in an edge its actions in order, and then the template's rows; in a form its
 -- columns in order, and then the constant.
-use Rattle.std.specs.Prelude.{ℕ, suc, ℤ, List, [], ◌∷◌, ◌++◌, map, flat_map, get_or, slice_set, Option, Some, None}
+use Rattle.std.specs.Prelude.{ℕ, suc, ℤ, List, [], ◌∷◌, ◌++◌, map, flat_map, get_or, Option, Some, None}
 use Rattle.std.specs.List.{range_with_len}
 use Rattle.base_numbers.specs.Rational.{ℚ, zero_ℚ}
 use Rattle.lang_tree.specs.declared.form.Form.{Form as ProgramForm}
@@ -11,7 +11,7 @@ use Rattle.base_fractions.specs.Fits.{long_limit}
 use Rattle.base_fractions.specs.Operation.{Operation, first_wide}
 use Rattle.flow_systems.specs.Equations.{Equations}
 use Rattle.flow_systems.specs.Sums.{row_operations, form_operations}
-use Rattle.theory_validity.specs.Words.{Affine as Form, width, column, columns, composed}
+use Rattle.theory_validity.specs.Words.{Affine as Form, width, column, columns, with_form, composed}
 
 -- the coefficients that the forms of a state have at a column
 abbrev pub column_values : ℕ → List Form → List ℚ
@@ -43,8 +43,8 @@ action_composition w state (Check about) = []
 -- the state of forms after an action, where column k is the next free one
 abbrev pub next_state : ℕ → List Form → Action → List Form
 next_state k state (Guard form) = state
-next_state k state (Assign var form) = slice_set state var (composed form state)
-next_state k state (Havoc var) = slice_set state var (column k)
+next_state k state (Assign var form) = with_form state var (composed form state)
+next_state k state (Havoc var) = with_form state var (column k)
 next_state k state (Check about) = state
 
 -- the next free column after an action

@@ -1,6 +1,7 @@
 -- What composing actions one after the other answers.
-use Rattle.std.specs.Prelude.{◌≡◌, ◌==◌, ◌++◌, ℕ, ℤ, Bool, List, [], ◌∷◌, map, flat_map, length, None, Result, MatchResult, IsTrue}
+use Rattle.std.specs.Prelude.{◌≡◌, ◌==◌, ◌++◌, ℕ, ℤ, Bool, true, List, [], ◌∷◌, map, flat_map, length, None, Result, MatchResult, IsTrue}
 use Rattle.std.specs.List.{list_all}
+use Rattle.lang_tree.specs.Limits.{has_numbers}
 use Rattle.flow_edges.specs.declared.edge.Action.{Action}
 use Rattle.flow_edges.specs.declared.edge.Action.TheVariants.{Guard, Assign, Havoc, Check}
 use Rattle.base_fractions.specs.Fits.{long_limit}
@@ -21,6 +22,13 @@ has_width w f = length f.coeffs == w
 
 abbrev pub IsState : ℕ → List Affine → Type 0
 IsState w state = IsTrue (list_all (has_width w) state)
+
+-- the form of an action has numbers of a program
+abbrev pub acts_by_numbers : Action → Bool
+acts_by_numbers (Guard form) = has_numbers form
+acts_by_numbers (Assign var form) = has_numbers form
+acts_by_numbers (Havoc var) = true
+acts_by_numbers (Check about) = true
 
 -- the guard of an action
 abbrev pub action_guards : List Form → Action → List Form

@@ -1,15 +1,14 @@
 //! The composed forms of one edge.
 
-ghost use Rattle.std.specs.Prelude.{◌≡◌, ◌≤◌, List, IsTrue, length, map, flat_map};
+ghost use Rattle.std.specs.Prelude.{◌≡◌, ◌≤◌, ◌+◌, List, IsTrue, length, map, flat_map};
 ghost use Rattle.std.specs.List.{list_all};
 ghost use Rattle.flow_edges.specs.FlowLimits.{is_action};
-ghost use Rattle.flow_systems.specs.SystemLimits.{is_over};
 ghost use Rattle.theory_validity.specs.Words.{Affine as Formal, combined};
 ghost use Rattle.solve_composition.specs.Composed.{dense, edge_forms};
 ghost use Rattle.solve_composition.specs.Operations.{row_composition, edge_composition};
 ghost use Rattle.solve_composition.specs.Faults.{Composes};
 ghost use Rattle.solve_composition.specs.Walks.{IsState};
-ghost use Rattle.lang_tree.specs.declared.limits.TheConstants.{MOST_VARIABLES};
+ghost use Rattle.lang_tree.specs.declared.limits.TheConstants.{MOST_VARIABLES, MOST_HIDDEN};
 
 use crate::affine::{Affine, Affines};
 use crate::fault::FormFault;
@@ -27,7 +26,6 @@ fn compose_rows(
     state: &[Affine],
     width: usize,
 ) -> Result<Affines, FormFault>
-    requires template { IsTrue (is_over (length state.now) template.now) }
     requires state { IsState width state.now }
     ensures { (forms : List Formal) → state.now ≡ map (dense width) forms →
         Composes (map (λ row. dense width (combined row forms)) template.now) (flat_map (row_composition width forms) template.now) result }
@@ -48,15 +46,14 @@ pub fn compose_edge(
 ) -> Result<Path, FormFault>
     requires few { length actions.now ≤ 256 }
     requires variables { variables ≤ MOST_VARIABLES }
-    requires actions { IsTrue (list_all (is_action variables) actions.now) }
-    requires template { IsTrue (is_over variables template.now) }
+    requires actions { IsTrue (list_all (is_action (variables + MOST_HIDDEN)) actions.now) }
     ensures { Composes (edge_forms variables template.now actions.now) (edge_composition variables template.now actions.now) result }
 {
     let frees = count_frees(actions);
     let width = variables + frees as usize;
     let mut state = start_state(alloc, variables, width)?;
     let guards = walk(alloc, actions, &mut state, width)?;
-    let rows = compose_rows(alloc, template, &state, width)?;
+    let rows = compose_rows(alloc, template, state.as_slice(), width)?;
     Ok(Path {
         frees,
         guards,

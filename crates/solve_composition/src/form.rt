@@ -3,8 +3,8 @@
 ghost use Rattle.std.specs.Prelude.{◌≡◌, ◌<◌, List, IfOk, IsTrue, length, map, get_or};
 ghost use Rattle.base_numbers.specs.Rational.{zero_ℚ};
 ghost use Rattle.lang_tree.specs.Numbers.{are_numbers};
-ghost use Rattle.lang_tree.specs.Limits.{is_form};
-ghost use Rattle.theory_validity.specs.Words.{Affine as Formal, column, combined, composed};
+ghost use Rattle.lang_tree.specs.Limits.{has_numbers};
+ghost use Rattle.theory_validity.specs.Words.{Affine as Formal, no_form, column, combined, composed};
 ghost use Rattle.solve_composition.specs.Composed.{dense};
 ghost use Rattle.solve_composition.specs.Operations.{row_composition, form_composition};
 ghost use Rattle.solve_composition.specs.Faults.{Composes};
@@ -44,6 +44,20 @@ pub fn compose_column(alloc: Global, place: usize, width: usize) -> Result<Affin
     })
 }
 
+// The form of `width` columns whose value is 0.
+pub fn compose_nothing(alloc: Global, width: usize) -> Result<Affine, AllocError>
+    ensures { IfOk result (λ f. f ≡ dense width no_form) }
+{
+    let mut list = Vec::with_capacity(alloc, width)?;
+    for _at in 0..width {
+        list.push(Frac::zero())?;
+    }
+    Ok(Affine {
+        coeffs: Fracs::new(list),
+        constant: Frac::zero(),
+    })
+}
+
 // A row over a state of forms.
 pub fn compose_row(
     alloc: Global,
@@ -52,7 +66,6 @@ pub fn compose_row(
     width: usize,
 ) -> Result<Affine, FormFault>
     requires numbers { IsTrue (are_numbers row.now) }
-    requires size { length row.now ≡ length state.now }
     requires state { IsState width state.now }
     ensures { (forms : List Formal) → state.now ≡ map (dense width) forms →
         Composes (dense width (combined row.now forms)) (row_composition width forms row.now) result }
@@ -75,7 +88,7 @@ pub fn compose_form(
     state: &[Affine],
     width: usize,
 ) -> Result<Affine, FormFault>
-    requires form { IsTrue (is_form (length state.now) form.now) }
+    requires form { IsTrue (has_numbers form.now) }
     requires state { IsState width state.now }
     ensures { (forms : List Formal) → state.now ≡ map (dense width) forms →
         Composes (dense width (composed form.now forms)) (form_composition width forms form.now) result }

@@ -1,9 +1,9 @@
 //! The composed forms at a place inside an edge.
 
-ghost use Rattle.std.specs.Prelude.{◌≡◌, ◌≤◌, ◌++◌, List, IsTrue, length, map, flat_map};
+ghost use Rattle.std.specs.Prelude.{◌≡◌, ◌≤◌, ◌+◌, ◌++◌, List, IsTrue, length, map, flat_map};
 ghost use Rattle.std.specs.List.{list_all};
 ghost use Rattle.flow_edges.specs.FlowLimits.{is_action};
-ghost use Rattle.lang_tree.specs.Limits.{is_form};
+ghost use Rattle.lang_tree.specs.Limits.{is_form, has_numbers};
 ghost use Rattle.theory_validity.specs.Words.{Affine as Formal, composed};
 ghost use Rattle.solve_composition.specs.Composed.{dense};
 ghost use Rattle.solve_composition.specs.Operations.{form_composition};
@@ -11,7 +11,7 @@ ghost use Rattle.solve_composition.specs.Behind.{placed_forms, placed_compositio
 ghost use Rattle.flow_systems.specs.Faults.{AnswersBy};
 ghost use Rattle.solve_composition.specs.Faults.{Composes};
 ghost use Rattle.solve_composition.specs.Walks.{IsState};
-ghost use Rattle.lang_tree.specs.declared.limits.TheConstants.{MOST_VARIABLES};
+ghost use Rattle.lang_tree.specs.declared.limits.TheConstants.{MOST_VARIABLES, MOST_HIDDEN};
 
 use crate::affine::{Affine, Affines};
 use crate::fault::FormFault;
@@ -22,7 +22,7 @@ use lang_tree::Form;
 use std::alloc::Global;
 
 /// The composed forms at a place: the number of free values before it, the guards of the actions before it and then those that
-/// are tested there, and the variables there.
+/// are tested there, and the variables there, hidden ones up to the last that has been given a value.
 #[derive(Drop)]
 pub struct PlacedForms {
     pub frees: u32,
@@ -38,7 +38,7 @@ fn add_guards(
     width: usize,
     list: &mut Vec<Affine>,
 ) -> Result<(), FormFault>
-    requires guards { IsTrue (list_all (is_form (length state.now)) guards.now) }
+    requires guards { IsTrue (list_all has_numbers guards.now) }
     requires state { IsState width state.now }
     ensures { (forms : List Formal) → state.now ≡ map (dense width) forms →
         AnswersBy (λ _. list.new.items ≡ list.old.items ++ map (λ guard. dense width (composed guard forms)) guards.now)
@@ -50,8 +50,8 @@ fn add_guards(
     Ok(())
 }
 
-/// The composed forms at a place behind actions, over so many variables, where guards are tested. Actions and guards are composed
-/// in order, as along an edge.
+/// The composed forms at a place behind actions, over so many variables and hidden ones behind them, where guards are tested. Actions
+/// and guards are composed in order, as along an edge.
 ///
 /// # Errors
 ///
@@ -64,8 +64,8 @@ pub fn compose_placed(
 ) -> Result<PlacedForms, FormFault>
     requires few { length before.now ≤ 256 }
     requires variables { variables ≤ MOST_VARIABLES }
-    requires before { IsTrue (list_all (is_action variables) before.now) }
-    requires guards { IsTrue (list_all (is_form variables) guards.now) }
+    requires before { IsTrue (list_all (is_action (variables + MOST_HIDDEN)) before.now) }
+    requires guards { IsTrue (list_all (is_form (variables + MOST_HIDDEN)) guards.now) }
     ensures { Composes (placed_forms variables before.now guards.now) (placed_composition variables before.now guards.now) result }
 {
     let frees = count_frees(before);
@@ -73,7 +73,7 @@ pub fn compose_placed(
     let mut state = start_state(alloc, variables, width)?;
     let walked = walk(alloc, before, &mut state, width)?;
     let mut list = walked.into_list();
-    add_guards(alloc, guards, &state, width, &mut list)?;
+    add_guards(alloc, guards, state.as_slice(), width, &mut list)?;
     Ok(PlacedForms {
         frees,
         guards: Affines::new(list),

@@ -32,27 +32,25 @@ fn add_product(sum: Frac, coeff: i64, value: Frac) -> Result<Frac, Wide<Frac>>
 // The sum of the coefficients times those that the forms have at a column.
 pub fn column_sum(coeffs: &[i64], state: &[Affine], column: usize) -> Result<Frac, Wide<Frac>>
     requires numbers { IsTrue (are_numbers coeffs.now) }
-    requires size { length coeffs.now ≡ length state.now }
     requires column { IsTrue (list_all (λ f. nat_lt column (length f.coeffs)) state.now) }
     ensures { FittingSum (dotℚ coeffs.now (dense_column column state.now)) (row_operations coeffs.now (dense_column column state.now))
         result }
 {
     let mut sum = Frac::zero();
-    for (i, coeff) in coeffs.iter().enumerate() {
-        sum = add_product(sum, *coeff, state[i].coeffs.as_slice()[column])?;
+    for i in 0..coeffs.len().min(state.len()) {
+        sum = add_product(sum, coeffs[i], state[i].coeffs.as_slice()[column])?;
     }
     Ok(sum)
 }
 
 // The sum of the coefficients times the forms' constants.
 pub fn constant_sum(coeffs: &[i64], state: &[Affine]) -> Result<Frac, Wide<Frac>>
-    requires numbers { IsTrue (are_numbers coeffs.now) }
-    requires size { length coeffs.now ≡ length state.now }
+    requires { IsTrue (are_numbers coeffs.now) }
     ensures { FittingSum (dotℚ coeffs.now (dense_constants state.now)) (row_operations coeffs.now (dense_constants state.now)) result }
 {
     let mut sum = Frac::zero();
-    for (i, coeff) in coeffs.iter().enumerate() {
-        sum = add_product(sum, *coeff, state[i].constant)?;
+    for i in 0..coeffs.len().min(state.len()) {
+        sum = add_product(sum, coeffs[i], state[i].constant)?;
     }
     Ok(sum)
 }

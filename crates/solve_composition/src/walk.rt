@@ -1,15 +1,15 @@
 //! The actions of an edge over a state of forms.
 
-ghost use Rattle.std.specs.Prelude.{◌≡◌, ◌≤◌, ◌+◌, List, [], ◌∷◌, IfOk, IsTrue, length, map};
+ghost use Rattle.std.specs.Prelude.{◌≡◌, ◌≤◌, ◌<◌, ◌+◌, ◌^◌, List, [], ◌∷◌, IfOk, OnOk, IsTrue, length, map};
 ghost use Rattle.std.specs.List.{list_all};
-ghost use Rattle.flow_edges.specs.FlowLimits.{is_action};
-ghost use Rattle.theory_validity.specs.Words.{Affine as Formal, columns, free_count};
+ghost use Rattle.lang_tree.specs.Meaning.{put};
+ghost use Rattle.theory_validity.specs.Words.{Affine as Formal, columns, free_count, no_form};
 ghost use Rattle.solve_composition.specs.Composed.{dense};
-ghost use Rattle.solve_composition.specs.Walks.{IsState, StepComposes, WalkComposes};
+ghost use Rattle.solve_composition.specs.Walks.{IsState, StepComposes, WalkComposes, acts_by_numbers};
 
 use crate::affine::{Affine, Affines};
 use crate::fault::FormFault;
-use crate::form::{compose_column, compose_form};
+use crate::form::{compose_column, compose_form, compose_nothing};
 use flow_edges::Action;
 use std::alloc::{AllocError, Global};
 
@@ -40,32 +40,52 @@ pub fn start_state(alloc: Global, variables: usize, width: usize) -> Result<Vec<
     Ok(state)
 }
 
+// Puts a form at a variable. Variables before it that the state lacks get the form 0.
+fn put(
+    alloc: Global,
+    state: &mut Vec<Affine>,
+    variable: usize,
+    form: Affine,
+    width: usize,
+) -> Result<(), AllocError>
+    requires { variable < 2 ^ 32 }
+    ensures { OnOk result (state.new.items ≡ put (dense width no_form) state.old.items variable form) }
+{
+    for _added in state.len()..variable + 1 {
+        state.push(compose_nothing(alloc, width)?)?;
+    }
+    state[variable] = form;
+    Ok(())
+}
+
 // Takes one action: the next free column after it. A guard is put behind the others.
 fn step(
     alloc: Global,
     action: &Action,
-    state: &mut [Affine],
+    state: &mut Vec<Affine>,
     guards: &mut Vec<Affine>,
     next: usize,
     width: usize,
 ) -> Result<usize, FormFault>
-    requires action { IsTrue (is_action (length state.old) action.now) }
+    requires action { IsTrue (acts_by_numbers action.now) }
     requires next { next + free_count (action.now ∷ []) ≤ width }
-    requires state { IsState width state.old }
-    ensures { (forms : List Formal) → state.old ≡ map (dense width) forms →
-        StepComposes width next forms action.now guards.old.items state.new guards.new.items result }
+    requires state { IsState width state.old.items }
+    ensures { (forms : List Formal) → state.old.items ≡ map (dense width) forms →
+        StepComposes width next forms action.now guards.old.items state.new.items guards.new.items result }
 {
     match action {
         Action::Guard(form) => {
-            guards.push(compose_form(alloc, form, state, width)?)?;
+            guards.push(compose_form(alloc, form, state.as_slice(), width)?)?;
             Ok(next)
         }
         Action::Assign { var, form } => {
-            state[*var as usize] = compose_form(alloc, form, state, width)?;
+            let value = compose_form(alloc, form, state.as_slice(), width)?;
+            put(alloc, state, *var as usize, value, width)?;
             Ok(next)
         }
         Action::Havoc { var } => {
-            state[*var as usize] = compose_column(alloc, next, width)?;
+            let value = compose_column(alloc, next, width)?;
+            put(alloc, state, *var as usize, value, width)?;
             Ok(next + 1)
         }
         Action::Check(_) => Ok(next),
@@ -76,14 +96,14 @@ fn step(
 pub fn walk(
     alloc: Global,
     actions: &[Action],
-    state: &mut [Affine],
+    state: &mut Vec<Affine>,
     width: usize,
 ) -> Result<Affines, FormFault>
-    requires actions { IsTrue (list_all (is_action (length state.old)) actions.now) }
-    requires width { width ≡ length state.old + free_count actions.now }
-    requires state { IsState width state.old }
-    ensures { (forms : List Formal) → state.old ≡ map (dense width) forms
-        → WalkComposes width (length state.old) forms actions.now state.new result }
+    requires actions { IsTrue (list_all acts_by_numbers actions.now) }
+    requires width { width ≡ length state.old.items + free_count actions.now }
+    requires state { IsState width state.old.items }
+    ensures { (forms : List Formal) → state.old.items ≡ map (dense width) forms
+        → WalkComposes width (length state.old.items) forms actions.now state.new.items result }
 {
     let mut guards = Vec::new(alloc);
     let mut next = state.len();

@@ -7,34 +7,34 @@ ghost use Rattle.flow_edges.specs.declared.edge.Edge.{Edge};
 ghost use Rattle.flow_systems.specs.FreeValues.{free_count};
 ghost use Rattle.flow_systems.specs.Sums.{SumAnswers};
 ghost use Rattle.flow_systems.specs.View.{equations_of};
+ghost use Rattle.flow_systems.specs.declared.values.TheConstants.{MOST_VALUES};
 ghost use Rattle.solve_raise.specs.Moves.{carried as value_of, carried_operations, trace_of};
 ghost use Rattle.solve_raise.specs.Carries.{StepAnswers, FollowAnswers};
 
-use base_fractions::{Frac, OrderedField, Wide};
+use base_fractions::{Frac, Wide};
 use flow_edges::Action;
-use flow_systems::{Constants, System, Trace, form_value, row_value};
-use lang_tree::MOST_VARIABLES;
+use flow_systems::{Constants, System, Trace, Values, form_value, row_value};
 
 // Takes one action: how many of the free values to come it took.
 fn step(
     action: &Action,
     constants: Constants,
-    state: &mut [Frac],
+    state: &mut Values,
     free: &[Frac],
 ) -> Result<usize, Wide<Frac>>
-    requires action { IsTrue (is_action (length state.old) action.now) }
+    requires action { IsTrue (is_action MOST_VALUES action.now) }
     requires free { free_count (action.now ∷ []) ≤ length free.now }
     ensures { StepAnswers constants action.now state.old free.now state.new result }
 {
     match action {
         Action::Guard(_) => Ok(0),
         Action::Assign { var, form } => {
-            let value = form_value(form, constants, state)?;
-            state[*var as usize] = value;
+            let value = form_value(form, constants, state.as_slice())?;
+            state.put(*var as usize, value);
             Ok(0)
         }
         Action::Havoc { var } => {
-            state[*var as usize] = free[0];
+            state.put(*var as usize, free[0]);
             Ok(1)
         }
         Action::Check(_) => Ok(0),
@@ -45,10 +45,10 @@ fn step(
 fn follow(
     actions: &[Action],
     constants: Constants,
-    state: &mut [Frac],
+    state: &mut Values,
     free: &[Frac],
 ) -> Result<(), Wide<Frac>>
-    requires actions { IsTrue (list_all (is_action (length state.old)) actions.now) }
+    requires actions { IsTrue (list_all (is_action MOST_VALUES) actions.now) }
     requires free { length free.now ≡ free_count actions.now }
     ensures { FollowAnswers constants actions.now state.old free.now state.new result }
 {
@@ -65,7 +65,7 @@ fn carried_from(
     edge: u32,
     row: u32,
     constants: Constants,
-    state: &mut [Frac],
+    state: &mut Values,
     free: &[Frac],
 ) -> Result<Frac, Wide<Frac>>
     requires edge { edge < length system.now.flow.edges }
@@ -84,7 +84,7 @@ fn carried_from(
         state,
         free,
     )?;
-    row_value(rows[row as usize].as_slice(), state)
+    row_value(rows[row as usize].as_slice(), state.as_slice())
 }
 
 /// The value of a row at the end of a trace along an edge, or with every constant taken as 0 the rate at which it rises along
@@ -111,9 +111,13 @@ pub fn carried(
     ensures { (e : Edge) (cs : List ℤ) → slice_get system.now.flow.edges edge ≡ Some e → slice_get system.now.template row ≡ Some cs →
         SumAnswers (value_of constants (equations_of system.now) e cs trace.now) (carried_operations constants e cs trace.now) result }
 {
-    let start = trace.start.as_slice();
-    let mut values = [Frac::zero(); MOST_VARIABLES];
-    let state = &mut values[..start.len()];
-    state.copy_from_slice(start);
-    carried_from(system, edge, row, constants, state, trace.free.as_slice())
+    let mut state = Values::new(trace.start.as_slice());
+    carried_from(
+        system,
+        edge,
+        row,
+        constants,
+        &mut state,
+        trace.free.as_slice(),
+    )
 }

@@ -24,6 +24,7 @@ ghost use Rattle.solve_transformer.specs.Places.{placed_edge, nothing, state_aft
 ghost use Rattle.solve_transformer.specs.Places.{forms_reading, products_reading, AnswersAt, IsPartFault, IsPlaced, IsPlaceFault};
 ghost use Rattle.solve_transformer.specs.Places.{NoneWideAt};
 ghost use Rattle.solve_transformer.specs.Values.{IsValue};
+ghost use Rattle.lang_tree.specs.declared.limits.TheConstants.{MOST_HIDDEN};
 
 use crate::build::lowest_lost;
 use crate::transform::solve_forms;
@@ -158,8 +159,8 @@ fn solve_placed(
     requires room { length system.now.template ≤ length source.now }
     requires few_before { length before.now ≤ 256 }
     requires few_guards { length guards.now ≤ 256 }
-    requires actions { IsTrue (list_all (is_action (length system.now.flow.names)) before.now) }
-    requires forms { IsTrue (list_all (is_form (length system.now.flow.names)) guards.now) }
+    requires actions { IsTrue (list_all (is_action (length system.now.flow.names + MOST_HIDDEN)) before.now) }
+    requires forms { IsTrue (list_all (is_form (length system.now.flow.names + MOST_HIDDEN)) guards.now) }
     ensures { (z : Vector) (point : _) → bounds_at source.now ≡ z point → lost (z point) system.now.template ≡ false →
         AnswersAt (equations_of system.now) z (placed_edge point before.now guards.now) result }
 {
@@ -191,8 +192,8 @@ pub fn placed_value(
     requires point { point < length system.now.flow.points }
     requires few_before { length before.now ≤ 256 }
     requires few_guards { length guards.now ≤ 256 }
-    requires actions { IsTrue (list_all (is_action (length system.now.flow.names)) before.now) }
-    requires forms { IsTrue (list_all (is_form (length system.now.flow.names)) guards.now) }
+    requires actions { IsTrue (list_all (is_action (length system.now.flow.names + MOST_HIDDEN)) before.now) }
+    requires forms { IsTrue (list_all (is_form (length system.now.flow.names + MOST_HIDDEN)) guards.now) }
     ensures value { IfOk result (λ answer. IsValue (equations_of system.now) (vector_at system.now bounds.now)
         (placed_edge point before.now guards.now) [] answer.value) }
     ensures evidence { IfOk result (λ answer. HasEvidence (equations_of system.now) (vector_at system.now bounds.now)

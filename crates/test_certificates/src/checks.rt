@@ -16,8 +16,8 @@ use solve_composition::compose_all;
 use std::alloc::{AllocError, Global};
 use std::test::Fail;
 
-// The name x.
-fn names(alloc: Global) -> Result<Names, Fail>
+/// The name x.
+pub(crate) fn names(alloc: Global) -> Result<Names, Fail>
     ensures { IfOk result (λ names. length names ≡ 1) }
 {
     let mut names = Vec::new(alloc);
@@ -81,8 +81,8 @@ fn system(alloc: Global) -> Result<System, Fail>
     Ok(System { flow, template })
 }
 
-// The rows x and -x.
-fn rows(alloc: Global) -> Result<Rows, AllocError>
+/// The rows x and -x.
+pub(crate) fn rows(alloc: Global) -> Result<Rows, AllocError>
     ensures { IfOk result (λ rows. rows ≡ intervals_of 1) }
 {
     let mut rows = Vec::new(alloc);

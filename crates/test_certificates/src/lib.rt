@@ -8,6 +8,8 @@ mod changes;
 #[cfg(test)]
 mod checks;
 #[cfg(test)]
+mod hidden;
+#[cfg(test)]
 mod reports;
 #[cfg(test)]
 mod systems;

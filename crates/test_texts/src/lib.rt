@@ -23,4 +23,6 @@ mod texts;
 #[cfg(test)]
 mod tokens;
 #[cfg(test)]
+mod trees;
+#[cfg(test)]
 mod words;

@@ -1,7 +1,7 @@
 //! What programs read as.
 
 use crate::texts::{Case, first_wrong, read};
-use lang_tree::{Change, CheckKind, Cond, Name, Program, Rel, Stmt, leaves, statements};
+use lang_tree::{CheckKind, Cond, Deed, Name, Program, Rel, Stmt, leaves, statements};
 use std::alloc::Global;
 
 // Whether it is `x - 3 * y + 1 < 0`.
@@ -84,6 +84,15 @@ fn is_always(cond: &Cond) -> bool {
     }
 }
 
+// Whether it is `i = i + 1` alone.
+fn is_next(change: &[Deed]) -> bool {
+    match change {
+        [Deed::Set { var: 1, form, .. }] => form.coeffs.as_slice() == [0, 1].as_slice()
+            && form.constant == 1,
+        _ => false,
+    }
+}
+
 // Whether it is what the text below has behind its first declaration.
 fn are_loops(body: &[Stmt]) -> bool {
     match body {
@@ -94,20 +103,21 @@ fn are_loops(body: &[Stmt]) -> bool {
                 ..
             },
             Stmt::For {
-                change: Change::Set { var: 1, form, .. },
+                change,
                 body,
                 line: 3,
                 ..
             },
             Stmt::For {
                 cond,
-                change: Change::Unchanged,
+                change: none,
                 body: last,
                 line: 5,
+                ..
             },
-        ] => form.coeffs.as_slice() == [0, 1].as_slice()
-            && form.constant == 1
+        ] => is_next(change.as_slice())
             && is_do(body.as_slice())
+            && none.as_slice().is_empty()
             && is_always(cond)
             && last.as_slice().is_empty(),
         _ => false,

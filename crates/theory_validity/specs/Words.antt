@@ -1,8 +1,9 @@
 -- Words of an edge: a start state and one value for each free assignment, and the forms that composing the actions gives over them.
-use Rattle.std.specs.Prelude.{ℕ, zero, suc, ◌+◌, ℤ, List, [], ◌∷◌, slice_set, map}
+use Rattle.std.specs.Prelude.{ℕ, zero, suc, ◌+◌, ℤ, List, [], ◌∷◌, map}
 use Rattle.base_numbers.specs.Rational.{ℚ, whole, zero_ℚ, one_ℚ, ◌+ℚ◌, ◌-ℚ◌, ◌*ℚ◌, ◌≤ℚ◌}
 use Rattle.base_numbers.specs.Vector.{dot, add_vec, scale_vec}
 use Rattle.lang_tree.specs.declared.form.Form.{Form}
+use Rattle.lang_tree.specs.Meaning.{put as put_at}
 use Rattle.flow_edges.specs.declared.edge.Action.{Action}
 use Rattle.flow_edges.specs.declared.edge.Action.TheVariants.{Guard, Assign, Havoc, Check}
 use Rattle.flow_systems.specs.States.{RationalState}
@@ -42,6 +43,14 @@ columns (suc n) = column 0 ∷ map shifted (columns n)
 unfoldable pub values : List Affine → Word → RationalState
 values fs w = map (λ f. val f w) fs
 
+-- the form whose value is 0
+abbrev pub no_form : Affine
+no_form = record { coeffs = []; constant = zero_ℚ }
+
+-- a state of forms with this one at a variable; variables before it that the state lacks get the form 0
+abbrev pub with_form : List Affine → ℕ → Affine → List Affine
+with_form fs var f = put_at no_form fs var f
+
 -- a row's or a form's value over a state of forms
 unfoldable pub combined : List ℤ → List Affine → Affine
 combined [] fs = record { coeffs = []; constant = zero_ℚ }
@@ -58,16 +67,16 @@ composed form fs = let r = combined form.coeffs fs in record r { constant = r.co
 unfoldable pub guards_from : ℕ → List Affine → List Action → List Affine
 guards_from k fs [] = []
 guards_from k fs (Guard form ∷ actions) = composed form fs ∷ guards_from k fs actions
-guards_from k fs (Assign var form ∷ actions) = guards_from k (slice_set fs var (composed form fs)) actions
-guards_from k fs (Havoc var ∷ actions) = guards_from (suc k) (slice_set fs var (column k)) actions
+guards_from k fs (Assign var form ∷ actions) = guards_from k (with_form fs var (composed form fs)) actions
+guards_from k fs (Havoc var ∷ actions) = guards_from (suc k) (with_form fs var (column k)) actions
 guards_from k fs (Check about ∷ actions) = guards_from k fs actions
 
 -- the state of forms at the end
 unfoldable pub ends_from : ℕ → List Affine → List Action → List Affine
 ends_from k fs [] = fs
 ends_from k fs (Guard form ∷ actions) = ends_from k fs actions
-ends_from k fs (Assign var form ∷ actions) = ends_from k (slice_set fs var (composed form fs)) actions
-ends_from k fs (Havoc var ∷ actions) = ends_from (suc k) (slice_set fs var (column k)) actions
+ends_from k fs (Assign var form ∷ actions) = ends_from k (with_form fs var (composed form fs)) actions
+ends_from k fs (Havoc var ∷ actions) = ends_from (suc k) (with_form fs var (column k)) actions
 ends_from k fs (Check about ∷ actions) = ends_from k fs actions
 
 -- how many free values a word has

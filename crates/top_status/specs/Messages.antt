@@ -186,6 +186,7 @@ flow_words (flow.Cases line) = counted program_refused (codes "cases at line ") 
 flow_words (flow.Points count) = counted_in program_refused [] count (codes " points\n")
 flow_words flow.Edges = plain program_refused (codes "edges")
 flow_words (flow.Actions edge) = counted program_refused (codes "actions of edge ") edge
+flow_words (flow.Checks count) = counted_in program_refused [] count (codes " checks\n")
 flow_words flow.NoMemory = words (codes "out of memory")
 
 abbrev pub row_words : RowFault → Words

@@ -5,12 +5,14 @@ ghost use Rattle.top_status.specs.Messages.{auto_words, claim_words, counted, co
 ghost use Rattle.top_status.specs.Messages.{limit_words};
 ghost use Rattle.top_status.specs.Messages.{line_text, message_of, parse_words, plain, read_words, row_words, text_words, words, words_of};
 ghost use Rattle.top_status.specs.Parts.{told};
+ghost use Rattle.top_status.specs.declared.limits.TheConstants.{MOST_MESSAGE_BYTES};
 ghost use Rattle.top_status.specs.declared.status.Status.TheVariants as StatusValue;
 
 mod check;
 pub(crate) mod event;
 pub(crate) mod place;
 
+use crate::limits::MOST_MESSAGE_BYTES;
 use crate::status::{Excess, Status, TextCause};
 use ask_claims::ClaimFault;
 use ask_files::{ReadCause, Which};
@@ -132,6 +134,7 @@ fn flow_parts(fault: FlowFault) -> Parts
         FlowFault::Points { count } => counted_in(PROGRAM, b"", count as u64, b" points\n"),
         FlowFault::Edges => plain_in(PROGRAM, b"edges"),
         FlowFault::Actions { edge } => counted(PROGRAM, b"actions of edge ", edge),
+        FlowFault::Checks { count } => counted_in(PROGRAM, b"", count as u64, b" checks\n"),
         FlowFault::NoMemory => plain(b"out of memory"),
     }
 }
@@ -257,21 +260,22 @@ fn make_parts(line: u32, status: &Status) -> Parts
     }
 }
 
-/// A message of at most 1024 bytes, which takes no memory.
+/// A message of at most `MOST_MESSAGE_BYTES` bytes, which takes no memory.
 #[derive(Drop)]
 pub struct Message {
-    bytes: [u8; 1024],
+    bytes: [u8; MOST_MESSAGE_BYTES],
     len: usize,
 }
 
 impl Model for Message {
     ghost use Rattle.std.specs.Prelude.{List, ℕ, ◌≤◌, take};
+    ghost use Rattle.top_status.specs.declared.limits.TheConstants.{MOST_MESSAGE_BYTES};
 
     ghost Value = { List ℕ };
 
     ghost view = { λ m. take m.len m.bytes };
 
-    ghost invariant = { λ m. m.len ≤ 1024 };
+    ghost invariant = { λ m. m.len ≤ MOST_MESSAGE_BYTES };
 }
 
 impl Message {
@@ -279,14 +283,14 @@ impl Message {
         ensures { result ≡ [] }
     {
         Message {
-            bytes: [0; 1024],
+            bytes: [0; MOST_MESSAGE_BYTES],
             len: 0,
         }
     }
 
     // Adds a piece at the end.
     pub(crate) fn append(&mut self, piece: &[u8])
-        requires { length self.old + length piece.now ≤ 1024 }
+        requires { length self.old + length piece.now ≤ MOST_MESSAGE_BYTES }
         ensures { self.new ≡ self.old ++ piece.now }
     {
         let end = self.len + piece.len();
@@ -296,7 +300,7 @@ impl Message {
 
     /// The message of these bytes.
     pub fn of(text: &[u8]) -> Message
-        requires { length text.now ≤ 1024 }
+        requires { length text.now ≤ MOST_MESSAGE_BYTES }
         ensures { result ≡ text.now }
     {
         let mut message = Message::new();
@@ -307,7 +311,7 @@ impl Message {
     /// The bytes of the message.
     pub fn bytes(&self) -> &[u8]
         ensures bytes { result.now ≡ self.now }
-        ensures short { length result.now ≤ 1024 }
+        ensures short { length result.now ≤ MOST_MESSAGE_BYTES }
     {
         &self.bytes[..self.len]
     }

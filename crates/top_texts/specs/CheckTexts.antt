@@ -82,7 +82,7 @@ pub record IsJudged (text : List ℕ) (rows : Domain (List ℕ)) (policy : Polic
   pub ends : ChecksEnd solved.body (equations_of_program (length solved.names) solved.body solved.template) vector ending
 
 -- the bytes are the verdicts of this vector on the checks of the program, which is in the file of this name, in a format, with the number
--- of improvements
+-- of improvements; of an open one's state they tell the values of the program's variables, and none of a hidden one
 pub record AreCheckVerdictsOf (m : Meanings) (file text : List ℕ) (rows : Domain (List ℕ)) (policy : Policy) (limit : ℕ) (format : Format)
     (ending : Status) (bytes : List ℕ) : Type 0 where
   pub judged : IsJudged text rows policy limit ending

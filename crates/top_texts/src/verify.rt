@@ -1,6 +1,6 @@
 //! The verdicts of a program's least bounds on its checks.
 
-ghost use Rattle.std.specs.Prelude.{◌≡◌, ◌≤◌, ℕ, List, IfOk, IfErr, IsTrue, length};
+ghost use Rattle.std.specs.Prelude.{◌+◌, ◌≡◌, ◌≤◌, ℕ, List, IfOk, IfErr, IsTrue, length};
 ghost use Rattle.std.specs.List.{list_all};
 ghost use Rattle.base_limits.specs.declared.limits.TheConstants.{MOST_IMPROVEMENTS, MOST_TEXT_BYTES};
 ghost use Rattle.flow_edges.specs.declared.checked.CheckCases.{CheckCases as CheckCasesValue};
@@ -14,6 +14,7 @@ ghost use Rattle.top_texts.specs.Exact.{exact};
 ghost use Rattle.top_texts.specs.Outcomes.{AreUnverified, IsRefusedBy, IsUnanswered};
 ghost use Rattle.top_texts.specs.Questions.{checks_question};
 ghost use Rattle.top_texts.specs.Short.{HasShortRows};
+ghost use Rattle.lang_tree.specs.declared.limits.TheConstants.{MOST_HIDDEN};
 
 use crate::analyse::rounds::solve;
 use crate::analyse::system::program_system;
@@ -92,7 +93,8 @@ fn verdicts_of(
     checks: &[CheckCases],
 ) -> Result<Vec<Verdict>, Refusal>
     requires bounds { IsVectorOf system.now bounds.now }
-    requires against { IsTrue (list_all (λ check. list_all (is_case (length system.now.flow.names)) check.against) checks.now) }
+    requires against { IsTrue (list_all (λ check. list_all (is_case (length system.now.flow.names + MOST_HIDDEN)) check.against)
+        checks.now) }
     ensures ok { IfOk result (λ list. AreCheckVerdicts (equations_of system.now) (vector_at system.now bounds.now) checks.now list.items) }
     ensures err { IfErr result (λ refusal. AreUnverified (equations_of system.now) (vector_at system.now bounds.now) checks.now refusal) }
 {

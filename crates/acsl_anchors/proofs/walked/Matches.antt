@@ -46,16 +46,18 @@ module _ (line : ℕ → ℕ) (width : ℕ) where
   for_matches : (a b : ℕ) (f : ForFirst) (t : ForTest) (l : ForLast) (body : Sub) (st : State) (o : State × Statements) (u : State × Change)
       (x : Condition) (q r : State × Statements) → Passes (scope_first f (scope_of st)) o.0 o.1 → scope_of o.0 ≡ scope_of u.0
       → Matches line (scope_sub body) (anchors_sub body) u.0 q.0 q.1 →
-      IsOk (Ok (closed (length st.known) q.0, followed_by o.1 (one (tree.loop (tree.for_loop u.1) x q.1 (line a))))) r
+      IsOk (Ok (closed (length st.known) q.0, followed_by o.1 (one (tree.loop (tree.for_loop [] (tree.change_deeds u.1)) x q.1 (line a)))))
+      r
       → Matches line (scope_core (repeat_for a b f t l body)) (anchors_core (repeat_for a b f t l body)) st r.0 r.1
   for_matches a b f t l body st o u x q r p e m g =
       matched (scope_core (repeat_for a b f t l body)) (anchors_core (repeat_for a b f t l body)) st _ r g (record {
         behind = sym (for_closed f body (scope_of st)) ∙ ap (kept (length st.known)) (ap (scope_sub body) (p.behind ∙ e) ∙ m.behind);
         points = λ s n.
-            let (k, i) = followed o.1 (one (tree.loop (tree.for_loop u.1) x q.1 (line a))) n in
+            let (k, i) = followed o.1 (one (tree.loop (tree.for_loop [] (tree.change_deeds u.1)) x q.1 (line a))) n in
             ap (λ (y : List Point). point_of line (loop_at a (scope_first f s)) ∷ y) (m.points (scope_first f s) (k + 1))
-            ∙ sym (loop_anchored (tree.for_loop u.1) x q.1 (line a) k)
-            ∙ ap (λ (y : List Point). y ++ anchored_in (one (tree.loop (tree.for_loop u.1) x q.1 (line a))) k) (none_anchored o.1 p.none n)
+            ∙ sym (loop_anchored (tree.for_loop [] (tree.change_deeds u.1)) x q.1 (line a) k)
+            ∙ ap (λ (y : List Point). y ++ anchored_in (one (tree.loop (tree.for_loop [] (tree.change_deeds u.1)) x q.1 (line a))) k)
+            (none_anchored o.1 p.none n)
             ∙ sym i;
       })
 
@@ -129,14 +131,14 @@ module _ (line : ℕ → ℕ) (width : ℕ) where
         let x = met (tested a v.value) _ r v.gave in
         let now = met (counted a st) _ r x.gave in
         let q = met (walk_sub line width true body now.value) _ r now.gave in
-        loop_matches tree.while_loop a body st now.value x.value q.value r (counted_scope a st now.value now.was)
+        loop_matches (tree.while_loop []) a body st now.value x.value q.value r (counted_scope a st now.value now.was)
         (sub_matches true body now.value q.value q.was) q.gave
     core_matches inside (repeat_after a body b c e d i) st r h =
         let now = met (counted a st) _ r h in
         let q = met (walk_sub line width true body now.value) _ r now.gave in
         let v = met (walk_expr line width q.value.0 e) _ r q.gave in
         let x = met (tested a v.value) _ r v.gave in
-        loop_matches tree.do_loop a body st now.value x.value q.value r (counted_scope a st now.value now.was)
+        loop_matches (tree.do_loop []) a body st now.value x.value q.value r (counted_scope a st now.value now.was)
         (sub_matches true body now.value q.value q.was) x.gave
     core_matches inside (repeat_for a b f t l body) st r h =
         let o = met (walk_first line width f st) _ r h in

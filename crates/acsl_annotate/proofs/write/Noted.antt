@@ -34,7 +34,7 @@ use Rattle.ask_words.specs.declared.request.Domain.{Domain}
 use Rattle.ask_words.specs.declared.request.Policy.{Policy}
 use Rattle.top_texts.specs.Analyses.{IsFoundIn}
 use Rattle.top_texts.specs.declared.analyse.least.LeastBounds.{LeastBounds}
-use Rattle.top_texts.proofs.texts.Once.{equations_are}
+use Rattle.top_texts.proofs.texts.Once.{equations_are, rows_over}
 use Rattle.acsl_annotate.specs.Annotated.{IsAnnotatedOf, IsTreeOf, notes}
 
 -- tokens that mean a program have a tree that does
@@ -166,7 +166,8 @@ module _ (text : List ℕ) (rows : Domain (List ℕ)) (policy : Policy) (limit :
           comes_out = ap (λ b. without_comments 0 b said) spelled ∙ come text said stands.may_stand.order;
           means = stay text tokens said s.names s.body noted.reads stands.means stands.may_stand;
           truth = hold (length s.names) s.body s.template v (subst (λ (t : List (List ℤ)). 0 < length t) s.system_for.template_is some)
-              (post (length s.names) s.body s.template v least.solves.post);
+              (post (length s.names) s.body s.template v
+              (rows_over s.names s.body s.template bounds.system s.system_for) least.solves.post);
         };
       }
 

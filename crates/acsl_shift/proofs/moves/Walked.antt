@@ -1,6 +1,6 @@
 -- The walk of a tree at other places answers the same statements, but for their lines and the places of their checks.
 use Rattle.std.proofs.Common.{◌≡◌, ◌∙◌, ◌++◌, ◌∷◌, Bool, true, false, cond, ℕ, List, [], length, Option, Some, None, Result, Ok, Err}
-use Rattle.std.proofs.Common.{nat_lt, refl, sym, ap, ap₂}
+use Rattle.std.proofs.Common.{map, nat_lt, refl, sym, ap, ap₂}
 use Rattle.lang_grammar.specs.Grammar.{Expr, Declarator, bare, given, Declarators, declares, declares_more, Update, set, step_after}
 use Rattle.lang_grammar.specs.Grammar.{step_before, ForFirst}
 use Rattle.lang_grammar.specs.Grammar.{no_first, declared_first, updated_first, ForTest, no_test, given_test, ForLast, no_last}
@@ -25,7 +25,7 @@ use Rattle.lang_meaning.specs.Walk.{changed, counted_for, demanded}
 use Rattle.lang_meaning.specs.Walk.{change_nodes, always, jumped, declared_by, closed, walk_expr, walk_declarator, walk_declarators}
 use Rattle.lang_meaning.specs.Walk.{walk_update, walk_first}
 use Rattle.lang_meaning.specs.Walk.{walk_test, walk_last, walk_core, walk_sub, walk_items}
-use Rattle.acsl_shift.specs.Moves.{change_without_line, without_line, without_lines}
+use Rattle.acsl_shift.specs.Moves.{change_without_line, deed_without_line, without_line, without_lines}
 use Rattle.acsl_shift.proofs.moves.Trees.{move_value, move_expr, move_declarator, move_declarators, move_update, move_first, move_test}
 use Rattle.acsl_shift.proofs.moves.Trees.{move_last}
 use Rattle.acsl_shift.proofs.moves.Trees.{move_core, move_sub, move_items}
@@ -48,6 +48,20 @@ change_without : (c : tree_change.Change) → without_lines (change_nodes c) ≡
 change_without change.Unchanged = refl
 change_without (change.Set i f line) = refl
 change_without (change.Havoc i line) = refl
+
+-- a change as deeds, without its line
+deeds_without : (c : tree_change.Change) → map deed_without_line (tree.change_deeds c) ≡ tree.change_deeds (change_without_line c)
+deeds_without change.Unchanged = refl
+deeds_without (change.Set i f l) = refl
+deeds_without (change.Havoc i l) = refl
+
+-- a `for` whose change and body are the same without their lines
+for_alike : (x : Condition) (c d : tree_change.Change) (ns ms : Statements) → change_without_line d ≡ change_without_line c
+    → without_lines ms ≡ without_lines ns
+    → one (tree.loop (tree.for_loop [] (map deed_without_line (tree.change_deeds d))) x (without_lines ms) 0)
+    ≡ one (tree.loop (tree.for_loop [] (map deed_without_line (tree.change_deeds c))) x (without_lines ns) 0)
+for_alike x c d ns ms i j =
+    ap₂ (λ g w. one (tree.loop (tree.for_loop [] g) x w 0)) (deeds_without d ∙ ap tree.change_deeds i ∙ sym (deeds_without c)) j
 
 -- changes that are alike, as statements
 change_alike : (c d : tree_change.Change) → change_without_line d ≡ change_without_line c
@@ -251,12 +265,12 @@ module _ (to line other : ℕ → ℕ) (width : ℕ) where
     kept_core inside (repeat a b e c s) st =
         counted_then (Alike without_lines) a e st _ _ (λ x now.
         lines_then (walk_sub line width true s now) (walk_sub other width true (move_sub to s) now) _ _ (kept_sub true s now)
-        (λ last ns ms h. alike_ok without_lines last _ _ (ap (λ z. one (tree.loop tree.while_loop x z 0)) h)))
+        (λ last ns ms h. alike_ok without_lines last _ _ (ap (λ z. one (tree.loop (tree.while_loop []) x z 0)) h)))
     kept_core inside (repeat_after a s b c e d i) st =
         same_then (Alike without_lines) (counted a st) (counted (to a) st) _ _ (kept_counted a (to a) st) (λ now.
         lines_then (walk_sub line width true s now) (walk_sub other width true (move_sub to s) now) _ _ (kept_sub true s now)
         (λ last ns ms h. tested_then (Alike without_lines) a e last _ _
-        (λ x. alike_ok without_lines last _ _ (ap (λ z. one (tree.loop tree.do_loop x z 0)) h))))
+        (λ x. alike_ok without_lines last _ _ (ap (λ z. one (tree.loop (tree.do_loop []) x z 0)) h))))
     kept_core inside (repeat_for a b f t l s) st =
         lines_then (walk_first line width f st) (walk_first other width (move_first to f) st) _ _ (kept_first f st) (λ begun us vs h.
         same_then (Alike without_lines) (walk_test line width a t begun) (walk_test other width (to a) (move_test to t) begun) _ _
@@ -267,8 +281,9 @@ module _ (to line other : ℕ → ℕ) (width : ℕ) where
         (λ then c d i. lines_then (walk_sub line width true s then) (walk_sub other width true (move_sub to s) then) _ _
         (kept_sub true s then)
         (λ last ns ms j. alike_ok without_lines (closed (length st.known) last) _ _
-        (followed_alike us (one (tree.loop (tree.for_loop c) x ns (line a))) vs (one (tree.loop (tree.for_loop d) x ms (other (to a)))) h
-        (ap₂ (λ z w. one (tree.loop (tree.for_loop z) x w 0)) i j)))))))
+        (followed_alike us (one (tree.loop (tree.for_loop [] (tree.change_deeds c)) x ns (line a))) vs
+        (one (tree.loop (tree.for_loop [] (tree.change_deeds d)) x ms (other (to a)))) h
+        (for_alike x c d ns ms i j)))))))
     kept_core inside (jumps j a b) st =
         same_then (Alike without_lines) (jumped inside a st) (jumped inside (to a) st) _ _ (kept_jumped inside a (to a) st)
         (λ now. alike_ok without_lines now _ _ refl)

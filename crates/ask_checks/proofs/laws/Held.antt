@@ -12,9 +12,9 @@ use Rattle.ask_checks.proofs.verdicts.Everywhere.{open_breaks_check}
 
 -- where a run is at the check, a trace leads there from a state that fits, so that the condition isn't false
 pub checks_hold : ProvedChecksHold
-checks_hold variables body template v about c program post none run is_run now is_in at_check may =
+checks_hold variables body template v about c program over post none run is_run now is_in at_check may =
     let system = equations_of_program variables body template in
-    let came = checked_law variables body template v run now about c program post is_run is_in at_check in
+    let came = checked_law variables body template v run now about c program over post is_run is_in at_check in
     let reached = came.1 in
     places_hold system v reached.edge.from reached.before c
     (λ k l x b. none x (record {
@@ -27,9 +27,9 @@ checks_hold variables body template v about c program post none run is_run now i
 
 -- so is each check of a list that is proved
 pub proved_hold : ProvedVerdictsHold
-proved_hold variables body template v checks verdicts k about c program post a e f =
+proved_hold variables body template v checks verdicts k about c program over post a e f =
     let system = equations_of_program variables body template in
-    checks_hold variables body template v about c program post
+    checks_hold variables body template v about c program over post
     ((zip_at (IsCheckVerdict system v) checks verdicts k (check_of about c) Proved a e f).proved.0 refl)
 
 -- the state of an open check breaks it at one of its places

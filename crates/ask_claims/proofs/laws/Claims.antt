@@ -55,10 +55,10 @@ decided (either a b) x d =
 -- ---- runs
 -- a condition none of whose opposite cases a state breaks is true at its point in every run
 pub claims_hold : ProvedClaimsHold
-claims_hold variables body template v p c post none run now is_run is_in is_at =
+claims_hold variables body template v p c over post none run now is_run is_in is_at =
     let system = equations_of_program variables body template in
     let x = now.state in
-    let size = run_size variables body run now is_run is_in in
-    let fits = program_soundness variables body template v post run now p is_run is_in is_at in
+    let size = run_size variables body run now p is_run is_in is_at in
+    let fits = program_soundness variables body template v over post run now p is_run is_in is_at in
     let never = places_hold system v p [] c none (rational x) x (length-map x whole ∙ size) fits refl in
     record { never_false = never; is_true = λ d. ⊎_elim (λ t. t) (λ f. absurd (never f)) (decided c x d) }

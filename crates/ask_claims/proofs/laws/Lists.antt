@@ -41,10 +41,10 @@ open_breaks system z claims verdicts k claim x a e f =
 
 -- the condition of a proved claim is true at its point in every run
 pub proved_hold : ProvedVerdictsHold
-proved_hold variables body template v claims verdicts k claim post a e f against run now is_run is_in is_at =
+proved_hold variables body template v claims verdicts k claim over post a e f against run now is_run is_in is_at =
     let system = equations_of_program variables body template in
     let none = (verdict_at system v claims verdicts k claim Proved a e f).proved.0 refl in
     let stated : NoneOpen system v claim.point [] (cases_of false (condition_of claim.cond))
     (length (cases_of false (condition_of claim.cond))) =
     subst (λ (cases : List (List Form)). NoneOpen system v claim.point [] cases (length cases)) against none in
-    claims_hold variables body template v claim.point (condition_of claim.cond) post stated run now is_run is_in is_at
+    claims_hold variables body template v claim.point (condition_of claim.cond) over post stated run now is_run is_in is_at

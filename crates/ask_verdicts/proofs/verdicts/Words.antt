@@ -1,10 +1,11 @@
 -- The words of an edge at a place are the ways to states that pass a case.
 use Rattle.std.proofs.Common.{◌≡◌, ◌∙◌, ℕ, List, [], ◌∷◌, ◌++◌, length, ℤ, refl, sym, ap, ap₂, subst}
-use Rattle.std.specs.Prelude.{Option, MatchOption, slice_set}
+use Rattle.std.specs.Prelude.{Option, MatchOption}
 use Rattle.base_numbers.specs.Rational.{ℚ, zero_ℚ, ◌≤ℚ◌}
 use Rattle.base_numbers.specs.Vector.{dot}
 use Rattle.base_numbers.specs.Extended.{Ext, neg_inf, pos_inf}
 use Rattle.base_numbers.proofs.rational.Laws.{<ℚ_irrefl}
+use Rattle.lang_tree.specs.Meaning.{put}
 use Rattle.lang_tree.specs.declared.form.Form.{Form}
 use Rattle.flow_edges.specs.declared.edge.Action.{Action}
 use Rattle.flow_edges.specs.declared.edge.Action.TheVariants.{Guard, Assign, Havoc, Check}
@@ -42,8 +43,8 @@ traces_parted [] (g ∷ gs) x y h =
     let rest = traces_parted [] gs x y h.1 in
     (rest.0, (subst (λ s. valueℚ g s ≤ℚ zero_ℚ) (sym rest.0) h.0, rest.1))
 traces_parted (Guard form ∷ before) case x y h = let rest = traces_parted before case x y h.1 in ((h.0, rest.0), rest.1)
-traces_parted (Assign var form ∷ before) case x y h = traces_parted before case (slice_set x var (valueℚ form x)) y h
-traces_parted (Havoc var ∷ before) case x y h = let rest = traces_parted before case (slice_set x var h.0) y h.1 in ((h.0, rest.0), rest.1)
+traces_parted (Assign var form ∷ before) case x y h = traces_parted before case (put zero_ℚ x var (valueℚ form x)) y h
+traces_parted (Havoc var ∷ before) case x y h = let rest = traces_parted before case (put zero_ℚ x var h.0) y h.1 in ((h.0, rest.0), rest.1)
 traces_parted (Check about ∷ before) case x y h = traces_parted before case x y h
 
 -- and the other way round
@@ -52,8 +53,8 @@ traces_joined : (before : List Action) (case : List Form) (x y : RationalState) 
 traces_joined [] [] x y h p = h
 traces_joined [] (g ∷ gs) x y h p = (subst (λ s. valueℚ g s ≤ℚ zero_ℚ) h p.0, traces_joined [] gs x y h p.1)
 traces_joined (Guard form ∷ before) case x y h p = (h.0, traces_joined before case x y h.1 p)
-traces_joined (Assign var form ∷ before) case x y h p = traces_joined before case (slice_set x var (valueℚ form x)) y h p
-traces_joined (Havoc var ∷ before) case x y h p = (h.0, traces_joined before case (slice_set x var h.0) y h.1 p)
+traces_joined (Assign var form ∷ before) case x y h p = traces_joined before case (put zero_ℚ x var (valueℚ form x)) y h p
+traces_joined (Havoc var ∷ before) case x y h p = (h.0, traces_joined before case (put zero_ℚ x var h.0) y h.1 p)
 traces_joined (Check about ∷ before) case x y h p = traces_joined before case x y h p
 
 -- guards leave the state as it is

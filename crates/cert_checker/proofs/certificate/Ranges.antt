@@ -1,5 +1,5 @@
 -- The edges of a system end at its points, and are few.
-use Rattle.std.proofs.Common.{ℕ, ◌≤◌, ◌&&◌, List, [], ◌∷◌, length, ⊎_elim, subst, arith}
+use Rattle.std.proofs.Common.{◌+◌, ℕ, ◌≤◌, ◌&&◌, List, [], ◌∷◌, length, ⊎_elim, subst, arith}
 use Rattle.std.specs.Prelude.{IsTrue, nat_lt, nat_le}
 use Rattle.std.specs.List.{list_all}
 use Rattle.std.proofs.lemmas.Bool.{ltb-true, leb-true}
@@ -13,7 +13,7 @@ use Rattle.flow_systems.proofs.Sizes.{both, flow_sizes}
 use Rattle.theory_validity.specs.Certificates.{PointsInRange}
 use Rattle.theory_validity.proofs.certificates.Needs.{in_of_contains}
 use Rattle.flow_edges.specs.declared.limits.TheConstants.{MOST_POINTS}
-use Rattle.lang_tree.specs.declared.limits.TheConstants.{MOST_VARIABLES}
+use Rattle.lang_tree.specs.declared.limits.TheConstants.{MOST_VARIABLES, MOST_HIDDEN}
 
 edge_passes : (n points : ℕ) (edges : List Edge) → IsTrue (list_all (is_edge n points) edges) → (edge : Edge) → In edges edge
     → IsTrue (is_edge n points edge)
@@ -29,7 +29,7 @@ points_in_range system =
     record {
       entry = (let two = sizes.two_points in omega arith);
       ends = λ edge c.
-          let n = length system.flow.names in
+          let n = length system.flow.names + MOST_HIDDEN in
           let points = length system.flow.points in
           let a = both (nat_lt edge.from points) (nat_lt 0 edge.to && (nat_lt edge.to points
           && (nat_le (length edge.actions) 256 && list_all (is_action n) edge.actions)))
@@ -46,5 +46,6 @@ few_edges flow =
     let a = both (nat_le 1 (length flow.names) && nat_le (length flow.names) MOST_VARIABLES) _ flow.within_limits in
     let b = both (nat_le 2 (length flow.points) && nat_le (length flow.points) MOST_POINTS) _ a.1 in
     let c = both (begins_with_entry flow.points && list_all has_line flow.points) _ b.1 in
-    let e = both (nat_le (length flow.edges) 256) (list_all (is_edge (length flow.names) (length flow.points)) flow.edges) c.1 in
+    let n = length flow.names + MOST_HIDDEN in
+    let e = both (nat_le (length flow.edges) 256) (list_all (is_edge n (length flow.points)) flow.edges) c.1 in
     leb-true (length flow.edges) 256 e.0

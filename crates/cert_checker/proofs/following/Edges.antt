@@ -1,5 +1,5 @@
 -- What the edges of a flow have.
-use Rattle.std.proofs.Common.{◌≡◌, ℕ, ◌<◌, List, length, subst, arith}
+use Rattle.std.proofs.Common.{◌+◌, ◌≡◌, ℕ, ◌<◌, List, length, subst, arith}
 use Rattle.std.specs.Prelude.{ℤ, Some, slice_get, IsTrue, nat_lt, ◌&&◌, nat_le}
 use Rattle.std.proofs.lemmas.Bool.{ltb-true, leb-true}
 use Rattle.std.proofs.lemmas.Option.{slice_get_within, get_or_from_slice_get}
@@ -10,14 +10,15 @@ use Rattle.flow_templates.specs.Rows.{is_template}
 use Rattle.flow_systems.proofs.Sizes.{both, flow_sizes}
 use Rattle.flow_systems.proofs.trace_tests.Traced.{all_at}
 use Rattle.flow_templates.specs.declared.limits.TheConstants.{MOST_ROWS}
+use Rattle.lang_tree.specs.declared.limits.TheConstants.{MOST_HIDDEN}
 
 -- an edge starts at a point
 pub edge_from : (flow : Flow) (i : ℕ) (e : Edge) → slice_get flow.edges i ≡ Some e → e.from < length flow.points
 edge_from flow i e f =
     let l = slice_get_within flow.edges i e f in
-    let a = all_at (is_edge (length flow.names) (length flow.points)) flow.edges i e (flow_sizes flow).edges l in
-    let k : IsTrue (is_edge (length flow.names) (length flow.points) e) =
-    subst (λ x. IsTrue (is_edge (length flow.names) (length flow.points) x)) (get_or_from_slice_get flow.edges i e e f) a in
+    let a = all_at (is_edge (length flow.names + MOST_HIDDEN) (length flow.points)) flow.edges i e (flow_sizes flow).edges l in
+    let k : IsTrue (is_edge (length flow.names + MOST_HIDDEN) (length flow.points) e) =
+    subst (λ x. IsTrue (is_edge (length flow.names + MOST_HIDDEN) (length flow.points) x)) (get_or_from_slice_get flow.edges i e e f) a in
     ltb-true e.from (length flow.points) (both (nat_lt e.from (length flow.points)) _ k).0
 
 -- a template has a row

@@ -2,15 +2,15 @@
 use Rattle.std.proofs.Common.{◌≡◌, ℕ, ◌+◌, Bool, true, false, List, [], ◌∷◌, ◌++◌, refl, sym, subst}
 use Rattle.std.specs.Prelude.{◌&&◌, IsTrue, if◌then◌else◌}
 use Rattle.std.proofs.lemmas.Bool.{and_parts}
-use Rattle.lang_tree.specs.declared.change.Change.{Change}
-use Rattle.lang_tree.specs.declared.change.Change.TheVariants as change
-use Rattle.lang_tree.specs.Tree.{Condition, LoopKind, while_loop, for_loop, do_loop, breaks, continues}
+use Rattle.lang_tree.specs.Tree.{Condition, Deed, sets, havocs, wheres, checks, LoopKind, while_loop, for_loop, do_loop, breaks, continues}
+use Rattle.lang_tree.specs.Tree.{returns}
 use Rattle.lang_tree.specs.Tree.{Statement, Statements, set, havoc, assume, only_where, check, branch, loop, jump, label, nil, cons}
-use Rattle.lang_tree.specs.Limits.{is_tested, is_kind, is_statement, are_statements}
+use Rattle.lang_tree.specs.Limits.{is_tested, is_jump, is_kind, is_statement, are_statements}
 use Rattle.lang_tree.specs.Meaning.{State}
 use Rattle.lang_tree.specs.PointNumbers.{splits, points_of, points_in, join_of, exit_of}
-use Rattle.lang_tree.specs.Runs.{Item, node, mark, turn, end, nodes, start_work, branch_work, body_work, head_work, turn_work, change_work}
-use Rattle.lang_tree.specs.Runs.{repeat_work, past_loop, end_of_body, Does}
+use Rattle.lang_tree.specs.Runs.{Item, node, mark, turn, end, nodes, start_work, branch_work, body_work, head_work, again_work, turn_work}
+use Rattle.lang_tree.specs.Runs.{deeds_work, end_work}
+use Rattle.lang_tree.specs.Runs.{past_loop, end_of_body, Does}
 
 -- ---- jumps in loops
 abbrev mutual
@@ -23,7 +23,7 @@ abbrev mutual
   Stands inside (check about c line) = Unit {0}
   Stands inside (branch c first second line) = AllStand inside first × AllStand inside second
   Stands inside (loop kind c body line) = AllStand true body
-  Stands inside (jump kind line) = IsTrue inside
+  Stands inside (jump kind line) = IsTrue (is_jump inside kind)
   Stands inside (label name line) = Unit {0}
 
   -- so do those of a list of statements
@@ -123,50 +123,57 @@ body_lasts : (kind : LoopKind) (c : Condition) (body : Statements) (line n : ℕ
     → Lasting rest → Lasting (body_work kind c body line n rest)
 body_lasts kind c body line n rest a h l = nodes_last body (n + 1) (end kind c body line n ∷ rest) a tt (a, h, l)
 
+deeds_last : (ds : List Deed) (rest : List Item) → HasMore rest → Lasting rest → Lasting (deeds_work ds rest) × HasMore (deeds_work ds rest)
+deeds_last [] rest h l = (l, h)
+deeds_last (sets var form line ∷ ds) rest h l = let r = deeds_last ds rest h l in ((tt, r.1, r.0), tt)
+deeds_last (havocs var line ∷ ds) rest h l = let r = deeds_last ds rest h l in ((tt, r.1, r.0), tt)
+deeds_last (wheres c line ∷ ds) rest h l = let r = deeds_last ds rest h l in ((tt, r.1, r.0), tt)
+deeds_last (checks about c line ∷ ds) rest h l = let r = deeds_last ds rest h l in ((tt, r.1, r.0), tt)
+
 head_lasts : (kind : LoopKind) (c : Condition) (body : Statements) (line n : ℕ) (rest : List Item) → AllStand true body → HasMore rest
     → Lasting rest → Lasting (head_work kind c body line n rest)
-head_lasts while_loop c body line n rest a h l = (a, h, l)
-head_lasts (for_loop g) c body line n rest a h l = (a, h, l)
-head_lasts do_loop c body line n rest a h l = body_lasts do_loop c body line n rest a h l
+head_lasts (while_loop p) c body line n rest a h l = (deeds_last p (turn (while_loop p) c body line n ∷ rest) tt (a, h, l)).0
+head_lasts (for_loop p g) c body line n rest a h l = (deeds_last p (turn (for_loop p g) c body line n ∷ rest) tt (a, h, l)).0
+head_lasts (do_loop p) c body line n rest a h l = body_lasts (do_loop p) c body line n rest a h l
+
+again_lasts : (kind : LoopKind) (c : Condition) (body : Statements) (line n : ℕ) (rest : List Item) → AllStand true body → HasMore rest
+    → Lasting rest → Lasting (again_work kind c body line n rest)
+again_lasts (while_loop p) c body line n rest a h l = body_lasts (while_loop p) c body line n rest a h l
+again_lasts (for_loop p g) c body line n rest a h l = body_lasts (for_loop p g) c body line n rest a h l
+again_lasts (do_loop p) c body line n rest a h l = (a, h, l)
 
 turn_lasts : (truth : Bool) (kind : LoopKind) (c : Condition) (body : Statements) (line n : ℕ) (rest : List Item) → AllStand true body
     → HasMore rest → Lasting rest → Lasting (turn_work truth kind c body line n rest)
-turn_lasts true kind c body line n rest a h l = body_lasts kind c body line n rest a h l
+turn_lasts true kind c body line n rest a h l = again_lasts kind c body line n rest a h l
 turn_lasts false kind c body line n rest a h l = l
 
-change_lasts : (g : Change) (s : Statement) (n : ℕ) (rest : List Item) → Lasting (node s n ∷ rest)
-    → Lasting (change_work g (node s n ∷ rest))
-change_lasts change.Unchanged s n rest l = l
-change_lasts (change.Set var form line) s n rest l = (tt, tt, l)
-change_lasts (change.Havoc var line) s n rest l = (tt, tt, l)
-
-repeat_lasts : (truth : Bool) (c : Condition) (body : Statements) (line n : ℕ) (rest : List Item) → AllStand true body → HasMore rest
-    → Lasting rest → Lasting (repeat_work truth c body line n rest)
-repeat_lasts true c body line n rest a h l = (a, h, l)
-repeat_lasts false c body line n rest a h l = l
+end_of_lasts : (kind : LoopKind) (c : Condition) (body : Statements) (line n : ℕ) (rest : List Item) → AllStand true body → HasMore rest
+    → Lasting rest → Lasting (end_work kind c body line n rest)
+end_of_lasts (while_loop p) c body line n rest a h l = (a, h, l)
+end_of_lasts (for_loop p g) c body line n rest a h l = (deeds_last g (node (loop (for_loop p g) c body line) n ∷ rest) tt (a, h, l)).0
+end_of_lasts (do_loop p) c body line n rest a h l = (deeds_last p (turn (do_loop p) c body line n ∷ rest) tt (a, h, l)).0
 
 -- a step keeps it so
-pub step_lasts : (item : Item) (rest : List Item) (x : State) (work : List Item) (y : State) → Does item rest x work y
+pub step_lasts : (exit : ℕ) (item : Item) (rest : List Item) (x : State) (work : List Item) (y : State) → Does exit item rest x work y
     → Lasting (item ∷ rest) → Lasting work
-step_lasts (mark p) rest x work y d l = subst Lasting (sym d.0) l
-step_lasts (node (set var form line) n) rest x work y d l = subst Lasting (sym d.0) l.2
-step_lasts (node (havoc var line) n) rest x work y d l = subst Lasting (sym d.1) l.2
-step_lasts (node (assume c line) n) rest x work y d l = subst Lasting (sym d.1) (mark_if (splits c) n rest l.2)
-step_lasts (node (only_where c line) n) rest x work y d l = subst Lasting (sym d.1) l.2
-step_lasts (node (check about c line) n) rest x work y d l = subst Lasting (sym d.0) l.2
-step_lasts (node (branch c first second line) n) rest x work y d l =
+step_lasts exit (mark p) rest x work y d l = subst Lasting (sym d.0) l
+step_lasts exit (node (set var form line) n) rest x work y d l = subst Lasting (sym d.0) l.2
+step_lasts exit (node (havoc var line) n) rest x work y d l = subst Lasting (sym d.1) l.2
+step_lasts exit (node (assume c line) n) rest x work y d l = subst Lasting (sym d.1) (mark_if (splits c) n rest l.2)
+step_lasts exit (node (only_where c line) n) rest x work y d l = subst Lasting (sym d.1) l.2
+step_lasts exit (node (check about c line) n) rest x work y d l = subst Lasting (sym d.0) l.2
+step_lasts exit (node (branch c first second line) n) rest x work y d l =
     subst Lasting (sym d.2) (branch_lasts d.0 first second n rest l.0.0 l.0.1 l.2)
-step_lasts (node (loop kind c body line) n) rest x work y d l = subst Lasting (sym d.0) (head_lasts kind c body line n rest l.0 l.1 l.2)
-step_lasts (node (jump breaks line) n) rest x work y d l = subst Lasting (sym d.0) (past_lasts rest l.2)
-step_lasts (node (jump continues line) n) rest x work y d l = subst Lasting (sym d.0) (end_lasts rest l.2)
-step_lasts (node (label name line) n) rest x work y d l = subst Lasting (sym d.0) l.2
-step_lasts (turn kind c body line n) rest x work y d l =
+step_lasts exit (node (loop kind c body line) n) rest x work y d l = subst Lasting (sym d.0)
+    (head_lasts kind c body line n rest l.0 l.1 l.2)
+step_lasts exit (node (jump breaks line) n) rest x work y d l = subst Lasting (sym d.0) (past_lasts rest l.2)
+step_lasts exit (node (jump continues line) n) rest x work y d l = subst Lasting (sym d.0) (end_lasts rest l.2)
+step_lasts exit (node (jump returns line) n) rest x work y d l = subst Lasting (sym d.0) tt
+step_lasts exit (node (label name line) n) rest x work y d l = subst Lasting (sym d.0) l.2
+step_lasts exit (turn kind c body line n) rest x work y d l =
     subst Lasting (sym d.2) (turn_lasts d.0 kind c body line n rest l.0 l.1 l.2)
-step_lasts (end while_loop c body line n) rest x work y d l = subst Lasting (sym d.0) (l.0, l.1, l.2)
-step_lasts (end (for_loop g) c body line n) rest x work y d l =
-    subst Lasting (sym d.0) (change_lasts g (loop (for_loop g) c body line) n rest (l.0, l.1, l.2))
-step_lasts (end do_loop c body line n) rest x work y d l =
-    subst Lasting (sym d.2) (repeat_lasts d.0 c body line n rest l.0 l.1 l.2)
+step_lasts exit (end kind c body line n) rest x work y d l =
+    subst Lasting (sym d.0) (end_of_lasts kind c body line n rest l.0 l.1 l.2)
 
 -- and it is so at the start
 pub start_lasts : (body : Statements) → AllStand false body → Lasting (start_work body)

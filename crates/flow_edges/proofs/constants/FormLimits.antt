@@ -1,6 +1,6 @@
 -- The guards of a program's conditions are forms over its variables, with numbers within the limits.
 use Rattle.std.proofs.Common.{ℕ, zero, suc, ◌+◌, ◌≤◌, Bool, true, false, List, [], ◌∷◌, ◌++◌, length, map, refl, arith}
-use Rattle.std.specs.Prelude.{◌==◌, ◌&&◌, ℤ, pos, negsuc, ◌+ℤ◌, neg_ℤ, nat_abs, not, IsTrue}
+use Rattle.std.specs.Prelude.{◌&&◌, nat_le, ℤ, pos, negsuc, ◌+ℤ◌, neg_ℤ, nat_abs, not, IsTrue}
 use Rattle.std.proofs.lemmas.Int.{ints}
 use Rattle.std.proofs.lemmas.Bool.{and_from, and_parts, leb-true, le-leb}
 use Rattle.std.proofs.lemmas.List.{length-map}
@@ -31,9 +31,9 @@ compared n f h = let p = and_parts (is_form n f) (has_room f) h in record { form
 
 negated_form : (n : ℕ) (f : Form) → IsForm n f → IsForm n (negated f)
 negated_form n f h =
-    let p = and_parts (length f.coeffs == n) (are_numbers f.coeffs && is_number f.constant) h in
+    let p = and_parts (nat_le (length f.coeffs) n) (are_numbers f.coeffs && is_number f.constant) h in
     let q = and_parts (are_numbers f.coeffs) (is_number f.constant) p.1 in
-    and_from (length (map neg_ℤ f.coeffs) == n) (are_numbers (map neg_ℤ f.coeffs) && is_number (neg_ℤ f.constant))
+    and_from (nat_le (length (map neg_ℤ f.coeffs)) n) (are_numbers (map neg_ℤ f.coeffs) && is_number (neg_ℤ f.constant))
     (rw (length-map f.coeffs neg_ℤ) p.0)
     (and_from (are_numbers (map neg_ℤ f.coeffs)) (is_number (neg_ℤ f.constant)) (are_numbers-negated f.coeffs q.0)
     (rw (nat_abs-neg f.constant) q.1))
@@ -48,11 +48,11 @@ nat_abs-more (negsuc (suc n)) = omega (arith, ints)
 
 plus_one_form : (n : ℕ) (f : Form) → Compared n f → IsForm n (plus_one f)
 plus_one_form n f h =
-    let p = and_parts (length f.coeffs == n) (are_numbers f.coeffs && is_number f.constant) h.form in
+    let p = and_parts (nat_le (length f.coeffs) n) (are_numbers f.coeffs && is_number f.constant) h.form in
     let q = and_parts (are_numbers f.coeffs) (is_number f.constant) p.1 in
     let r : nat_abs f.constant + 1 ≤ 9223372036854775807 = leb-true (nat_abs f.constant + 1) 9223372036854775807 h.room in
     let l : nat_abs (f.constant +ℤ pos 1) ≤ 9223372036854775807 = omega (arith, nat_abs-more f.constant) in
-    and_from (length f.coeffs == n) (are_numbers f.coeffs && is_number (f.constant +ℤ pos 1)) p.0
+    and_from (nat_le (length f.coeffs) n) (are_numbers f.coeffs && is_number (f.constant +ℤ pos 1)) p.0
     (and_from (are_numbers f.coeffs) (is_number (f.constant +ℤ pos 1)) q.0 (le-leb (nat_abs (f.constant +ℤ pos 1)) 9223372036854775807 l))
 
 -- cases of such forms

@@ -12,5 +12,5 @@ module _ {A B : Type 0} (F : List A → List B) (f : A → List B) (by_cons : (x
       ∙ ap (λ z. before ++ z) (sym (at_drop_more F xs i x l ∙ ap (λ y. F (y ∷ rest)) (sym e) ∙ by_cons x rest)) ∙ h
 
   -- past the last element
-  loop_end : (before all : List B) (xs : List A) (i : ℕ) → length xs ≤ i → F [] ≡ [] → before ++ F (drop i xs) ≡ all → before ≡ all
+  pub loop_end : (before all : List B) (xs : List A) (i : ℕ) → length xs ≤ i → F [] ≡ [] → before ++ F (drop i xs) ≡ all → before ≡ all
   loop_end before all xs i l e h = sym (append-nil before) ∙ ap (λ z. before ++ z) (sym (at_drop_all F xs i l ∙ e)) ∙ h

@@ -4,9 +4,8 @@ use Rattle.std.proofs.Common.{length-append}
 use Rattle.std.specs.Prelude.{◌||◌, if◌then◌else◌, flat_map}
 use Rattle.std.proofs.lemmas.List.{length-map}
 use Rattle.lang_tree.specs.declared.form.Form.{Form}
-use Rattle.lang_tree.specs.declared.change.Change.{Change}
-use Rattle.lang_tree.specs.declared.change.Change.TheVariants as change
-use Rattle.lang_tree.specs.Tree.{Condition, LoopKind, while_loop, for_loop, do_loop, breaks, continues}
+use Rattle.lang_tree.specs.Tree.{Condition, Deed, sets, havocs, wheres, checks, LoopKind, while_loop, for_loop, do_loop, breaks, continues}
+use Rattle.lang_tree.specs.Tree.{returns}
 use Rattle.lang_tree.specs.Tree.{Statement, Statements, set, havoc, assume, only_where, check, branch, loop, jump, label, nil, cons}
 use Rattle.lang_tree.specs.Cases.{cases_of}
 use Rattle.lang_tree.specs.PointNumbers.{splits, points_of, points_in, join_of, exit_of}
@@ -15,10 +14,12 @@ use Rattle.flow_edges.specs.declared.edge.Action.TheVariants.{Assign, Havoc, Che
 use Rattle.flow_edges.specs.declared.edge.Edge.{Edge}
 use Rattle.flow_edges.specs.Steps.{guards}
 use Rattle.flow_edges.specs.declared.edge_count.JumpCounts.{JumpCounts}
-use Rattle.flow_edges.specs.Edges.{Way, arrived, prefixed, by_case, changed, Jumps, no_jumps, end_ways, loop_jumps, ways_of, ways_in}
-use Rattle.flow_edges.specs.Edges.{body_ways, turn_ways, head_ways, complete, completes, edges_of_program}
+use Rattle.flow_edges.specs.Edges.{Way, arrived, prefixed, by_case, deeds_ways, test_ways, Jumps, no_jumps, end_ways, loop_jumps, ways_of}
+use Rattle.flow_edges.specs.Edges.{ways_in}
+use Rattle.flow_edges.specs.Edges.{body_ways, head_ways, complete, completes, edges_of_program}
 use Rattle.flow_edges.specs.Trails.{Begun, begun_at, kept, kept_edge, reached, edges_in_node, edges_in_nodes}
-use Rattle.flow_edges.specs.Counts.{case_count, no_jump_counts, end_count, loop_jump_counts, way_count_of, way_count_in, body_count}
+use Rattle.flow_edges.specs.Counts.{case_count, deeds_count, test_count, no_jump_counts, end_count, loop_jump_counts, way_count_of}
+use Rattle.flow_edges.specs.Counts.{way_count_in, body_count}
 use Rattle.flow_edges.specs.Counts.{turn_count, head_count, edge_count_of, edge_count_in, edge_count}
 use Rattle.flow_edges.proofs.edges.Trailing.{walked_program}
 
@@ -56,6 +57,8 @@ record Counted (jumps : Jumps) (counts : JumpCounts) : Type 0 where
   pub broken : length jumps.broken ≡ counts.broken
   -- those by a `continue`
   pub continued : length jumps.continued ≡ counts.continued
+  -- the one by a `return`
+  pub returned : length jumps.returned ≡ 1
 
 mutual
   count_of : (s : Statement) (n : ℕ) (j : Jumps) (d : JumpCounts) (next : List Way) (k : ℕ) → Counted j d → length next ≡ k
@@ -71,6 +74,7 @@ mutual
   count_of (loop kind c body line) n j d next k a e = refl
   count_of (jump breaks line) n j d next k a e = a.broken
   count_of (jump continues line) n j d next k a e = a.continued
+  count_of (jump returns line) n j d next k a e = a.returned
   count_of (label name line) n j d next k a e = refl
 
   count_in : (ss : Statements) (n : ℕ) (j : Jumps) (d : JumpCounts) (next : List Way) (k : ℕ) → Counted j d → length next ≡ k
@@ -79,39 +83,46 @@ mutual
   count_in (cons s rest) n j d next k a e = count_of s n j d (ways_in rest (n + points_of s) j next) _ a
       (count_in rest (n + points_of s) j d next k a e)
 
-length-changed : (g : Change) (n : ℕ) → length (changed g (arrived n)) ≡ 1
-length-changed change.Unchanged n = refl
-length-changed (change.Set var form line) n = refl
-length-changed (change.Havoc var line) n = refl
+deeds_counted : (ds : List Deed) (next : List Way) (k : ℕ) → length next ≡ k → length (deeds_ways ds next) ≡ deeds_count ds k
+deeds_counted [] next k e = e
+deeds_counted (sets var form line ∷ ds) next k e = length-prefixed (Assign var form ∷ []) (deeds_ways ds next) ∙ deeds_counted ds next k e
+deeds_counted (havocs var line ∷ ds) next k e = length-prefixed (Havoc var ∷ []) (deeds_ways ds next) ∙ deeds_counted ds next k e
+deeds_counted (wheres c line ∷ ds) next k e = length-by_case true c (deeds_ways ds next) _ (deeds_counted ds next k e)
+deeds_counted (checks about c line ∷ ds) next k e = length-prefixed (Check about ∷ []) (deeds_ways ds next) ∙ deeds_counted ds next k e
 
-end_counted : (kind : LoopKind) (c : Condition) (n : ℕ) (next : List Way) (k : ℕ) → length next ≡ k
-    → length (end_ways kind c n next) ≡ end_count kind c k
-end_counted while_loop c n next k e = refl
-end_counted (for_loop g) c n next k e = length-changed g n
-end_counted do_loop c n next k e =
+test_counted : (c : Condition) (n : ℕ) (next : List Way) (k : ℕ) → length next ≡ k → length (test_ways c n next) ≡ test_count c k
+test_counted c n next k e =
     length-both c (arrived n) next 1 k refl e ∙ (let f : case_count true c * 1 + case_count false c * k
     ≡ case_count true c + case_count false c * k = omega arith in f)
 
-jumps_counted : (kind : LoopKind) (c : Condition) (n : ℕ) (next : List Way) (k : ℕ) → length next ≡ k
-    → Counted (loop_jumps kind c n next) (loop_jump_counts kind c k)
-jumps_counted kind c n next k e = record { broken = e; continued = end_counted kind c n next k e }
+end_counted : (kind : LoopKind) (c : Condition) (n : ℕ) (next : List Way) (k : ℕ) → length next ≡ k
+    → length (end_ways kind c n next) ≡ end_count kind c k
+end_counted (while_loop p) c n next k e = refl
+end_counted (for_loop p g) c n next k e = deeds_counted g (arrived n) 1 refl
+end_counted (do_loop p) c n next k e = deeds_counted p (test_ways c n next) (test_count c k) (test_counted c n next k e)
 
-body_counted : (kind : LoopKind) (c : Condition) (body : Statements) (n : ℕ) (next : List Way) (k : ℕ) → length next ≡ k
-    → length (body_ways kind c body n next) ≡ body_count kind c body k
-body_counted kind c body n next k e =
-    count_in body (n + 1) (loop_jumps kind c n next) (loop_jump_counts kind c k) (end_ways kind c n next) (end_count kind c k)
-    (jumps_counted kind c n next k e)
-    (end_counted kind c n next k e)
+-- with the ways of a `return`
+module _ (back : List Way) (one : length back ≡ 1) where
+  jumps_counted : (kind : LoopKind) (c : Condition) (n : ℕ) (next : List Way) (k : ℕ) → length next ≡ k
+      → Counted (loop_jumps kind c n next back) (loop_jump_counts kind c k)
+  jumps_counted kind c n next k e = record { broken = e; continued = end_counted kind c n next k e; returned = one }
 
-turn_counted : (kind : LoopKind) (c : Condition) (body : Statements) (n : ℕ) (next : List Way) (k : ℕ) → length next ≡ k
-    → length (turn_ways kind c body n next) ≡ turn_count kind c body k
-turn_counted kind c body n next k e = length-both c (body_ways kind c body n next) next _ k (body_counted kind c body n next k e) e
+  body_counted : (kind : LoopKind) (c : Condition) (body : Statements) (n : ℕ) (next : List Way) (k : ℕ) → length next ≡ k
+      → length (body_ways kind c body n next back) ≡ body_count kind c body k
+  body_counted kind c body n next k e =
+      count_in body (n + 1) (loop_jumps kind c n next back) (loop_jump_counts kind c k) (end_ways kind c n next) (end_count kind c k)
+      (jumps_counted kind c n next k e)
+      (end_counted kind c n next k e)
 
-head_counted : (kind : LoopKind) (c : Condition) (body : Statements) (n : ℕ) (next : List Way) (k : ℕ) → length next ≡ k
-    → length (head_ways kind c body n next) ≡ head_count kind c body k
-head_counted while_loop c body n next k e = turn_counted while_loop c body n next k e
-head_counted (for_loop g) c body n next k e = turn_counted (for_loop g) c body n next k e
-head_counted do_loop c body n next k e = body_counted do_loop c body n next k e
+  into_counted : (kind : LoopKind) (c : Condition) (body : Statements) (n : ℕ) (next : List Way) (k : ℕ) → length next ≡ k
+      → length (by_case true c (body_ways kind c body n next back) ++ by_case false c next) ≡ turn_count kind c body k
+  into_counted kind c body n next k e = length-both c (body_ways kind c body n next back) next _ k (body_counted kind c body n next k e) e
+
+  head_counted : (kind : LoopKind) (c : Condition) (body : Statements) (n : ℕ) (next : List Way) (k : ℕ) → length next ≡ k
+      → length (head_ways kind c body n next back) ≡ head_count kind c body k
+  head_counted (while_loop p) c body n next k e = deeds_counted p _ _ (into_counted (while_loop p) c body n next k e)
+  head_counted (for_loop p g) c body n next k e = deeds_counted p _ _ (into_counted (for_loop p g) c body n next k e)
+  head_counted (do_loop p) c body n next k e = body_counted (do_loop p) c body n next k e
 
 -- ---- edges
 length-reached : (b : Begun) (ways : List Way) (k : ℕ) → length ways ≡ k → length (reached b ways) ≡ k
@@ -145,10 +156,11 @@ mutual
       (edges_of_nodes second (n + points_in first) j d (arrived join) 1 a refl)
       (length-if_edges (complete first || complete second) (reached (begun_at join) next) k (length-reached (begun_at join) next k e)))
   edges_of_node (loop kind c body line) n j d next k a e =
-      joined _ (edges_in_nodes body (n + 1) (loop_jumps kind c n next) (end_ways kind c n next)) _ _
-      (length-reached (begun_at n) (head_ways kind c body n next) _ (head_counted kind c body n next k e))
-      (edges_of_nodes body (n + 1) (loop_jumps kind c n next) (loop_jump_counts kind c k) (end_ways kind c n next) (end_count kind c k)
-      (jumps_counted kind c n next k e)
+      let back = j.returned in
+      joined _ (edges_in_nodes body (n + 1) (loop_jumps kind c n next back) (end_ways kind c n next)) _ _
+      (length-reached (begun_at n) (head_ways kind c body n next back) _ (head_counted back a.returned kind c body n next k e))
+      (edges_of_nodes body (n + 1) (loop_jumps kind c n next back) (loop_jump_counts kind c k) (end_ways kind c n next) (end_count kind c k)
+      (jumps_counted back a.returned kind c n next k e)
       (end_counted kind c n next k e))
   edges_of_node (jump kind line) n j d next k a e = refl
   edges_of_node (label name line) n j d next k a e = length-reached (begun_at n) next k e
@@ -166,10 +178,11 @@ mutual
 pub counted_edges : (body : Statements) → edge_count body ≡ length (edges_of_program body)
 counted_edges body =
     let exit = arrived (exit_of body) in
-    let none : Counted no_jumps no_jump_counts = record { broken = refl; continued = refl } in
-    sym (joined (reached (begun_at 0) (ways_in body 1 no_jumps exit)) (edges_in_nodes body 1 no_jumps exit) _ _
-    (length-reached (begun_at 0) (ways_in body 1 no_jumps exit) _ (count_in body 1 no_jumps no_jump_counts exit 1 none refl))
-    (edges_of_nodes body 1 no_jumps no_jump_counts exit 1 none refl))
+    let jumps = no_jumps exit in
+    let none : Counted jumps no_jump_counts = record { broken = refl; continued = refl; returned = refl } in
+    sym (joined (reached (begun_at 0) (ways_in body 1 jumps exit)) (edges_in_nodes body 1 jumps exit) _ _
+    (length-reached (begun_at 0) (ways_in body 1 jumps exit) _ (count_in body 1 jumps no_jump_counts exit 1 none refl))
+    (edges_of_nodes body 1 jumps no_jump_counts exit 1 none refl))
     ∙ ap length (walked_program body) ∙ length-map (edges_of_program body) kept_edge
 
 -- the capped count of a program's edges is the capped length of their list

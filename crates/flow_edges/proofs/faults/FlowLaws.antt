@@ -3,7 +3,7 @@ use Rattle.std.proofs.Common.{◌≡◌, ◌∙◌, ⊎_elim, ℕ, ◌+◌, ◌<
 use Rattle.std.proofs.Common.{ap, ap₂, arith}
 use Rattle.std.specs.Prelude.{◌&&◌, IsTrue, Option, Some, None, nat_lt, nat_le, cond, not, position, option_map, if◌then◌else◌}
 use Rattle.std.specs.List.{list_all, position_from}
-use Rattle.std.proofs.lemmas.Bool.{and_from, and_parts, leb-true, le-leb, lt-ltb, ltb-false}
+use Rattle.std.proofs.lemmas.Bool.{and_from, and_parts, leb-true, le-leb, lt-ltb, le-ltb, ltb-false}
 use Rattle.std.proofs.lemmas.List.{length-map, length-take, take_all}
 use Rattle.std.proofs.lemmas.Iterator.Adapters.{position_from-zero}
 use Rattle.lang_tree.specs.Tree.{Statement, Statements, set, havoc, assume, only_where, check, branch, loop, jump, label, nil, cons}
@@ -20,7 +20,9 @@ use Rattle.flow_edges.specs.Points.{made_in, points_of_program}
 use Rattle.flow_edges.specs.Places.{one_point, places_of, places_in}
 use Rattle.flow_edges.specs.Edges.{edges_of_program}
 use Rattle.flow_edges.specs.Trails.{kept, kept_edge, kept_edges}
-use Rattle.flow_edges.specs.Faults.{is_long, long_fault, counted_after, counted_fault, fault_or, fault_of_program, wide_lines_in}
+use Rattle.flow_edges.specs.Faults.{is_long, long_fault, counted_after, counted_fault, fault_or, checks_fault, fault_of_program}
+use Rattle.flow_edges.specs.Faults.{wide_lines_in}
+use Rattle.flow_edges.specs.Checks.{checks_in}
 use Rattle.flow_edges.specs.FlowLimits.{is_entry, is_exit, begins_with_entry, has_line, is_action, is_edge, is_flow}
 use Rattle.flow_edges.proofs.points.Numbering.{numbering}
 use Rattle.flow_edges.proofs.edges.Trailing.{walked_program}
@@ -30,8 +32,8 @@ use Rattle.flow_edges.proofs.count.Counting.{either_way}
 use Rattle.flow_edges.proofs.build.EdgeLimits.{EdgeFits, few_in, edges_fit}
 use Rattle.flow_edges.proofs.steps.ElementLemmas.{in_contains}
 use Rattle.flow_edges.proofs.edges.Ranges.{ranges_law}
-use Rattle.flow_edges.specs.declared.limits.TheConstants.{MOST_POINTS}
-use Rattle.lang_tree.specs.declared.limits.TheConstants.{MOST_VARIABLES}
+use Rattle.flow_edges.specs.declared.limits.TheConstants.{MOST_POINTS, MOST_CHECKS}
+use Rattle.lang_tree.specs.declared.limits.TheConstants.{MOST_VARIABLES, MOST_HIDDEN}
 
 -- ---- a program's limits
 -- a program's numbers of variables and nodes, and its statements, are within the limits
@@ -40,27 +42,28 @@ pub record Limits (n : ℕ) (body : Statements) : Type 0 where
   pub some_name : 1 ≤ n
   -- there are at most as many variables as allowed
   pub names : n ≤ MOST_VARIABLES
-  -- there are at most 512 nodes
-  pub nodes : nodes_in body ≤ 512
+  -- there are at most 4096 nodes
+  pub nodes : nodes_in body ≤ 4096
   -- the statements are within the limits
-  pub statements : IsTrue (are_statements n false body)
+  pub statements : IsTrue (are_statements (n + MOST_HIDDEN) false body)
 
 -- a program within the limits has each of its parts within them
 pub limits : (n : ℕ) (body : Statements) → IsTrue (is_program n body) → Limits n body
 limits n body h =
-    let p = and_parts (nat_le 1 n) (nat_le n MOST_VARIABLES && (nat_le (nodes_in body) 512 && are_statements n false body)) h in
-    let q = and_parts (nat_le n MOST_VARIABLES) (nat_le (nodes_in body) 512 && are_statements n false body) p.1 in
-    let r = and_parts (nat_le (nodes_in body) 512) (are_statements n false body) q.1 in
+    let p = and_parts (nat_le 1 n) (nat_le n MOST_VARIABLES && (nat_le (nodes_in body) 4096 && are_statements (n + MOST_HIDDEN) false
+    body)) h in
+    let q = and_parts (nat_le n MOST_VARIABLES) (nat_le (nodes_in body) 4096 && are_statements (n + MOST_HIDDEN) false body) p.1 in
+    let r = and_parts (nat_le (nodes_in body) 4096) (are_statements (n + MOST_HIDDEN) false body) q.1 in
     record {
       some_name = leb-true 1 n p.0;
       names = leb-true n MOST_VARIABLES q.0;
-      nodes = leb-true (nodes_in body) 512 r.0;
+      nodes = leb-true (nodes_in body) 4096 r.0;
       statements =
           r.1;
     }
 
--- a program within the limits has at most 514 points
-pub few_points : (n : ℕ) (body : Statements) → IsTrue (is_program n body) → point_count body ≤ 514
+-- a program within the limits has at most 4098 points
+pub few_points : (n : ℕ) (body : Statements) → IsTrue (is_program n body) → point_count body ≤ 4098
 few_points n body h = let l = limits n body h in omega (arith, few_in body, l.nodes)
 
 -- ---- what is ruled out by counting
@@ -131,16 +134,33 @@ nothing_cut body h =
 place_of_long : (body : Statements) → position is_long (kept_edges body) ≡ position is_long (edges_of_program body)
 place_of_long body = ap (position is_long) (walked_program body) ∙ long_place-kept (edges_of_program body)
 
--- where counting finds no fault and no kept edge is too long, the program has no fault
-pub no_fault : (body : Statements) → counted_fault body ≡ None → position is_long (kept_edges body) ≡ None → fault_of_program body ≡ None
-no_fault body h k =
-    ap (λ o. fault_or o (long_fault (edges_of_program body))) h ∙ ap (option_map (λ e. fault.Actions e)) (sym (place_of_long body) ∙ k)
+-- where counting finds no fault, the program's fault is that of the kept edges or of the checks
+after_counting : (body : Statements) (k : Option ℕ) → counted_fault body ≡ None → position is_long (kept_edges body) ≡ k
+    → fault_of_program body ≡ fault_or (option_map (λ e. fault.Actions e) k) (checks_fault body)
+after_counting body k h l =
+    ap (λ o. fault_or o (fault_or (long_fault (edges_of_program body)) (checks_fault body))) h
+    ∙ ap (λ o. fault_or (option_map (λ e. fault.Actions e) o) (checks_fault body)) (sym (place_of_long body) ∙ l)
+
+-- where counting finds no fault, no kept edge is too long and there are few checks, the program has no fault
+pub no_fault : (body : Statements) → counted_fault body ≡ None → position is_long (kept_edges body) ≡ None
+    → length (checks_in body) ≤ MOST_CHECKS → fault_of_program body ≡ None
+no_fault body h k l =
+    after_counting body None h k
+    ∙ ap (λ b. let o : Option FlowFault = (if b then Some (fault.Checks (length (checks_in body))) else None) in o)
+    (le-ltb MOST_CHECKS (length (checks_in body)) l)
 
 -- where counting finds no fault, the first kept edge that is too long is the program's fault
 pub long_faulted : (body : Statements) (k : ℕ) → counted_fault body ≡ None → position is_long (kept_edges body) ≡ Some k
     → fault_of_program body ≡ Some (fault.Actions k)
-long_faulted body k h l =
-    ap (λ o. fault_or o (long_fault (edges_of_program body))) h ∙ ap (option_map (λ e. fault.Actions e)) (sym (place_of_long body) ∙ l)
+long_faulted body k h l = after_counting body (Some k) h l
+
+-- where counting finds no fault and no kept edge is too long, the checks are it where they are too many
+pub checks_faulted : (body : Statements) → counted_fault body ≡ None → position is_long (kept_edges body) ≡ None
+    → MOST_CHECKS < length (checks_in body) → fault_of_program body ≡ Some (fault.Checks (length (checks_in body)))
+checks_faulted body h k l =
+    after_counting body None h k
+    ∙ ap (λ b. let o : Option FlowFault = (if b then Some (fault.Checks (length (checks_in body))) else None) in o)
+    (lt-ltb MOST_CHECKS (length (checks_in body)) l)
 
 -- where counting finds no fault, there are fewer than 2 ^ 32 edges
 pub few_kept : (body : Statements) → counted_fault body ≡ None → length (kept_edges body) < 2 ^ 32
@@ -229,14 +249,16 @@ program_within names body h k l =
     let count : length points ≡ point_count body = (numbering body).count in
     let few : length points ≤ MOST_POINTS = omega (arith, (none_counted body k).0) in
     let two : 2 ≤ length points = omega arith in
-    let all : IsTrue (list_all (is_edge n (length points)) edges) = rw count (edges_within n body o.statements l) in
+    let all : IsTrue (list_all (is_edge (n + MOST_HIDDEN) (length points)) edges) = rw count
+    (edges_within (n + MOST_HIDDEN) body o.statements l) in
     and_from (nat_le 1 n && nat_le n MOST_VARIABLES) _ (and_from (nat_le 1 n) (nat_le n MOST_VARIABLES) (le-leb 1 n o.some_name)
     (le-leb n MOST_VARIABLES o.names))
     (and_from (nat_le 2 (length points) && nat_le (length points) MOST_POINTS) _
     (and_from (nat_le 2 (length points)) (nat_le (length points) MOST_POINTS) (le-leb 2 (length points) two)
     (le-leb (length points) MOST_POINTS few))
     (and_from (begins_with_entry points && list_all has_line points) _ (points_within body)
-    (and_from (nat_le (length edges) 256) (list_all (is_edge n (length points)) edges) (le-leb (length edges) 256 (few_edges body k)) all)))
+    (and_from (nat_le (length edges) 256) (list_all (is_edge (n + MOST_HIDDEN) (length points)) edges)
+    (le-leb (length edges) 256 (few_edges body k)) all)))
 
 -- where there is no fault, names, points and edges are a flow within the limits
 pub flow_within : (names : List (List ℕ)) (points : List Point) (edges : List Edge) (body : Statements)

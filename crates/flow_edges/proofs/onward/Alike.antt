@@ -2,7 +2,8 @@
 use Rattle.std.proofs.Common.{◌≡◌, ◌∙◌, ℕ, ◌+◌, Bool, true, false, List, [], ◌∷◌, ◌++◌, refl, sym, ap₂}
 use Rattle.std.specs.Prelude.{◌||◌, if◌then◌else◌}
 use Rattle.lang_tree.specs.declared.form.Form.{Form}
-use Rattle.lang_tree.specs.Tree.{Condition, LoopKind, while_loop, for_loop, do_loop, breaks, continues}
+use Rattle.lang_tree.specs.Tree.{Condition, Deed, sets, havocs, wheres, checks, LoopKind, while_loop, for_loop, do_loop}
+use Rattle.lang_tree.specs.Tree.{breaks, continues, returns}
 use Rattle.lang_tree.specs.Tree.{Statement, Statements, set, havoc, assume, only_where, check, branch, loop, jump, label, nil, cons}
 use Rattle.lang_tree.specs.Cases.{cases_of}
 use Rattle.lang_tree.specs.PointNumbers.{splits, points_of, points_in, join_of}
@@ -10,8 +11,8 @@ use Rattle.flow_edges.specs.declared.edge.Action.{Action}
 use Rattle.flow_edges.specs.declared.edge.Action.TheVariants.{Assign, Havoc, Check}
 use Rattle.flow_edges.specs.declared.edge.Edge.{Edge}
 use Rattle.flow_edges.specs.Steps.{guards}
-use Rattle.flow_edges.specs.Edges.{Way, arrived, prefixed, by_case, changed, Jumps, end_ways, loop_jumps, ways_of, ways_in, body_ways}
-use Rattle.flow_edges.specs.Edges.{turn_ways, head_ways, complete, completes}
+use Rattle.flow_edges.specs.Edges.{Way, arrived, prefixed, by_case, deeds_ways, test_ways, Jumps, end_ways, loop_jumps, ways_of, ways_in}
+use Rattle.flow_edges.specs.Edges.{body_ways, head_ways, complete, completes}
 use Rattle.flow_edges.specs.Trails.{Begun, begun_at, followed, reached, split, walked, edges_in_node, edges_in_nodes}
 use Rattle.flow_edges.proofs.trail.TrailLemmas.{append-kept, reached-append, reached-prefixed, reached-by_case}
 
@@ -55,7 +56,8 @@ alike_append us vs xs ys h k = record {
       ∙ sym (reached-append b vs ys);
 }
 
-alike_both : (c : Condition) (us vs xs ys : List Way) → Alike us vs → Alike xs ys
+-- a choice between alike ways is alike
+pub alike_both : (c : Condition) (us vs xs ys : List Way) → Alike us vs → Alike xs ys
     → Alike (by_case true c us ++ by_case false c xs) (by_case true c vs ++ by_case false c ys)
 alike_both c us vs xs ys h k =
     alike_append (by_case true c us) (by_case true c vs) (by_case false c xs) (by_case false c ys) (alike_by_case true c us vs h)
@@ -72,6 +74,8 @@ pub record AlikeJumps (j k : Jumps) : Type 0 where
   pub broken : Alike j.broken k.broken
   -- those of a `continue`
   pub continued : Alike j.continued k.continued
+  -- those of a `return`
+  pub returned : Alike j.returned k.returned
 
 mutual
   alike_of : (s : Statement) (n : ℕ) (j k : Jumps) (us vs : List Way) → AlikeJumps j k → Alike us vs
@@ -88,6 +92,7 @@ mutual
   alike_of (loop kind c body line) n j k us vs a h = alike_same (arrived n)
   alike_of (jump breaks line) n j k us vs a h = a.broken
   alike_of (jump continues line) n j k us vs a h = a.continued
+  alike_of (jump returns line) n j k us vs a h = a.returned
   alike_of (label name line) n j k us vs a h = alike_same (arrived n)
 
   -- with alike ways of jumps and alike ways onward, the ways along statements are alike
@@ -98,32 +103,46 @@ mutual
       alike_of s n j k (ways_in rest (n + points_of s) j us) (ways_in rest (n + points_of s) k vs) a
       (alike_in rest (n + points_of s) j k us vs a h)
 
+-- with alike ways onward, the ways along deeds are alike
+pub alike_deeds : (ds : List Deed) (us vs : List Way) → Alike us vs → Alike (deeds_ways ds us) (deeds_ways ds vs)
+alike_deeds [] us vs h = h
+alike_deeds (sets var form line ∷ ds) us vs h = alike_prefixed (Assign var form ∷ []) (deeds_ways ds us) (deeds_ways ds vs)
+    (alike_deeds ds us vs h)
+alike_deeds (havocs var line ∷ ds) us vs h = alike_prefixed (Havoc var ∷ []) (deeds_ways ds us) (deeds_ways ds vs) (alike_deeds ds us vs h)
+alike_deeds (wheres c line ∷ ds) us vs h = alike_by_case true c (deeds_ways ds us) (deeds_ways ds vs) (alike_deeds ds us vs h)
+alike_deeds (checks about c line ∷ ds) us vs h = alike_prefixed (Check about ∷ []) (deeds_ways ds us) (deeds_ways ds vs)
+    (alike_deeds ds us vs h)
+
+alike_test : (c : Condition) (n : ℕ) (us vs : List Way) → Alike us vs → Alike (test_ways c n us) (test_ways c n vs)
+alike_test c n us vs h = alike_both c (arrived n) (arrived n) us vs (alike_same (arrived n)) h
+
 alike_end : (kind : LoopKind) (c : Condition) (n : ℕ) (us vs : List Way) → Alike us vs → Alike (end_ways kind c n us) (end_ways kind c n vs)
-alike_end while_loop c n us vs h = alike_same (arrived n)
-alike_end (for_loop g) c n us vs h = alike_same (changed g (arrived n))
-alike_end do_loop c n us vs h = alike_both c (arrived n) (arrived n) us vs (alike_same (arrived n)) h
+alike_end (while_loop p) c n us vs h = alike_same (arrived n)
+alike_end (for_loop p g) c n us vs h = alike_same (deeds_ways g (arrived n))
+alike_end (do_loop p) c n us vs h = alike_deeds p (test_ways c n us) (test_ways c n vs) (alike_test c n us vs h)
 
-alike_jumps : (kind : LoopKind) (c : Condition) (n : ℕ) (us vs : List Way) → Alike us vs
-    → AlikeJumps (loop_jumps kind c n us) (loop_jumps kind c n vs)
-alike_jumps kind c n us vs h = record { broken = h; continued = alike_end kind c n us vs h }
+alike_jumps : (kind : LoopKind) (c : Condition) (n : ℕ) (us vs x y : List Way) → Alike us vs → Alike x y
+    → AlikeJumps (loop_jumps kind c n us x) (loop_jumps kind c n vs y)
+alike_jumps kind c n us vs x y h back = record { broken = h; continued = alike_end kind c n us vs h; returned = back }
 
-alike_body : (kind : LoopKind) (c : Condition) (body : Statements) (n : ℕ) (us vs : List Way) → Alike us vs
-    → Alike (body_ways kind c body n us) (body_ways kind c body n vs)
-alike_body kind c body n us vs h =
-    alike_in body (n + 1) (loop_jumps kind c n us) (loop_jumps kind c n vs) (end_ways kind c n us) (end_ways kind c n vs)
-    (alike_jumps kind c n us vs h)
+alike_body : (kind : LoopKind) (c : Condition) (body : Statements) (n : ℕ) (us vs x y : List Way) → Alike us vs → Alike x y
+    → Alike (body_ways kind c body n us x) (body_ways kind c body n vs y)
+alike_body kind c body n us vs x y h back =
+    alike_in body (n + 1) (loop_jumps kind c n us x) (loop_jumps kind c n vs y) (end_ways kind c n us) (end_ways kind c n vs)
+    (alike_jumps kind c n us vs x y h back)
     (alike_end kind c n us vs h)
 
-alike_turn : (kind : LoopKind) (c : Condition) (body : Statements) (n : ℕ) (us vs : List Way) → Alike us vs
-    → Alike (turn_ways kind c body n us) (turn_ways kind c body n vs)
-alike_turn kind c body n us vs h = alike_both c (body_ways kind c body n us) (body_ways kind c body n vs) us vs
-    (alike_body kind c body n us vs h) h
+alike_into : (kind : LoopKind) (c : Condition) (body : Statements) (n : ℕ) (us vs x y : List Way) → Alike us vs → Alike x y
+    → Alike (by_case true c (body_ways kind c body n us x) ++ by_case false c us)
+    (by_case true c (body_ways kind c body n vs y) ++ by_case false c vs)
+alike_into kind c body n us vs x y h back = alike_both c (body_ways kind c body n us x) (body_ways kind c body n vs y) us vs
+    (alike_body kind c body n us vs x y h back) h
 
-alike_head : (kind : LoopKind) (c : Condition) (body : Statements) (n : ℕ) (us vs : List Way) → Alike us vs
-    → Alike (head_ways kind c body n us) (head_ways kind c body n vs)
-alike_head while_loop c body n us vs h = alike_turn while_loop c body n us vs h
-alike_head (for_loop g) c body n us vs h = alike_turn (for_loop g) c body n us vs h
-alike_head do_loop c body n us vs h = alike_body do_loop c body n us vs h
+alike_head : (kind : LoopKind) (c : Condition) (body : Statements) (n : ℕ) (us vs x y : List Way) → Alike us vs → Alike x y
+    → Alike (head_ways kind c body n us x) (head_ways kind c body n vs y)
+alike_head (while_loop p) c body n us vs x y h back = alike_deeds p _ _ (alike_into (while_loop p) c body n us vs x y h back)
+alike_head (for_loop p g) c body n us vs x y h back = alike_deeds p _ _ (alike_into (for_loop p g) c body n us vs x y h back)
+alike_head (do_loop p) c body n us vs x y h back = alike_body (do_loop p) c body n us vs x y h back
 
 -- ---- the edges from the points of statements
 edges_if : (b : Bool) (xs ys : List Edge) → xs ≡ ys → (if b then xs else []) ≡ (if b then ys else [])
@@ -147,9 +166,10 @@ mutual
       (ap₂ (λ x y. x ++ y) (edges_alike_in second (n + points_in first) j k (arrived join) (arrived join) a same)
       (edges_if (complete first || complete second) (reached (begun_at join) us) (reached (begun_at join) vs) (h.at (begun_at join))))
   edges_alike_of (loop kind c body line) n j k us vs a h =
-      ap₂ (λ x y. x ++ y) ((alike_head kind c body n us vs h).at (begun_at n))
-      (edges_alike_in body (n + 1) (loop_jumps kind c n us) (loop_jumps kind c n vs) (end_ways kind c n us) (end_ways kind c n vs)
-      (alike_jumps kind c n us vs h)
+      ap₂ (λ x y. x ++ y) ((alike_head kind c body n us vs j.returned k.returned h a.returned).at (begun_at n))
+      (edges_alike_in body (n + 1) (loop_jumps kind c n us j.returned) (loop_jumps kind c n vs k.returned) (end_ways kind c n us)
+      (end_ways kind c n vs)
+      (alike_jumps kind c n us vs j.returned k.returned h a.returned)
       (alike_end kind c n us vs h))
   edges_alike_of (jump kind line) n j k us vs a h = refl
   edges_alike_of (label name line) n j k us vs a h = h.at (begun_at n)

@@ -2,9 +2,8 @@
 use Rattle.std.proofs.Common.{◌≡◌, ℕ, true, false, List, [], ◌∷◌, length, refl}
 use Rattle.std.specs.Prelude.{ℤ, pos, negsuc}
 use Rattle.lang_tree.specs.declared.form.Form.{Form}
-use Rattle.lang_tree.specs.declared.change.Change.TheVariants as change
 use Rattle.lang_tree.specs.declared.cond.Rel.TheVariants.{Ne, Lt, Le, Eq, Ge}
-use Rattle.lang_tree.specs.Tree.{Condition, free, compare, both, either, while_loop, for_loop, do_loop, breaks, continues}
+use Rattle.lang_tree.specs.Tree.{Condition, free, compare, both, either, sets, while_loop, for_loop, do_loop, breaks, continues}
 use Rattle.lang_tree.specs.Tree.{Statements, set, havoc, assume, branch, loop, jump, label, nil, cons}
 use Rattle.lang_tree.specs.Cases.{cases_of}
 use Rattle.flow_edges.specs.declared.edge.Action.{Action}
@@ -32,7 +31,7 @@ edge from to actions = record { from = from; to = to; actions = actions }
 
 -- ---- int x = 0; while (x < 100) { x = x + 1; }
 abbrev pub counting : Statements
-counting = cons (set 0 (form (pos 0) (pos 0)) 1) (cons (loop while_loop (compare Lt (form (pos 1) (negsuc 99)))
+counting = cons (set 0 (form (pos 0) (pos 0)) 1) (cons (loop (while_loop []) (compare Lt (form (pos 1) (negsuc 99)))
     (cons (set 0 (form (pos 1) (pos 1)) 1) nil) 1) nil)
 
 counting_points : points_of_program counting ≡ point Entry 0 ∷ (point Loop 1 ∷ (point Exit 0 ∷ []))
@@ -52,7 +51,7 @@ counting_followed = refl
 
 -- ---- int x = 5; while (x != 0) { x = x - 1; }
 abbrev falling : Statements
-falling = cons (set 0 (form (pos 0) (pos 5)) 1) (cons (loop while_loop (compare Ne (form (pos 1) (pos 0)))
+falling = cons (set 0 (form (pos 0) (pos 5)) 1) (cons (loop (while_loop []) (compare Ne (form (pos 1) (pos 0)))
     (cons (set 0 (form (pos 1) minus_one) 1) nil) 1) nil)
 
 -- two edges lead through the body, one for each side of 0
@@ -73,7 +72,7 @@ falling_followed = refl
 abbrev choosing : Statements
 choosing =
     cons (set 0 (form (pos 0) (pos 0)) 1)
-    (cons (loop while_loop (compare Lt (form (pos 1) (negsuc 99)))
+    (cons (loop (while_loop []) (compare Lt (form (pos 1) (negsuc 99)))
     (cons (branch (compare Lt (form (pos 1) (negsuc 49))) (cons (set 0 (form (pos 1) (pos 1)) 1) nil)
     (cons (set 0 (form (pos 1) (pos 2)) 1) nil) 1) nil) 1) nil)
 
@@ -124,7 +123,7 @@ placing_followed = refl
 
 -- ---- int x = 0; do { x = x + 2; } while (x < 5);
 abbrev doing : Statements
-doing = cons (set 0 (form (pos 0) (pos 0)) 1) (cons (loop do_loop (compare Lt (form (pos 1) (negsuc 4)))
+doing = cons (set 0 (form (pos 0) (pos 0)) 1) (cons (loop (do_loop []) (compare Lt (form (pos 1) (negsuc 4)))
     (cons (set 0 (form (pos 1) (pos 2)) 1) nil) 1) nil)
 
 doing_points : points_of_program doing ≡ point Entry 0 ∷ (point Loop 1 ∷ (point Exit 0 ∷ []))
@@ -147,7 +146,7 @@ doing_followed = refl
 abbrev breaking : Statements
 breaking =
     cons (set 0 (form (pos 0) (pos 0)) 1)
-    (cons (loop (for_loop change.Unchanged) (compare Le (form (pos 0) (pos 0)))
+    (cons (loop (for_loop [] []) (compare Le (form (pos 0) (pos 0)))
     (cons (branch (compare Ge (form (pos 1) (negsuc 4))) (cons (jump breaks 1) nil) nil 1)
     (cons (set 0 (form (pos 1) (pos 1)) 1) nil)) 1) nil)
 
@@ -181,7 +180,7 @@ abbrev continuing : Statements
 continuing =
     cons (set 0 (form_of_two (pos 0) (pos 0) (pos 0)) 1)
     (cons (set 1 (form_of_two (pos 0) (pos 0) (pos 0)) 1)
-    (cons (loop (for_loop (change.Set 1 counted_on 1)) (compare Lt (form_of_two (pos 0) (pos 1) (negsuc 3)))
+    (cons (loop (for_loop [] (sets 1 counted_on 1 ∷ [])) (compare Lt (form_of_two (pos 0) (pos 1) (negsuc 3)))
     (cons (branch (compare Eq (form_of_two (pos 0) (pos 1) (negsuc 1))) (cons (jump continues 1) nil) nil 1)
     (cons (set 0 (form_of_two (pos 1) (pos 0) (pos 1)) 1) nil)) 1) nil))
 
@@ -212,7 +211,7 @@ continuing_followed = refl
 abbrev leaving : Statements
 leaving =
     cons (set 0 (form (pos 0) (pos 0)) 1)
-    (cons (loop while_loop (compare Lt (form (pos 1) (negsuc 2)))
+    (cons (loop (while_loop []) (compare Lt (form (pos 1) (negsuc 2)))
     (cons (jump breaks 1)
     (cons (label (109 ∷ (105 ∷ (100 ∷ []))) 1)
     (cons (branch free (cons (set 0 (form (pos 0) (pos 1)) 1) nil) nil 1)
@@ -239,7 +238,8 @@ leaving_followed = refl
 abbrev jumping : Statements
 jumping =
     cons (set 0 (form (pos 0) (pos 0)) 1)
-    (cons (loop do_loop (compare Lt (form (pos 1) (negsuc 4))) (cons (branch free (cons (jump continues 1) nil) (cons (jump breaks 1) nil)
+    (cons (loop (do_loop []) (compare Lt (form (pos 1) (negsuc 4)))
+    (cons (branch free (cons (jump continues 1) nil) (cons (jump breaks 1) nil)
     1) nil) 1) nil)
 
 jumping_points : points_of_program jumping ≡ point Entry 0 ∷ (point Loop 1 ∷ (point Join 1 ∷ (point Exit 0 ∷ [])))

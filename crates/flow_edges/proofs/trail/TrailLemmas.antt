@@ -1,19 +1,23 @@
 -- Edges that are begun, and more actions after them.
 use Rattle.std.proofs.Common.{◌≡◌, ◌∙◌, ⊎_elim, ℕ, zero, suc, ◌+◌, ◌≤◌, ◌<◌, Bool, true, false, List, [], ◌∷◌, ◌++◌, length, get_or, take}
+use Rattle.std.proofs.Common.{drop}
 use Rattle.std.proofs.Common.{refl, sym, ap, ap₂, arith}
 use Rattle.std.proofs.Common.{append_assoc, length-append}
 use Rattle.std.specs.Prelude.{flat_map}
+use Rattle.std.proofs.lemmas.Grind.{flat_map-append}
+use Rattle.std.proofs.lemmas.List.Folds.{flat_map-map}
 use Rattle.std.proofs.lemmas.List.{map-append, append-nil, take_more, take_all, take-append-le, take-take, length-take}
 use Rattle.lang_tree.specs.declared.form.Form.{Form}
-use Rattle.lang_tree.specs.Tree.{Condition}
+use Rattle.lang_tree.specs.Tree.{Condition, Deed, sets, havocs, wheres, checks}
 use Rattle.lang_tree.specs.Cases.{cases_of}
 use Rattle.flow_edges.specs.declared.edge.Action.{Action}
-use Rattle.flow_edges.specs.declared.edge.Action.TheVariants.{Guard}
+use Rattle.flow_edges.specs.declared.edge.Action.TheVariants.{Guard, Assign, Havoc, Check}
 use Rattle.flow_edges.specs.declared.edge.Edge.{Edge}
 use Rattle.flow_edges.specs.Steps.{guards}
-use Rattle.flow_edges.specs.Edges.{Way, prefixed, by_case}
-use Rattle.flow_edges.specs.Trails.{Begun, kept, followed, reached, split}
+use Rattle.flow_edges.specs.Edges.{Way, prefixed, by_case, deed_ways, deeds_ways}
+use Rattle.flow_edges.specs.Trails.{Begun, begun_at, kept, followed, reached, split, by_cases, begun_by, begun_along}
 use Rattle.flow_edges.proofs.count.Counting.{either_way}
+use Rattle.flow_edges.proofs.edge_walk.Loops.{loop_end}
 
 -- of at most 257 actions all are kept
 pub kept_all : (xs : List Action) → length xs ≤ 257 → kept xs ≡ xs
@@ -111,6 +115,57 @@ chosen before middle after b t c held failed us vs xs ys p f g u v h i =
     i ∙ ap₂ (λ z w. z ++ w) (h ∙ ap (λ z. before ++ z) one) other ∙ append_assoc before (split b (cases_of true c) us)
     (split b (cases_of false c) vs)
     ∙ ap (λ z. before ++ z) (sym (reached-both b c us vs))
+
+-- ---- the edges that go on along deeds
+module _ {A B C : Type 0} where
+  flat_map-join : (f : B → List C) (g : A → List B) (xs : List A) → flat_map f (flat_map g xs) ≡ flat_map (λ x. flat_map f (g x)) xs
+  flat_map-join f g [] = refl
+  flat_map-join f g (x ∷ xs) = flat_map-append f (g x) (flat_map g xs) ∙ ap (λ z. flat_map f (g x) ++ z) (flat_map-join f g xs)
+
+module _ {A C : Type 0} where
+  flat_map_same : (f g : A → List C) → ((x : A) → f x ≡ g x) → (xs : List A) → flat_map f xs ≡ flat_map g xs
+  flat_map_same f g e [] = refl
+  flat_map_same f g e (x ∷ xs) = ap₂ (λ u v. u ++ v) (e x) (flat_map_same f g e xs)
+
+split_cases : (b : Begun) (cases : List (List Form)) (ways : List Way) → flat_map (λ t. reached t ways) (by_cases cases b)
+    ≡ split b cases ways
+split_cases b cases ways = flat_map-map (λ t. reached t ways) (λ forms. followed b (guards forms)) cases
+
+reached_by : (b : Begun) (a : Action) (ways : List Way)
+    → flat_map (λ t. reached t ways) (followed b (a ∷ []) ∷ []) ≡ reached b (prefixed (a ∷ []) ways)
+reached_by b a ways = append-nil (reached (followed b (a ∷ [])) ways) ∙ sym (reached-prefixed b (a ∷ []) ways)
+
+reached_deed : (d : Deed) (ways : List Way) (b : Begun) → flat_map (λ t. reached t ways) (begun_by d b) ≡ reached b (deed_ways d ways)
+reached_deed (sets var form line) ways b = reached_by b (Assign var form) ways
+reached_deed (havocs var line) ways b = reached_by b (Havoc var) ways
+reached_deed (wheres c line) ways b = split_cases b (cases_of true c) ways ∙ sym (reached-by_case b true c ways)
+reached_deed (checks about c line) ways b = reached_by b (Check about) ways
+
+reached_along : (ds : List Deed) (ways : List Way) (bs : List Begun)
+    → flat_map (λ b. reached b ways) (begun_along ds bs) ≡ flat_map (λ b. reached b (deeds_ways ds ways)) bs
+reached_along [] ways bs = refl
+reached_along (d ∷ ds) ways bs =
+    let later = deeds_ways ds ways in
+    reached_along ds ways (flat_map (begun_by d) bs)
+    ∙ flat_map-join {A = Begun} {B = Begun} {C = Edge} (λ b. reached b later) (begun_by d) bs
+    ∙ flat_map_same {A = Begun} {C = Edge} (λ b. flat_map (λ t. reached t later) (begun_by d b)) (λ b. reached b (deed_ways d later))
+    (reached_deed d later) bs
+
+-- the edges that are begun along deeds and go on by ways go on by the ways along the deeds
+pub reached_from : (p : ℕ) (ds : List Deed) (ways : List Way) (trails : List Begun) → trails ≡ begun_along ds (begun_at p ∷ [])
+    → flat_map (λ b. reached b ways) trails ≡ reached (begun_at p) (deeds_ways ds ways)
+reached_from p ds ways trails e =
+    ap (flat_map (λ b. reached b ways)) e ∙ reached_along ds ways (begun_at p ∷ []) ∙ append-nil (reached (begun_at p) (deeds_ways ds ways))
+
+-- where a loop over the edges that are begun along deeds has gone on from each, the ways along the deeds have been walked
+pub walked_along : (p : ℕ) (ds : List Deed) (ways : List Way) (before after : List Edge) (trails items : List Begun) (i : ℕ)
+    → length items ≤ i → trails ≡ begun_along ds (begun_at p ∷ []) →
+    after ++ flat_map (λ b. reached b ways) (drop i items) ≡ before ++ flat_map (λ b. reached b ways) trails
+    → after ≡ before ++ reached (begun_at p) (deeds_ways ds ways)
+walked_along p ds ways before after trails items i l e h =
+    loop_end (flat_map (λ b. reached b ways)) (λ b. reached b ways) (λ x xs. refl) after
+    (before ++ flat_map (λ b. reached b ways) trails) items i l refl h
+    ∙ ap (λ z. before ++ z) (reached_from p ds ways trails e)
 
 -- one guard more
 guards_more : (forms : List Form) (i : ℕ) (x : Form) → i < length forms → x ≡ get_or forms i x

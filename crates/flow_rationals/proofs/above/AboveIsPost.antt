@@ -1,9 +1,10 @@
 -- Where the values at the loop are above the equations, the vector is a post-solution.
 use Rattle.std.proofs.Common.{◌≡◌, ◌∙◌, ⊎_elim, ℕ, ◌+◌, ◌<◌, List, length, get_or, ap, sym, subst, arith}
-use Rattle.std.specs.Prelude.{slice_get, slice_set, Some, flat_map}
+use Rattle.std.specs.Prelude.{slice_get, Some, flat_map}
 use Rattle.std.specs.List.{enumerate_from}
 use Rattle.std.proofs.lemmas.Bool.{cases_eq}
-use Rattle.std.proofs.lemmas.List.{get_or-set_same, get_or-set_other, length-set}
+use Rattle.lang_tree.specs.Meaning.{put}
+use Rattle.lang_tree.proofs.Put.{get_or-put_same, get_or-put_other, put_size}
 use Rattle.std.proofs.lemmas.Option.{slice_get_within}
 use Rattle.base_facts.specs.Elements.{In}
 use Rattle.base_facts.proofs.elements.Membership.{of_map, of_flat_map}
@@ -61,25 +62,25 @@ module _ (equations : List Equation) (v : Vector) (sound : AreSound equations) (
     within : k < n
     within = slice_get_within equations k e s
 
-    abbrev passed : (q : ℚ) × ((u : Sum) → In sums u → valueℚ (sum_form u) (slice_set x n q) ≤ℚ zero_ℚ)
-        × (y ≡ slice_set (slice_set x n q) k q)
-    passed = passes_alternative n k sums x y (omega arith) t
+    abbrev passed : (q : ℚ) × ((u : Sum) → In sums u → valueℚ (sum_form u) (put zero_ℚ x n q) ≤ℚ zero_ℚ)
+        × (y ≡ put zero_ℚ (put zero_ℚ x n q) k q)
+    passed = passes_alternative n k sums x y t
 
     -- the value of the last variable, and the state before it is assigned to the name
     abbrev q : ℚ
     q = passed.0
 
     abbrev z : RationalState
-    z = slice_set x n q
+    z = put zero_ℚ x n q
 
     z_size : length z ≡ n + 1
-    z_size = length-set x n q ∙ size
+    z_size = put_size zero_ℚ x n q (omega (arith, size)) ∙ size
 
     last : get_or z n zero_ℚ ≡ q
-    last = get_or-set_same x n q zero_ℚ (omega arith)
+    last = get_or-put_same zero_ℚ x n q zero_ℚ
 
     kept : (i : ℕ) → i < n → get_or z i zero_ℚ ≡ get_or x i zero_ℚ
-    kept i l = get_or-set_other x n i q zero_ℚ (λ f. omega arith)
+    kept i l = get_or-put_other zero_ℚ x n i q (λ f. omega arith)
 
     good : (u : Sum) → In sums u → IsSound n u
     good = ((sound.each e (in_slice equations k e s)).alternatives sums m).each
@@ -97,13 +98,12 @@ module _ (equations : List Equation) (v : Vector) (sound : AreSound equations) (
 
     at_k : (r : ℕ) → r ≡ k → fin (get_or y r zero_ℚ) ≤ᴱ v 1 r
     at_k r d =
-        let inside : k < length z = (let a = z_size in let b = within in omega arith) in
-        let value : get_or y k zero_ℚ ≡ q = ap (λ w. get_or w k zero_ℚ) passed.2 ∙ get_or-set_same z k q zero_ℚ inside in
+        let value : get_or y k zero_ℚ ≡ q = ap (λ w. get_or w k zero_ℚ) passed.2 ∙ get_or-put_same zero_ℚ z k q zero_ℚ in
         subst (λ i. fin (get_or y i zero_ℚ) ≤ᴱ v 1 i) (sym d) (subst (λ w. fin w ≤ᴱ v 1 k) (sym value) below)
 
     other : (r : ℕ) → r < n → (r ≡ k → ⊥) → fin (get_or y r zero_ℚ) ≤ᴱ v 1 r
     other r h d =
-        let value : get_or y r zero_ℚ ≡ get_or x r zero_ℚ = ap (λ w. get_or w r zero_ℚ) passed.2 ∙ get_or-set_other z k r q zero_ℚ d
+        let value : get_or y r zero_ℚ ≡ get_or x r zero_ℚ = ap (λ w. get_or w r zero_ℚ) passed.2 ∙ get_or-put_other zero_ℚ z k r q d
         ∙ kept r h in
         subst (λ w. fin w ≤ᴱ v 1 r) (sym value) (before r h)
 

@@ -1,9 +1,9 @@
 -- Where a vector is a post-solution, its values at the loop are above the equations.
 use Rattle.std.proofs.Common.{◌≡◌, ◌∙◌, inl, inr, ℕ, ◌+◌, ◌<◌, List, [], ◌∷◌, ◌++◌, length, get_or, map, refl, ap, sym, subst, subst₂}
 use Rattle.std.proofs.Common.{arith, zero-add}
-use Rattle.std.specs.Prelude.{slice_get, slice_set, Some}
+use Rattle.std.specs.Prelude.{slice_get, Some}
 use Rattle.std.specs.List.{enumerate_from, range_with_len}
-use Rattle.std.proofs.lemmas.List.{get_or-set_same, get_or_append_left, get_or_push, get_or-map, length_push, length-map}
+use Rattle.std.proofs.lemmas.List.{get_or_append_left, get_or_push, get_or-map, length_push, length-map}
 use Rattle.std.proofs.lemmas.List.FromFn.{length-map-range_with_len, get_or-map-range_with_len}
 use Rattle.std.proofs.lemmas.Option.{slice_get_within, get_or_from_slice_get}
 use Rattle.base_facts.specs.Elements.{In}
@@ -13,6 +13,8 @@ use Rattle.base_numbers.specs.Extended.{Ext, neg_inf, fin, pos_inf, ◌≤ᴱ◌
 use Rattle.base_numbers.proofs.rational.Laws.{≤ℚ_refl, zero_lt_one, not_le_of_lt}
 use Rattle.base_numbers.proofs.extended.ExtendedLaws.{≤ᴱ_trans}
 use Rattle.base_numbers.proofs.tactics.Linarith.{lin_le, le, reads_all}
+use Rattle.lang_tree.specs.Meaning.{put}
+use Rattle.lang_tree.proofs.Put.{get_or-put_same}
 use Rattle.flow_systems.specs.States.{RationalState, valueℚ}
 use Rattle.flow_systems.specs.Equations.{Vector, Transition, PostSolution}
 use Rattle.flow_rationals.specs.declared.equation.Sum.{Sum}
@@ -78,7 +80,7 @@ module _ (equations : List Equation) (v : Vector) (sound : AreSound equations) (
       listed = contains_from_in (edges_of equations) (start_edge equations) (inl refl);
       starts = size;
       fits = fits_from equations v 0 state (λ r h. subst (λ b. fin (get_or state r zero_ℚ) ≤ᴱ b) (sym (entry r h)) tt);
-      trace = starts_pass (length equations) equations 0 state (omega arith)
+      trace = starts_pass (length equations) equations 0 state (omega arith) (omega (arith, size))
           (λ i j e s p. subst (λ m. get_or state m zero_ℚ ≡ e.start) (sym (zero-add i) ∙ p) (read i e s));
     }
 
@@ -133,7 +135,7 @@ module _ (equations : List Equation) (v : Vector) (sound : AreSound equations) (
           (asked u j))
 
       end : RationalState
-      end = slice_set all k (get_or all (length equations) zero_ℚ)
+      end = put zero_ℚ all k (get_or all (length equations) zero_ℚ)
 
       step : Transition (system_of equations) v (alternative_edge (length equations) k sums) all end
       unfolding end
@@ -145,14 +147,14 @@ module _ (equations : List Equation) (v : Vector) (sound : AreSound equations) (
         starts = all_size;
         fits = fits_from equations v 1 all (λ r h. subst (λ w. fin w ≤ᴱ v 1 r) (sym (name_read r h))
             (picked_fits top (v 1 r) (finite r h)));
-        trace = alternative_passes (length equations) k sums all guard;
+        trace = alternative_passes (length equations) k sums all (omega (arith, all_size)) guard;
       }
 
       q_below : fin q ≤ᴱ v 1 k
       unfolding end
       q_below =
           let l = slice_get_within equations k e s in
-          let value = get_or-set_same all k (get_or all (length equations) zero_ℚ) zero_ℚ (let size = all_size in omega arith)
+          let value = get_or-put_same zero_ℚ all k (get_or all (length equations) zero_ℚ) zero_ℚ
           ∙ last_read in
           subst (λ w. fin w ≤ᴱ v 1 k) value (fits_out equations v 1 end
           (post.closed (alternative_edge (length equations) k sums) all end step) k l)

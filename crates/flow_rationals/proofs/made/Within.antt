@@ -19,6 +19,8 @@ use Rattle.flow_edges.specs.declared.edge.Action.TheVariants.{Guard, Assign}
 use Rattle.flow_edges.specs.declared.edge.Edge.{Edge}
 use Rattle.flow_edges.specs.declared.point.Point.{Point}
 use Rattle.flow_edges.specs.FlowLimits.{is_action, is_edge, is_flow}
+use Rattle.flow_systems.proofs.EdgeActions.{edges_grow}
+use Rattle.lang_tree.specs.declared.limits.TheConstants.{MOST_HIDDEN}
 use Rattle.flow_templates.specs.Rows.{is_row, width_of, is_template}
 use Rattle.flow_templates.specs.Domains.{term, multiple}
 use Rattle.flow_systems.specs.SystemLimits.{is_over, is_system}
@@ -60,7 +62,7 @@ number_negated z h = rw (nat_abs-neg z) h
 is_form_of : (width : ℕ) (coeffs : List ℤ) (constant : ℤ) → length coeffs ≡ width → are_numbers coeffs ≡ true → is_number constant ≡ true →
     is_form width (record { coeffs = coeffs; constant = constant }) ≡ true
 is_form_of width coeffs constant e h k =
-    and_from (length coeffs == width) (are_numbers coeffs && is_number constant) (eq-eqb (length coeffs) width e)
+    and_from (nat_le (length coeffs) width) (are_numbers coeffs && is_number constant) (le-leb (length coeffs) width (omega (arith, e)))
     (and_from (are_numbers coeffs) (is_number constant) h k)
 
 multiple_form : (width : ℕ) (c : ℤ) (i : ℕ) (constant : ℤ) → is_number c ≡ true → is_number constant ≡ true →
@@ -208,8 +210,10 @@ flow_limits equations h =
     (and_from (nat_le 1 names) (nat_le names 12) (le-leb 1 names (omega arith)) (le-leb names 12 (omega arith)))
     (and_from true _ refl
     (and_from true _ refl
-    (and_from (nat_le (length edges) 256) (list_all (is_edge names 2) edges) (le-leb (length edges) 256 (few_edges equations sound))
-    (subst (λ k. list_all (is_edge k 2) edges ≡ true) (sym e) (edges_within equations sound)))))
+    (and_from (nat_le (length edges) 256) (list_all (is_edge (names + MOST_HIDDEN) 2) edges)
+    (le-leb (length edges) 256 (few_edges equations sound))
+    (edges_grow names (names + MOST_HIDDEN) 2 edges (omega arith)
+    (subst (λ k. list_all (is_edge k 2) edges ≡ true) (sym e) (edges_within equations sound))))))
 
 -- variables, points and edges of equations within the limits are a flow within the limits
 pub flow_within : (equations : List Equation) (names : List (List ℕ)) (points : List Point) (edges : List Edge)

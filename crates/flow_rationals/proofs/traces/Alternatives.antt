@@ -1,8 +1,8 @@
 -- The traces of an alternative's edge: the name gets any value that is at most each sum.
 use Rattle.std.proofs.Common.{◌≡◌, ◌∙◌, inl, inr, ⊎_elim, ℕ, ◌+◌, ◌<◌, ℤ, neg_ℤ, List, [], ◌∷◌, ◌++◌, length, get_or, map, refl, ap, ap₂}
 use Rattle.std.proofs.Common.{sym, subst, arith}
-use Rattle.std.specs.Prelude.{slice_set}
-use Rattle.std.proofs.lemmas.List.{get_or-set_same, set-get_or}
+use Rattle.lang_tree.specs.Meaning.{put}
+use Rattle.lang_tree.proofs.Put.{get_or-put_same, put_again}
 use Rattle.base_facts.specs.Elements.{In}
 use Rattle.base_numbers.specs.Rational.{ℚ, whole, zero_ℚ, neg_ℚ, ◌+ℚ◌, ◌-ℚ◌, ◌*ℚ◌, ◌≤ℚ◌}
 use Rattle.base_numbers.specs.Extended.{fin}
@@ -84,20 +84,22 @@ last_value : (n : ℕ) (x : RationalState) → valueℚ (last_form n) x ≡ get_
 last_value n x = ap₂ (λ a b. a +ℚ b) (one_times (n + 1) n x (omega arith)) whole-zero ∙ +ℚ_idr (get_or x n zero_ℚ)
 
 -- from a state whose last value passes, the name gets this value
-pub alternative_passes : (n k : ℕ) (sums : List Sum) (x : RationalState) → ((s : Sum) → In sums s → valueℚ (sum_form s) x ≤ℚ zero_ℚ) →
-    Traces (alternative_actions n k sums) x (slice_set x k (get_or x n zero_ℚ))
-alternative_passes n k sums x h =
+pub alternative_passes : (n k : ℕ) (sums : List Sum) (x : RationalState) → n < length x
+    → ((s : Sum) → In sums s → valueℚ (sum_form s) x ≤ℚ zero_ℚ) →
+    Traces (alternative_actions n k sums) x (put zero_ℚ x k (get_or x n zero_ℚ))
+alternative_passes n k sums x l h =
     let q = get_or x n zero_ℚ in (
       q,
-      subst (λ z. Traces (map (λ s. Guard (sum_form s)) sums ++ Assign k (last_form n) ∷ []) z (slice_set x k q))
-          (sym (set-get_or x n zero_ℚ))
-          (guards_pass sums (Assign k (last_form n) ∷ []) x (slice_set x k q) h (ap (λ w. slice_set x k w) (sym (last_value n x)))),
+      subst (λ z. Traces (map (λ s. Guard (sum_form s)) sums ++ Assign k (last_form n) ∷ []) z (put zero_ℚ x k q))
+          (sym (put_again zero_ℚ x n zero_ℚ l))
+          (guards_pass sums (Assign k (last_form n) ∷ []) x (put zero_ℚ x k q) h (ap (λ w. put zero_ℚ x k w) (sym (last_value n x)))),
     )
 
 -- the state before the assignment, whose last value passes
-pub passes_alternative : (n k : ℕ) (sums : List Sum) (x y : RationalState) → n < length x → Traces (alternative_actions n k sums) x y →
-    (q : ℚ) × ((s : Sum) → In sums s → valueℚ (sum_form s) (slice_set x n q) ≤ℚ zero_ℚ) × (y ≡ slice_set (slice_set x n q) k q)
-passes_alternative n k sums x y l t =
-    let z = slice_set x n t.0 in
+pub passes_alternative : (n k : ℕ) (sums : List Sum) (x y : RationalState) → Traces (alternative_actions n k sums) x y →
+    (q : ℚ) × ((s : Sum) → In sums s → valueℚ (sum_form s) (put zero_ℚ x n q) ≤ℚ zero_ℚ)
+    × (y ≡ put zero_ℚ (put zero_ℚ x n q) k q)
+passes_alternative n k sums x y t =
+    let z = put zero_ℚ x n t.0 in
     let r = passes_guards sums (Assign k (last_form n) ∷ []) z y t.1 in
-    (t.0, r.0, r.1 ∙ ap (λ w. slice_set z k w) (last_value n z ∙ get_or-set_same x n t.0 zero_ℚ l))
+    (t.0, r.0, r.1 ∙ ap (λ w. put zero_ℚ z k w) (last_value n z ∙ get_or-put_same zero_ℚ x n t.0 zero_ℚ))

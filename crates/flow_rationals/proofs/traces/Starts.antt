@@ -1,8 +1,9 @@
 -- The traces of the edge into the loop: each name gets any value that is at most its start.
 use Rattle.std.proofs.Common.{◌≡◌, ◌∙◌, ℕ, zero, suc, ◌+◌, ◌<◌, ◌≤◌, pos, neg_ℤ, List, [], ◌∷◌, length, get_or, refl, ap, sym, subst, arith}
-use Rattle.std.specs.Prelude.{slice_get, slice_set, Some, flat_map}
+use Rattle.std.specs.Prelude.{slice_get, Some, flat_map}
 use Rattle.std.specs.List.{enumerate_from}
-use Rattle.std.proofs.lemmas.List.{get_or-set_other, set-get_or}
+use Rattle.lang_tree.specs.Meaning.{put}
+use Rattle.lang_tree.proofs.Put.{get_or-put_other, put_again}
 use Rattle.std.proofs.lemmas.Int.{ints}
 use Rattle.base_numbers.specs.Rational.{ℚ, whole, zero_ℚ, neg_ℚ, ◌+ℚ◌, ◌*ℚ◌, ◌≤ℚ◌, ◌<ℚ◌}
 use Rattle.base_numbers.proofs.rational.Reps.{rep, rep_eq, rep_mul, rep_whole, den_pos}
@@ -54,33 +55,34 @@ module _ (n : ℕ) where
   kept : (equations : List Equation) (k : ℕ) (x y : RationalState) → Traces (actions k equations) x y → (i : ℕ) → i < k
       → get_or y i zero_ℚ ≡ get_or x i zero_ℚ
   kept [] k x y t i l = ap (λ z. get_or z i zero_ℚ) t
-  kept (e ∷ equations) k x y t i l = kept equations (k + 1) (slice_set x k t.0) y t.1.1 i (omega arith)
-      ∙ get_or-set_other x k i t.0 zero_ℚ (λ f. omega arith)
+  kept (e ∷ equations) k x y t i l = kept equations (k + 1) (put zero_ℚ x k t.0) y t.1.1 i (omega arith)
+      ∙ get_or-put_other zero_ℚ x k i t.0 (λ f. omega arith)
 
   -- each of these names gets at most its start
   pub at_most_start : (equations : List Equation) (k : ℕ) (x y : RationalState) → Traces (actions k equations) x y →
       (i j : ℕ) (e : Equation) → slice_get equations i ≡ Some e → k + i ≡ j → j < n → get_or y j zero_ℚ ≤ℚ e.start
   at_most_start [] k x y t i j e s p l = absurd cc
   at_most_start (f ∷ equations) k x y t zero j e s p l =
-      let z = slice_set x k t.0 in
+      let z = put zero_ℚ x k t.0 in
       let same : f ≡ e = cc in
       let place : k ≡ j = omega arith in
       subst (λ g. get_or y j zero_ℚ ≤ℚ g.start) same (subst (λ m. get_or y m zero_ℚ ≤ℚ f.start) place
       (subst (λ q. q ≤ℚ f.start) (sym (kept equations (k + 1) z y t.1.1 k (omega arith))) (passes_start n k f.start z (omega arith) t.1.0)))
-  at_most_start (f ∷ equations) k x y t (suc i) j e s p l = at_most_start equations (k + 1) (slice_set x k t.0) y t.1.1 i j e s
+  at_most_start (f ∷ equations) k x y t (suc i) j e s p l = at_most_start equations (k + 1) (put zero_ℚ x k t.0) y t.1.1 i j e s
       (omega arith) l
 
   -- the starts themselves pass
-  pub starts_pass : (equations : List Equation) (k : ℕ) (x : RationalState) → k + length equations ≤ n →
+  pub starts_pass : (equations : List Equation) (k : ℕ) (x : RationalState) → k + length equations ≤ n → n ≤ length x →
       ((i j : ℕ) (e : Equation) → slice_get equations i ≡ Some e → k + i ≡ j → get_or x j zero_ℚ ≡ e.start)
       → Traces (actions k equations) x x
-  starts_pass [] k x l h = refl
-  starts_pass (e ∷ equations) k x l h =
-      let at = h 0 k e refl (omega arith) in (
+  starts_pass [] k x l m h = refl
+  starts_pass (e ∷ equations) k x l m h =
+      let at = h 0 k e refl (omega arith) in
+      let same = put_again zero_ℚ x k zero_ℚ (omega arith) in (
         get_or x k zero_ℚ,
-        subst (λ z. Traces (Guard (start_form n k e.start) ∷ actions (k + 1) equations) z x) (sym (set-get_or x k zero_ℚ)) (
+        subst (λ z. Traces (Guard (start_form n k e.start) ∷ actions (k + 1) equations) z x) (sym same) (
           start_passes n k e.start x (omega arith) at,
-          starts_pass equations (k + 1) x (omega arith)
+          starts_pass equations (k + 1) x (omega arith) m
               (λ i j f s p. h (suc i) j f s (omega arith)),
         ),
       )

@@ -1,12 +1,13 @@
 -- The least vector of int x = 0; while (x < 100) { x = x + 1; } over the rows x and -x, from the definitions alone.
 use Rattle.std.proofs.Common.{◌≡◌, inl, inr, ⊎_elim, ℕ, zero, suc, ◌<◌, List, [], ◌∷◌, length, refl, sym, subst, arith}
-use Rattle.std.specs.Prelude.{ℤ, pos, negsuc, slice_get, slice_set, Some}
+use Rattle.std.specs.Prelude.{ℤ, pos, negsuc, slice_get, Some}
 use Rattle.base_facts.specs.Elements.{In}
 use Rattle.base_numbers.specs.Rational.{ℚ, whole, zero_ℚ, ◌≤ℚ◌, ◌<ℚ◌}
 use Rattle.base_numbers.specs.Extended.{Ext, neg_inf, fin, pos_inf, ◌≤ᴱ◌, ◌<ᴱ◌}
 use Rattle.base_numbers.proofs.rational.Laws.{≤ℚ_refl, le_or_lt, le_of_lt_ℚ}
 use Rattle.base_numbers.proofs.extended.ExtendedLaws.{≤ᴱ_trans}
 use Rattle.base_numbers.proofs.tactics.Linarith.{lin_le, lin_eq, le, reads_all}
+use Rattle.lang_tree.specs.Meaning.{put}
 use Rattle.flow_edges.specs.declared.edge.Action.TheVariants.{Guard, Assign}
 use Rattle.flow_edges.specs.declared.edge.Edge.{Edge}
 use Rattle.flow_edges.proofs.steps.ElementLemmas.{in_contains, contains_in}
@@ -59,7 +60,7 @@ enters : (x y : RationalState) → Transition system bounds enter x y → Fits s
 enters x y t =
     let s = one_value x t.starts in
     let f = form (pos 0) (pos 0) in
-    let end : y ≡ valueℚ f (s.0 ∷ []) ∷ [] = subst (λ z. y ≡ slice_set z 0 (valueℚ f z)) (sym s.1) t.trace in
+    let end : y ≡ valueℚ f (s.0 ∷ []) ∷ [] = subst (λ z. y ≡ put zero_ℚ z 0 (valueℚ f z)) (sym s.1) t.trace in
     subst (λ z. Fits system bounds 1 z) (sym end)
     (both_fit bounds 1 (valueℚ f (s.0 ∷ []) ∷ []) (lin_le (s.0 ∷ []) [] (search reads_all depth 40) tt)
     (lin_le (s.0 ∷ []) [] (search reads_all depth 40) tt))
@@ -69,7 +70,7 @@ goes_again x y t =
     let s = one_value x t.starts in
     let q = s.0 in
     let at_q : RationalState → Type 0 = λ z. (valueℚ (form (pos 1) (negsuc 98)) z ≤ℚ zero_ℚ)
-    × (y ≡ slice_set z 0 (valueℚ (form (pos 1) (pos 1)) z)) in
+    × (y ≡ put zero_ℚ z 0 (valueℚ (form (pos 1) (pos 1)) z)) in
     let trace = subst at_q (sym s.1) t.trace in
     let fits = subst (λ z. Fits system bounds 1 z) (sym s.1) t.fits in
     let low = fits 1 (minus_one ∷ []) refl in

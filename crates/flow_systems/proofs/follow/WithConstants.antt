@@ -26,7 +26,7 @@ assign_with Kept var form = refl
 assign_with Zero var form = refl
 
 -- a free assignment stays as it is
-havoc_with : (constants : Constants) (var : ℕ) → action_with constants (Havoc var) ≡ Havoc var
+pub havoc_with : (constants : Constants) (var : ℕ) → action_with constants (Havoc var) ≡ Havoc var
 havoc_with Kept var = refl
 havoc_with Zero var = refl
 

@@ -20,7 +20,7 @@ use Rattle.flow_systems.specs.FreeValues.{free_count}
 use Rattle.flow_systems.specs.Cells.{is_havoc, guard_count, greatest, most}
 use Rattle.flow_systems.proofs.Sizes.{both, flow_sizes}
 use Rattle.flow_templates.specs.declared.limits.TheConstants.{MOST_ROWS}
-use Rattle.lang_tree.specs.declared.limits.TheConstants.{MOST_VARIABLES}
+use Rattle.lang_tree.specs.declared.limits.TheConstants.{MOST_VARIABLES, MOST_HIDDEN}
 
 -- the number of free assignments is the count of the actions that are free assignments
 pub free_count-is : (actions : List Action) → free_count actions ≡ count_by is_havoc actions
@@ -115,5 +115,5 @@ few_of count few flow edges p n e k = omega (
   arith,
   k,
   ap (λ es. most count es p) e,
-  most_few count few (length flow.names) (length flow.points) flow.edges p (flow_sizes flow).edges,
+  most_few count few (length flow.names + MOST_HIDDEN) (length flow.points) flow.edges p (flow_sizes flow).edges,
 )

@@ -1,11 +1,13 @@
 -- Sums from the left, product by product.
-use Rattle.std.proofs.Common.{◌≡◌, ◌∙◌, ◌==◌, ◌&&◌, ℕ, ◌+◌, ◌<◌, ◌≤◌, ℤ, pos, List, [], ◌∷◌, ◌++◌, length, get_or, drop, Bool, true, false}
+use Rattle.std.proofs.Common.{◌≡◌, ◌∙◌, ◌==◌, ◌&&◌, ℕ, ◌+◌, ◌<◌, ◌≤◌, ℤ, pos, List, [], ◌∷◌, ◌++◌}
+use Rattle.std.proofs.Common.{length, get_or, drop, min, Bool, true, false}
 use Rattle.std.proofs.Common.{true≢false, to_z, of_z, Option, Some, None, Result, MatchResult, MatchOption, IsSome, IsTrue, nat_abs, ◌⊎◌}
 use Rattle.std.proofs.Common.{⊎_elim, ◌≢◌, refl, ap, ap₂, sym, subst, subst₂, arith}
+use Rattle.std.specs.Prelude.{nat_le}
 use mir.Syntax.{w64}
 use Rattle.std.proofs.lemmas.Int.{ints, to_z-of_z}
 use Rattle.std.proofs.lemmas.List.Folds.{list_all_at}
-use Rattle.std.proofs.lemmas.Bool.{leb-true}
+use Rattle.std.proofs.lemmas.Bool.{leb-true, cases_lt}
 use Rattle.std.proofs.lemmas.List.{drop_more, drop_all}
 use Rattle.base_numbers.specs.Rational.{ℚ, whole, zero_ℚ, ◌+ℚ◌, ◌*ℚ◌, ◌/ℚ◌}
 use Rattle.base_numbers.proofs.rational.Parts.{num-whole, den-whole}
@@ -15,7 +17,7 @@ use Rattle.base_fractions.specs.Fits.{Fits, long_limit}
 use Rattle.base_fractions.specs.declared.wide.Op.TheVariants.{Add, Mul}
 use Rattle.base_fractions.specs.declared.wide.Wide.{Wide}
 use Rattle.lang_tree.specs.declared.form.Form.{Form}
-use Rattle.lang_tree.specs.Limits.{is_form}
+use Rattle.lang_tree.specs.Limits.{is_form, has_numbers}
 use Rattle.lang_tree.specs.Numbers.{is_number, are_numbers}
 use Rattle.base_fractions.specs.Operation.{Operation, first_wide, operation_of}
 use Rattle.flow_systems.specs.States.{RationalState, dotℚ, valueℚ}
@@ -71,13 +73,32 @@ module _ (row : List ℤ) (state : RationalState) (i : ℕ) (sum : ℚ) (h : IsS
       h.first ∙ ap (first_wide long_limit) left ∙ first_wide_sooner long_limit (product_operations sum c x)
       (products_operations (sum +ℚ (whole c *ℚ x)) (drop (i + 1) row) (drop (i + 1) state)) o w
 
--- all products
-pub summed_all : (row : List ℤ) (state : RationalState) (i : ℕ) (sum : ℚ) → length row ≤ i → IsSummed row state i sum
+-- a row without values
+dot_over : (cs : List ℤ) → dotℚ cs [] ≡ zero_ℚ
+dot_over [] = refl
+dot_over (c ∷ cs) = refl
+
+products_over : (sum : ℚ) (cs : List ℤ) → products_operations sum cs [] ≡ []
+products_over sum [] = refl
+products_over sum (c ∷ cs) = refl
+
+-- all products, up to the end of row or state
+pub summed_all : (row : List ℤ) (state : RationalState) (i : ℕ) (sum : ℚ) → min (length row) (length state) ≤ i → IsSummed row state i sum
     → (sum ≡ dotℚ row state) × (first_wide long_limit (row_operations row state) ≡ None)
-summed_all row state i sum l h = (
-  sym (h.value ∙ ap (λ cs. sum +ℚ dotℚ cs (drop i state)) (drop_all i row l) ∙ +ℚ_idr sum),
-  h.first ∙ ap (λ cs. first_wide long_limit (products_operations sum cs (drop i state))) (drop_all i row l),
-)
+summed_all row state i sum m h =
+    ⊎_elim (λ l.
+    let over : length state ≤ i = omega (arith, l, m) in
+    let none = drop_all i state over in (
+      sym (h.value ∙ ap (λ xs. sum +ℚ dotℚ (drop i row) xs) none ∙ ap (λ s. sum +ℚ s) (dot_over (drop i row)) ∙ +ℚ_idr sum),
+      h.first ∙ ap (λ xs. first_wide long_limit (products_operations sum (drop i row) xs)) none
+          ∙ ap (first_wide long_limit) (products_over sum (drop i row)),
+    ))
+    (λ k.
+    let none = drop_all i row k in (
+      sym (h.value ∙ ap (λ cs. sum +ℚ dotℚ cs (drop i state)) none ∙ +ℚ_idr sum),
+      h.first ∙ ap (λ cs. first_wide long_limit (products_operations sum cs (drop i state))) none,
+    ))
+    (cases_lt i (length row))
 
 -- a product that is wide, and one that is added
 pub product_refused : (sum f x : ℚ) (c : ℤ) (w : Wide ℚ) → f ≡ whole c → ¬ (Fits long_limit (f *ℚ x))
@@ -160,7 +181,10 @@ form_added form state coeffs sum constant res e v n k m =
     (subst₂ (λ x y. SumAnswers (x +ℚ y) (record { op = Add; left = x; right = y } ∷ []) res) (v ∙ ap (λ cs. dotℚ cs state) e) k
     (one_answer Add sum constant res m))
 
--- the constant of a form within the limits is a number of a program
-pub constant_at : (n : ℕ) (form : Form) → IsTrue (is_form n form) → IsTrue (is_number form.constant)
-constant_at n form h = (both (are_numbers form.coeffs) (is_number form.constant)
-    (both (length form.coeffs == n) (are_numbers form.coeffs && is_number form.constant) h).1).1
+-- the coefficients and the constant of a form are numbers of a program
+pub numbers_at : (form : Form) → IsTrue (has_numbers form) → IsTrue (are_numbers form.coeffs) × IsTrue (is_number form.constant)
+numbers_at form h = both (are_numbers form.coeffs) (is_number form.constant) h
+
+-- a form within the limits has such numbers
+pub form_numbers : (n : ℕ) (form : Form) → IsTrue (is_form n form) → IsTrue (has_numbers form)
+form_numbers n form h = (both (nat_le (length form.coeffs) n) (has_numbers form) h).1

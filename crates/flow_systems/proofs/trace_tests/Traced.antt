@@ -1,7 +1,7 @@
 -- A trace that is followed action by action.
 use Rattle.std.proofs.Common.{◌≡◌, ◌∙◌, ℕ, ◌+◌, ◌<◌, ◌≤◌, ℤ, Bool, true, false, cond, List, [], ◌∷◌, length, get_or, drop, Some, None, refl}
 use Rattle.std.proofs.Common.{ap, sym, subst, true≢false, arith}
-use Rattle.std.specs.Prelude.{IsTrue, slice_set}
+use Rattle.std.specs.Prelude.{IsTrue}
 use Rattle.std.specs.List.{list_all}
 use Rattle.std.proofs.lemmas.List.{drop_more, drop_all, drop-drop, nil_from_length}
 use Rattle.std.proofs.lemmas.List.Folds.{list_all_at}
@@ -9,6 +9,7 @@ use Rattle.base_numbers.specs.Rational.{ℚ, zero_ℚ, le_ℚ, ◌≤ℚ◌}
 use Rattle.base_numbers.specs.Extended.{fin}
 use Rattle.flow_edges.specs.declared.edge.Action.{Action}
 use Rattle.flow_edges.specs.declared.edge.Action.TheVariants.{Guard, Assign, Havoc, Check}
+use Rattle.lang_tree.specs.Meaning.{put}
 use Rattle.lang_tree.specs.declared.form.Form.{Form}
 use Rattle.base_fractions.specs.Fits.{long_limit}
 use Rattle.base_fractions.specs.Operation.{Operation, first_wide}
@@ -46,7 +47,7 @@ module _ (form : Form) (x : RationalState) (free : List ℚ) where
   pub assign_refused : (var : ℕ) (o : Operation) → first_wide long_limit (form_operations form x) ≡ Some o
       → (rest : List Action) (row : List ℤ) → first_wide long_limit (trace_operations (Assign var form ∷ rest) x free row) ≡ Some o
   assign_refused var o w rest row = first_wide_sooner long_limit (form_operations form x)
-      (trace_operations rest (slice_set x var (valueℚ form x)) free row) o w
+      (trace_operations rest (put zero_ℚ x var (valueℚ form x)) free row) o w
 
   module _ (v : ℚ) (e : v ≡ valueℚ form x) (n : first_wide long_limit (form_operations form x) ≡ None) where
     -- a guard whose value is at most 0 leads on from the same state
@@ -72,15 +73,16 @@ module _ (form : Form) (x : RationalState) (free : List ℚ) where
         }
 
     -- an assignment leads on from the state with the form's value in its place
-    pub assigned : (var : ℕ) (rest : List Action) → LeadsOn (Assign var form ∷ rest) x free rest (slice_set x var v) free
+    pub assigned : (var : ℕ) (rest : List Action) → LeadsOn (Assign var form ∷ rest) x free rest (put zero_ℚ x var v) free
     assigned var rest = record {
       ends = λ y. (
-        λ f. subst (λ u. Follows rest (slice_set x var u) free y) (sym e) f,
-        λ f. subst (λ u. Follows rest (slice_set x var u) free y) e f,
+        λ f. subst (λ u. Follows rest (put zero_ℚ x var u) free y) (sym e) f,
+        λ f. subst (λ u. Follows rest (put zero_ℚ x var u) free y) e f,
       );
-      first = λ row. first_wide_later long_limit (form_operations form x) (trace_operations rest (slice_set x var (valueℚ form x)) free row)
+      first = λ row. first_wide_later long_limit (form_operations form x)
+          (trace_operations rest (put zero_ℚ x var (valueℚ form x)) free row)
           n
-          ∙ ap (λ u. first_wide long_limit (trace_operations rest (slice_set x var u) free row)) (sym e);
+          ∙ ap (λ u. first_wide long_limit (trace_operations rest (put zero_ℚ x var u) free row)) (sym e);
     }
 
 -- ---- all actions

@@ -7,10 +7,10 @@ use Rattle.base_facts.proofs.elements.Membership.{in_map, of_map, in_flat_map, o
 use Rattle.lang_tree.specs.declared.form.Form.{Form}
 use Rattle.lang_tree.specs.Tree.{Statement, Statements, set, havoc, assume, only_where, check, branch, loop, jump, label, nil, cons}
 use Rattle.lang_tree.specs.Cases.{cases_of}
-use Rattle.lang_tree.specs.Meaning.{State, value}
+use Rattle.lang_tree.specs.Meaning.{State, put, value}
 use Rattle.lang_tree.specs.Runs.{node, mark}
 use Rattle.lang_tree.specs.PointNumbers.{splits}
-use Rattle.std.specs.Prelude.{slice_set, if◌then◌else◌}
+use Rattle.std.specs.Prelude.{pos, if◌then◌else◌}
 use Rattle.flow_edges.specs.declared.edge.Action.{Action}
 use Rattle.flow_edges.specs.declared.edge.Action.TheVariants.{Guard, Assign, Havoc, Check}
 use Rattle.flow_edges.specs.Steps.{Labelled, labelled, guards, steps_of, Acts}
@@ -24,15 +24,15 @@ use Rattle.flow_transitions.specs.AutoLaws.{ChoicesAreActs}
 acts-append : (a b : List Action) (x y z : State) → Acts a x y → Acts b y z → Acts (a ++ b) x z
 acts-append [] b x y z h k = subst (λ w. Acts b w z) h k
 acts-append (Guard f ∷ a) b x y z h k = (h.0, acts-append a b x y z h.1 k)
-acts-append (Assign var f ∷ a) b x y z h k = acts-append a b (slice_set x var (value f x)) y z h k
-acts-append (Havoc var ∷ a) b x y z h k = (h.0, acts-append a b (slice_set x var h.0) y z h.1 k)
+acts-append (Assign var f ∷ a) b x y z h k = acts-append a b (put (pos 0) x var (value f x)) y z h k
+acts-append (Havoc var ∷ a) b x y z h k = (h.0, acts-append a b (put (pos 0) x var h.0) y z h.1 k)
 acts-append (Check about ∷ a) b x y z h k = acts-append a b x y z h k
 
 acts_split : (a b : List Action) (x z : State) → Acts (a ++ b) x z → (y : State) × Acts a x y × Acts b y z
 acts_split [] b x z h = (x, refl, h)
 acts_split (Guard f ∷ a) b x z h = let r = acts_split a b x z h.1 in (r.0, (h.0, r.1), r.2)
-acts_split (Assign var f ∷ a) b x z h = acts_split a b (slice_set x var (value f x)) z h
-acts_split (Havoc var ∷ a) b x z h = let r = acts_split a b (slice_set x var h.0) z h.1 in (r.0, (h.0, r.1), r.2)
+acts_split (Assign var f ∷ a) b x z h = acts_split a b (put (pos 0) x var (value f x)) z h
+acts_split (Havoc var ∷ a) b x z h = let r = acts_split a b (put (pos 0) x var h.0) z h.1 in (r.0, (h.0, r.1), r.2)
 acts_split (Check about ∷ a) b x z h = acts_split a b x z h
 
 -- ---- one act
@@ -40,7 +40,7 @@ acts_split (Check about ∷ a) b x z h = acts_split a b x z h
 abbrev recorded : Labelled → List Action
 recorded s = s.actions
 
-choices_are_steps : (n : ℕ) (s : Statement) → IsTrue (is_act n s) → choices_of s ≡ map recorded (steps_of (node s 0) [])
+choices_are_steps : (n : ℕ) (s : Statement) → IsTrue (is_act n s) → choices_of s ≡ map recorded (steps_of 0 (node s 0) [])
 choices_are_steps n (set var form line) h = refl
 choices_are_steps n (havoc var line) h = refl
 choices_are_steps n (assume c line) h = map_map (cases_of true c)
@@ -62,13 +62,13 @@ Chosen choices x y = (actions : List Action) × In choices actions × Acts actio
 
 act_chosen : (n : ℕ) (s : Statement) (x y : State) → IsTrue (is_act n s) → DoesAct s x y → Chosen (choices_of s) x y
 act_chosen n s x y h d =
-    let r = (steps_law (node s 0) [] x d.0 y (λ m. m)).0 d.1 in
-    (r.0.actions, subst (λ cs. In cs r.0.actions) (sym (choices_are_steps n s h)) (in_map recorded (steps_of (node s 0) []) r.0 r.1), r.3)
+    let r = (steps_law 0 (node s 0) [] x d.0 y (λ m. m)).0 d.1 in
+    (r.0.actions, subst (λ cs. In cs r.0.actions) (sym (choices_are_steps n s h)) (in_map recorded (steps_of 0 (node s 0) []) r.0 r.1), r.3)
 
 act_done : (n : ℕ) (s : Statement) (x y : State) → IsTrue (is_act n s) → Chosen (choices_of s) x y → DoesAct s x y
 act_done n s x y h c =
-    let r = of_map recorded (steps_of (node s 0) []) c.0 (subst (λ cs. In cs c.0) (choices_are_steps n s h) c.1) in
-    (r.0.work, (steps_law (node s 0) [] x r.0.work y (λ m. m)).1 (r.0, r.1, refl, subst (λ a. Acts a x y) (sym r.2) c.2))
+    let r = of_map recorded (steps_of 0 (node s 0) []) c.0 (subst (λ cs. In cs c.0) (choices_are_steps n s h) c.1) in
+    (r.0.work, (steps_law 0 (node s 0) [] x r.0.work y (λ m. m)).1 (r.0, r.1, refl, subst (λ a. Acts a x y) (sym r.2) c.2))
 
 -- ---- acts one after another
 abbrev then_later : Statements → List Action → List (List Action)

@@ -1,24 +1,27 @@
 -- Every post-solution of a transition system's edges holds along its runs.
 use Rattle.std.proofs.Common.{◌≡◌, ◌∙◌, ℕ, ◌<◌, inl, inr, ⊎_elim, Bool, true, false, cond, List, [], ◌∷◌, length, refl, sym, ap, subst}
 use Rattle.std.proofs.Common.{arith}
-use Rattle.std.specs.Prelude.{ℤ, pos, slice_set, ◌≤ℤ◌, IsTrue, filter}
+use Rattle.std.specs.Prelude.{ℤ, pos, IsTrue, filter, nat_lt}
 use Rattle.std.specs.List.{list_all, range_with_len}
-use Rattle.std.proofs.lemmas.Bool.{and_parts, eq-eqb}
-use Rattle.std.proofs.lemmas.List.{map-set, length-set, length-map}
+use Rattle.std.proofs.lemmas.Bool.{and_parts, eq-eqb, ltb-true}
+use Rattle.std.proofs.lemmas.List.{length-map}
 use Rattle.std.proofs.lemmas.Option.{slice_get_within}
 use Rattle.base_facts.specs.Elements.{In}
 use Rattle.base_facts.proofs.elements.Membership.{in_map, in_flat_map, in_range, contains_from_in}
-use Rattle.base_numbers.specs.Rational.{whole, zero_ℚ, ◌≤ℚ◌}
+use Rattle.base_numbers.specs.Rational.{whole}
 use Rattle.base_numbers.specs.Extended.{fin, ◌≤ᴱ◌}
-use Rattle.base_numbers.proofs.rational.Laws.{whole-zero, whole_le}
-use Rattle.lang_tree.specs.Meaning.{State, value}
+use Rattle.lang_tree.specs.Meaning.{State, put, value}
+use Rattle.lang_tree.specs.Limits.{is_form}
+use Rattle.lang_tree.proofs.Put.{put_size}
 use Rattle.flow_edges.specs.declared.edge.Action.{Action}
 use Rattle.flow_edges.specs.declared.edge.Action.TheVariants.{Guard, Assign, Havoc, Check}
 use Rattle.flow_edges.specs.Steps.{Acts}
+use Rattle.flow_edges.specs.FlowLimits.{is_action}
+use Rattle.flow_edges.proofs.Each.{Each}
 use Rattle.flow_edges.proofs.steps.ElementLemmas.{contains_in}
-use Rattle.flow_systems.specs.States.{dotℚ, rational, Traces}
+use Rattle.flow_systems.specs.States.{dotℚ, rational}
 use Rattle.flow_systems.specs.Equations.{Vector, Fits, PostSolution}
-use Rattle.flow_systems.proofs.states.RationalStates.{value_rational}
+use Rattle.flow_systems.proofs.states.Soundness.{acts_trace}
 use Rattle.flow_transitions.specs.declared.auto.Auto.{Auto}
 use Rattle.flow_transitions.specs.declared.auto_edge.AutoEdge.{AutoEdge}
 use Rattle.flow_transitions.specs.AutoLimits.{is_auto_edge}
@@ -26,34 +29,22 @@ use Rattle.flow_transitions.specs.Choices.{choices_in, edge_by, edges_along, sta
 use Rattle.flow_transitions.specs.AutoRuns.{AutoConfiguration, AutoStep, AutoFollows}
 use Rattle.flow_transitions.specs.AutoLaws.{PostSolutionsHoldAlong}
 use Rattle.flow_transitions.specs.AutoSystem.{equations_of_auto, HoldsAlong}
-use Rattle.flow_transitions.proofs.made.Within.{limits, edge_limits}
+use Rattle.flow_transitions.proofs.made.Within.{limits, edge_limits, choices_fit}
 use Rattle.flow_transitions.proofs.along.ActLaw.{choices_law}
 
 -- ---- actions between integer states
--- a guard that is at most 0 is so over the fractions
-guarded : (z : ℤ) → z ≤ℤ pos 0 → whole z ≤ℚ zero_ℚ
-guarded z h = subst (λ q. whole z ≤ℚ q) whole-zero (whole_le z (pos 0) h)
-
--- they are a trace, and keep the number of values
-pub acts_trace : (actions : List Action) (x y : State) → Acts actions x y → Traces actions (rational x) (rational y)
-acts_trace [] x y h = ap rational h
-acts_trace (Guard f ∷ actions) x y h = (
-  subst (λ q. q ≤ℚ zero_ℚ) (sym (value_rational f x)) (guarded (value f x) h.0),
-  acts_trace actions x y h.1,
-)
-acts_trace (Assign var f ∷ actions) x y h =
-    let assigned = map-set whole x var (value f x) ∙ ap (slice_set (rational x) var) (sym (value_rational f x)) in
-    subst (λ z. Traces actions z (rational y)) assigned (acts_trace actions (slice_set x var (value f x)) y h)
-acts_trace (Havoc var ∷ actions) x y h =
-    (whole h.0, subst (λ z. Traces actions z (rational y)) (map-set whole x var h.0) (acts_trace actions (slice_set x var h.0) y h.1))
-acts_trace (Check about ∷ actions) x y h = acts_trace actions x y h
-
-acts_size : (actions : List Action) (x y : State) → Acts actions x y → length y ≡ length x
-acts_size [] x y h = ap length h
-acts_size (Guard f ∷ actions) x y h = acts_size actions x y h.1
-acts_size (Assign var f ∷ actions) x y h = acts_size actions (slice_set x var (value f x)) y h ∙ length-set x var (value f x)
-acts_size (Havoc var ∷ actions) x y h = acts_size actions (slice_set x var h.0) y h.1 ∙ length-set x var h.0
-acts_size (Check about ∷ actions) x y h = acts_size actions x y h
+-- those over the variables keep the number of values
+acts_size : (n : ℕ) (actions : List Action) (x y : State) → Each (λ a. IsTrue (is_action n a)) actions → length x ≡ n → Acts actions x y
+    → length y ≡ n
+acts_size n [] x y f e h = ap length h ∙ e
+acts_size n (Guard g ∷ actions) x y f e h = acts_size n actions x y f.1 e h.1
+acts_size n (Assign var g ∷ actions) x y f e h =
+    let l = ltb-true var n (and_parts (nat_lt var n) (is_form n g) f.0).0 in
+    acts_size n actions (put (pos 0) x var (value g x)) y f.1 (put_size (pos 0) x var (value g x) (omega (arith, l, e)) ∙ e) h
+acts_size n (Havoc var ∷ actions) x y f e h =
+    let l = ltb-true var n f.0 in
+    acts_size n actions (put (pos 0) x var h.0) y f.1 (put_size (pos 0) x var h.0 (omega (arith, l, e)) ∙ e) h.1
+acts_size n (Check about ∷ actions) x y f e h = acts_size n actions x y f.1 e h
 
 -- ---- elements
 all_in : {A : Type 0} (p : A → Bool) (xs : List A) (x : A) → IsTrue (list_all p xs) → In xs x → IsTrue (p x)
@@ -72,6 +63,10 @@ in_filter p (y ∷ xs) x m h =
     later : (b : Bool) → In (filter p xs) x → In (cond b (y ∷ filter p xs) (filter p xs)) x
     later true k = inr k
     later false k = k
+
+each_at : {A : Type 0} (P : A → Type 0) (xs : List A) (x : A) → Each P xs → In xs x → P x
+each_at P [] x h m = absurd m
+each_at P (y ∷ xs) x h m = ⊎_elim (λ e. subst P e h.0) (λ k. each_at P xs x h.1 k) m
 
 -- the edge of a choice is listed
 chosen_in : (edges : List AutoEdge) (points : ℕ) (e : AutoEdge) (actions : List Action) → In edges e → e.from < points
@@ -107,8 +102,9 @@ module _ (auto : Auto) (template : List (List ℤ)) (v : Vector) (post : PostSol
       let c = (choices_law n e.acts a.state b.state l.acts).0 step.does in
       let listed = contains_from_in (edges_of (length auto.points) auto.edges) (edge_by e c.0)
       (chosen_in auto.edges (length auto.points) e c.0 m l.from c.1) in
+      let fit = each_at (Each (λ a. IsTrue (is_action n a))) (choices_in e.acts) c.0 (choices_fit n e.acts l.acts) c.1 in
       record {
-        size = acts_size c.0 a.state b.state c.2 ∙ k.size;
+        size = acts_size n c.0 a.state b.state fit k.size c.2;
         fits = subst (λ p. Fits (equations_of_auto auto template) v p (rational b.state)) step.to
             (post.closed (edge_by e c.0) (rational a.state) (rational b.state)
             (record {

@@ -1,9 +1,10 @@
 -- What a transition system within the limits gives to its flow.
-use Rattle.std.proofs.Common.{◌≡◌, ◌∙◌, ℕ, ◌<◌, ◌≤◌, Bool, true, false, cond, List, [], ◌∷◌, ◌++◌, length, map, refl, sym, ap, subst}
+use Rattle.std.proofs.Common.{◌+◌, ◌≡◌, ◌∙◌, ℕ, ◌<◌, ◌≤◌, Bool, true, false, cond, List, [], ◌∷◌, ◌++◌, length, map, refl, sym, ap, subst}
+use Rattle.std.proofs.Common.{arith}
 use Rattle.std.specs.Prelude.{◌&&◌, ◌||◌, ◌==◌, IsTrue, None, not, nat_lt, nat_le, position, flat_map, filter}
 use Rattle.std.specs.List.{list_all, range_with_len}
 use Rattle.std.proofs.lemmas.Bool.{and_from, and_parts, false≢true, leb-true, le-leb, ltb-true, lt-ltb}
-use Rattle.lang_tree.specs.declared.limits.TheConstants.{MOST_VARIABLES}
+use Rattle.lang_tree.specs.declared.limits.TheConstants.{MOST_VARIABLES, MOST_HIDDEN}
 use Rattle.lang_tree.specs.Tree.{Condition, Statement, Statements, set, havoc, assume, only_where, check, branch, loop, jump, label, nil}
 use Rattle.lang_tree.specs.Tree.{cons, leaf_count}
 use Rattle.lang_tree.specs.Limits.{is_condition, is_tested}
@@ -17,6 +18,7 @@ use Rattle.flow_edges.specs.declared.point.Place.TheVariants.{Entry, Loop, Label
 use Rattle.flow_edges.specs.declared.point.Point.{Point}
 use Rattle.flow_edges.specs.Constants.{has_rooms, have_rooms}
 use Rattle.flow_edges.specs.Faults.{is_long}
+use Rattle.flow_systems.proofs.EdgeActions.{edges_grow}
 use Rattle.flow_edges.specs.FlowLimits.{is_entry, is_exit, begins_with_entry, has_line, is_action, is_edge, is_flow}
 use Rattle.flow_edges.specs.Steps.{guards}
 use Rattle.flow_edges.specs.Trails.{kept_edge}
@@ -128,7 +130,8 @@ module _ (n : ℕ) where
   choice_fits (jump kind line) h = tt
   choice_fits (label name line) h = tt
 
-  choices_fit : (acts : Statements) → IsTrue (are_acts n acts) → Each (Each Fits) (choices_in acts)
+  -- the choices of acts over variables are actions over these
+  pub choices_fit : (acts : Statements) → IsTrue (are_acts n acts) → Each (Each Fits) (choices_in acts)
   choices_fit nil h = (tt, tt)
   choices_fit (cons s rest) h =
       let p = and_parts (is_act n s) (are_acts n rest) h in
@@ -241,4 +244,5 @@ flow_within names points edges es h e f l =
     (and_from (nat_le 2 m && nat_le m MOST_POINTS) _ (and_from (nat_le 2 m) (nat_le m MOST_POINTS) (le-leb 2 m o.two_points)
     (le-leb m MOST_POINTS o.few_points))
     (and_from (begins_with_entry points && list_all has_line points) _ (points_within points o.labels)
-    (and_from (nat_le (length es) 256) (list_all (is_edge n m) es) (le-leb (length es) 256 f) (edges_within n m edges es o.along e l))))
+    (and_from (nat_le (length es) 256) (list_all (is_edge (n + MOST_HIDDEN) m) es) (le-leb (length es) 256 f)
+    (edges_grow n (n + MOST_HIDDEN) m es (omega arith) (edges_within n m edges es o.along e l)))))

@@ -8,6 +8,7 @@ use Rattle.std.proofs.lemmas.List.{length-map}
 use Rattle.lang_tree.specs.declared.form.Form.{Form}
 use Rattle.lang_tree.specs.Limits.{is_form}
 use Rattle.lang_meaning.specs.Walk.{assignment}
+use Rattle.lang_meaning.proofs.limits.Values.{whole_fits}
 use Rattle.lang_tokens.specs.declared.token.Token.{Token}
 use Rattle.lang_tree.specs.declared.limits.TheConstants.{MOST_VARIABLES}
 use Rattle.lang_tree.specs.declared.stmt.Stmt.{Stmt}
@@ -127,7 +128,7 @@ edges_more text tokens names points begin edges after e at next r f g k h =
 -- ---- an assignment is an act
 pub assignment_act : (n var line : ℕ) (side : Option Form) → var < n → IsTrue (is_side n side)
     → IsTrue (is_act n (assignment var side line))
-assignment_act n var line (Some f) l h = and_from (nat_lt var n) (is_form n f) (lt-ltb var n l) h
+assignment_act n var line (Some f) l h = and_from (nat_lt var n) (is_form n f) (lt-ltb var n l) (whole_fits n f h)
 assignment_act n var line None l h = lt-ltb var n l
 
 -- ---- the whole is within the limits

@@ -232,14 +232,15 @@ module _ (line : ℕ → ℕ) (width : ℕ) where
       → Follows n w
       → ((now : State) (x : Condition) → Does y w now (under (of_loop x a) nil ∷ fs) (walked now))
       → Does (token while_word a ∷ token left_paren b ∷ (spell_expr e ++ token right_paren c ∷ y)) w st fs (walk_expr line width st e
-      >>= λ v. tested a v >>= λ x. counted a st >>= λ now. walked now >>= λ r. Ok (r.0, one (tree.loop tree.while_loop x r.1 (line a))))
+      >>= λ v. tested a v >>= λ x. counted a st >>= λ now. walked now >>= λ r. Ok
+      (r.0, one (tree.loop (tree.while_loop []) x r.1 (line a))))
   case_repeat a b c e y w st fs walked n g h f =
       condition_fed a of_while st fs e c y w (λ x. counted a st >>= λ now. walked now
-      >>= λ r. Ok (r.0, one (tree.loop tree.while_loop x r.1 (line a)))) g
+      >>= λ r. Ok (r.0, one (tree.loop (tree.while_loop []) x r.1 (line a)))) g
       (λ x. bind_both (counted a st) (λ now. Ok (at now (under (of_loop x a) nil ∷ fs) stands)) (λ s. F (y ++ w) s)
-      (λ now. walked now >>= λ r. Ok (r.0, one (tree.loop tree.while_loop x r.1 (line a)))) _ (λ now. f now x
-      ∙ bind_right (walked now) _ (λ r. Ok (r.0, one (tree.loop tree.while_loop x r.1 (line a)))) _
-      (λ r. pass r.0 r.0 (under (of_loop x a) nil ∷ fs) fs r.1 (one (tree.loop tree.while_loop x r.1 (line a))) n w h refl refl)))
+      (λ now. walked now >>= λ r. Ok (r.0, one (tree.loop (tree.while_loop []) x r.1 (line a)))) _ (λ now. f now x
+      ∙ bind_right (walked now) _ (λ r. Ok (r.0, one (tree.loop (tree.while_loop []) x r.1 (line a)))) _
+      (λ r. pass r.0 r.0 (under (of_loop x a) nil ∷ fs) fs r.1 (one (tree.loop (tree.while_loop []) x r.1 (line a))) n w h refl refl)))
 
   -- an `if` with `else` does what its branches do
   pub case_if_else : (a b c i : ℕ) (e : Expr) (y z w : List Token) (st : State) (fs : List Frame) (first second : Walk) (n : Ending)
@@ -283,16 +284,17 @@ module _ (line : ℕ → ℕ) (width : ℕ) where
       → Does (token do_word a ∷ (y ++ token while_word b ∷ token left_paren c
       ∷ (spell_expr e ++ token right_paren d ∷ token semicolon i ∷ []))) w st fs
       (counted a st >>= λ now. walked now >>= λ r. walk_expr line width r.0 e >>= λ v. tested a v
-      >>= λ x. Ok (r.0, one (tree.loop tree.do_loop x r.1 (line a))))
+      >>= λ x. Ok (r.0, one (tree.loop (tree.do_loop []) x r.1 (line a))))
   case_do a b c d i e y w st fs walked o g f =
       bind_both (counted a st) (λ now. Ok (at now (under (of_body a) nil ∷ fs) stands))
       (λ s. F ((y ++ token while_word b ∷ token left_paren c ∷ (spell_expr e ++ token right_paren d ∷ token semicolon i ∷ [])) ++ w) s)
       (λ now. walked now >>= λ r. walk_expr line width r.0 e >>= λ v. tested a v
-      >>= λ x. Ok (r.0, one (tree.loop tree.do_loop x r.1 (line a)))) _ (λ now.
+      >>= λ x. Ok (r.0, one (tree.loop (tree.do_loop []) x r.1 (line a)))) _ (λ now.
       ap (λ (u : List Token). F u (at now (under (of_body a) nil ∷ fs) stands))
       (append_assoc y (token while_word b ∷ token left_paren c ∷ (spell_expr e ++ token right_paren d ∷ token semicolon i ∷ [])) w)
       ∙ f now
       ∙ bind_right (walked now) _ (λ r. walk_expr line width r.0 e >>= λ v. tested a v
-      >>= λ x. Ok (r.0, one (tree.loop tree.do_loop x r.1 (line a)))) _
-      (λ r. condition_fed a (of_do r.1) r.0 fs e d (token semicolon i ∷ []) w (λ x. Ok (r.0, one (tree.loop tree.do_loop x r.1 (line a)))) g
-      (λ x. ap (λ (m : Machine). F w m) (settled_open r.0 fs (one (tree.loop tree.do_loop x r.1 (line a))) o))))
+      >>= λ x. Ok (r.0, one (tree.loop (tree.do_loop []) x r.1 (line a)))) _
+      (λ r. condition_fed a (of_do r.1) r.0 fs e d (token semicolon i ∷ []) w
+      (λ x. Ok (r.0, one (tree.loop (tree.do_loop []) x r.1 (line a)))) g
+      (λ x. ap (λ (m : Machine). F w m) (settled_open r.0 fs (one (tree.loop (tree.do_loop []) x r.1 (line a))) o))))

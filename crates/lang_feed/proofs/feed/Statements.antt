@@ -303,35 +303,55 @@ module _ (line : ℕ → ℕ) (width : ℕ) where
       → Does line width (token for_word a ∷ token left_paren b ∷ (spell_first f ++ (spell_test t ++ (spell_last l ++ y)))) w st fs
       (walk_first line width f st >>= λ r. walk_test line width a t r.0 >>= λ x. counted a r.0 >>= λ now. walk_last line width l now
       >>= λ u. walked u.0
-      >>= λ q. Ok (closed (length st.known) q.0, followed_by r.1 (one (tree.loop (tree.for_loop u.1) x q.1 (line a)))))
+      >>= λ q. Ok (
+        closed (length st.known) q.0,
+        followed_by r.1
+            (one (tree.loop (tree.for_loop [] (tree.change_deeds u.1)) x q.1 (line a))),
+      ))
   case_for a b f t l y w st fs walked n g h i j d =
       ap (λ (z : List Token). F z (at st (header (length st.known) a nil ∷ fs) first_part))
       (append_assoc (spell_first f) (spell_test t ++ (spell_last l ++ y)) w)
       ∙ first_fed f ((spell_test t ++ (spell_last l ++ y)) ++ w) st (length st.known) a fs g
       ∙ bind_right (walk_first line width f st) _ (λ r. walk_test line width a t r.0 >>= λ x. counted a r.0
       >>= λ now. walk_last line width l now
-      >>= λ u. walked u.0 >>= λ q. Ok (closed (length st.known) q.0, followed_by r.1 (one (tree.loop (tree.for_loop u.1) x q.1 (line a)))))
+      >>= λ u. walked u.0 >>= λ q. Ok (
+        closed (length st.known) q.0,
+        followed_by r.1
+            (one (tree.loop (tree.for_loop [] (tree.change_deeds u.1)) x q.1 (line a))),
+      ))
       _ (λ r.
       ap (λ (z : List Token). F z (at r.0 (header (length st.known) a r.1 ∷ fs) test_part))
       (append_assoc (spell_test t) (spell_last l ++ y) w)
       ∙ test_fed t ((spell_last l ++ y) ++ w) r.0 (length st.known) a r.1 fs h
       ∙ bind_right (walk_test line width a t r.0) _ (λ x. counted a r.0 >>= λ now. walk_last line width l now
-      >>= λ u. walked u.0 >>= λ q. Ok (closed (length st.known) q.0, followed_by r.1 (one (tree.loop (tree.for_loop u.1) x q.1 (line a)))))
+      >>= λ u. walked u.0 >>= λ q. Ok (
+        closed (length st.known) q.0,
+        followed_by r.1
+            (one (tree.loop (tree.for_loop [] (tree.change_deeds u.1)) x q.1 (line a))),
+      ))
       _ (λ x.
       bind_right (counted a r.0) _ (λ now. walk_last line width l now
-      >>= λ u. walked u.0 >>= λ q. Ok (closed (length st.known) q.0, followed_by r.1 (one (tree.loop (tree.for_loop u.1) x q.1 (line a)))))
+      >>= λ u. walked u.0 >>= λ q. Ok (
+        closed (length st.known) q.0,
+        followed_by r.1
+            (one (tree.loop (tree.for_loop [] (tree.change_deeds u.1)) x q.1 (line a))),
+      ))
       _ (λ now.
       ap (λ (z : List Token). F z (at now (header_tested (length st.known) a r.1 x ∷ fs) last_part)) (append_assoc (spell_last l) y w)
       ∙ last_fed l (y ++ w) now (length st.known) a r.1 x fs i
       ∙ bind_right (walk_last line width l now) _ (λ u. walked u.0
-      >>= λ q. Ok (closed (length st.known) q.0, followed_by r.1 (one (tree.loop (tree.for_loop u.1) x q.1 (line a))))) _ (λ u.
+      >>= λ q. Ok (
+        closed (length st.known) q.0,
+        followed_by r.1
+            (one (tree.loop (tree.for_loop [] (tree.change_deeds u.1)) x q.1 (line a))),
+      )) _ (λ u.
       d u.0 r.1 x u.1
       ∙ bind_right (walked u.0) _ (λ q. Ok (
         closed (length st.known) q.0,
-        followed_by r.1 (one (tree.loop (tree.for_loop u.1) x q.1 (line a))),
+        followed_by r.1 (one (tree.loop (tree.for_loop [] (tree.change_deeds u.1)) x q.1 (line a))),
       )) _
       (λ q. pass line width q.0 (closed (length st.known) q.0) (under (of_for (length st.known) a r.1 x u.1) nil ∷ fs) fs q.1
-      (followed_by r.1 (one (tree.loop (tree.for_loop u.1) x q.1 (line a)))) n w j refl refl)))))
+      (followed_by r.1 (one (tree.loop (tree.for_loop [] (tree.change_deeds u.1)) x q.1 (line a)))) n w j refl refl)))))
 
   case_declaration : (a : ℕ) (xs : Declarators) (y w : List Token) (st : State) (i : ℕ) (ns : Statements) (fs : List Frame)
       (walked : Walk line width)

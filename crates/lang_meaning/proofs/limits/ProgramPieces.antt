@@ -19,7 +19,7 @@ use Rattle.lang_meaning.specs.Walk.{State, followed_by, one, counted, counted_fo
 use Rattle.lang_meaning.specs.Walk.{assignment, changed, change_nodes}
 use Rattle.lang_meaning.proofs.forms.Ranges.{both_true, and_split}
 use Rattle.lang_tree.specs.declared.limits.TheConstants.{MOST_VARIABLES}
-use Rattle.lang_meaning.proofs.limits.Values.{OnValue, on_bind, on_cond}
+use Rattle.lang_meaning.proofs.limits.Values.{OnValue, on_bind, on_cond, whole_fits}
 use Rattle.lang_meaning.proofs.limits.Values.{SideFits}
 
 -- a number of a variable that is named
@@ -117,7 +117,7 @@ one_good N inside s h = both_true (is_statement N inside s) true h refl
 -- an assignment is over variables that are named
 pub assignment_good : (N : ℕ) (inside : Bool) (i : ℕ) (o : Option Form) (line : ℕ) → i < N → SideFits N o
     → IsTrue (is_statement N inside (assignment i o line))
-assignment_good N inside i (Some f) line h k = both_true (nat_lt i N) (is_form N f) (lt-ltb i N h) k
+assignment_good N inside i (Some f) line h k = both_true (nat_lt i N) (is_form N f) (lt-ltb i N h) (whole_fits N f k)
 assignment_good N inside i None line h k = lt-ltb i N h
 
 -- an assignment is one node
@@ -127,7 +127,7 @@ assignment_count i None line = refl
 
 -- a change is over variables that are named
 pub changed_good : (N i : ℕ) (o : Option Form) (line : ℕ) → i < N → SideFits N o → IsTrue (is_change N (changed i o line))
-changed_good N i (Some f) line h k = both_true (nat_lt i N) (is_form N f) (lt-ltb i N h) k
+changed_good N i (Some f) line h k = both_true (nat_lt i N) (is_form N f) (lt-ltb i N h) (whole_fits N f k)
 changed_good N i None line h k = lt-ltb i N h
 
 -- a change is one node

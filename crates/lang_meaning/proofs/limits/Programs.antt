@@ -4,7 +4,8 @@ use Rattle.std.proofs.Common.{◌&&◌, cond, IsTrue}
 use Rattle.std.proofs.Common.{Result, Ok, Err, Option, Some, None, refl, sym, ap, arith, replicate, nat_le, nat_lt, min, subst}
 use Rattle.std.proofs.lemmas.Bool.{lt-ltb, le-leb, ltb-true}
 use Rattle.std.proofs.lemmas.List.{length-append, length-replicate}
-use Rattle.lang_grammar.specs.Grammar.{Jump, Update, set as set_update, ForFirst, no_first, declared_first, updated_first, ForTest, no_test}
+use Rattle.lang_grammar.specs.Grammar.{Jump, breaks, continues, Update, set as set_update, ForFirst, no_first, declared_first}
+use Rattle.lang_grammar.specs.Grammar.{updated_first, ForTest, no_test}
 use Rattle.lang_grammar.specs.Grammar.{given_test, ForLast}
 use Rattle.lang_grammar.specs.Grammar.{no_last, updated_last, repeat_after, repeat_for, jumps, updates, Direction, up, down, Expr, number}
 use Rattle.lang_grammar.specs.Grammar.{variable, free, grouped, prefixed, joined, Declarator, bare}
@@ -13,9 +14,10 @@ use Rattle.lang_grammar.specs.Grammar.{step_after, step_before, Sub, labelled, p
 use Rattle.lang_grammar.specs.Grammar.{Program, program, Demand, assumes, asserts}
 use Rattle.lang_tree.specs.declared.form.Form.{Form}
 use Rattle.lang_tree.specs.Numbers.{is_number}
-use Rattle.lang_tree.specs.Limits.{is_form, is_condition, is_tested, is_change, is_kind, is_statement, are_statements, is_program}
+use Rattle.lang_tree.specs.Limits.{is_form, is_condition, is_tested, is_change, is_kind, is_jump, is_statement, are_statements, is_program}
 use Rattle.lang_tree.specs.declared.change.Change.{Change}
 use Rattle.lang_tree.specs.declared.change.Change.TheVariants as change
+use Rattle.lang_tree.proofs.Grown.{statements_grow}
 use Rattle.lang_tree.specs.Tree as tree
 use Rattle.lang_tree.specs.Tree.{Condition, Statement, Statements, nil, cons, change_count, kind_count, nodes_in}
 use Rattle.lang_meaning.specs.declared.fault.ParseFault.{ParseFault}
@@ -33,13 +35,13 @@ use Rattle.lang_meaning.specs.Walk.{walk_declarator, walk_declarators, walk_core
 use Rattle.lang_meaning.specs.Walk.{declared_sub, declared_items}
 use Rattle.lang_meaning.specs.Walk.{program_of, counted_for, demanded}
 use Rattle.lang_meaning.proofs.forms.Ranges.{both_true, zeros_fit}
-use Rattle.lang_tree.specs.declared.limits.TheConstants.{MOST_VARIABLES}
+use Rattle.lang_tree.specs.declared.limits.TheConstants.{MOST_VARIABLES, MOST_HIDDEN}
 use Rattle.lang_meaning.specs.Walk.{walk}
 use Rattle.lang_meaning.specs.Meaning.{Answer, Means}
 use Rattle.lang_tokens.specs.Lines.{line_at}
 use Rattle.lang_meaning.proofs.limits.Values.{OnValue, on_bind, FormFits, form_fits, ranged_fits, constant_length, variable_fits, ValueFits}
 use Rattle.lang_meaning.proofs.limits.Values.{compared_fits, combined_fits, prefix_fits, regarded_fits, TestFits, tested_fits, SideFits}
-use Rattle.lang_meaning.proofs.limits.Values.{side_fits, assigned_fits}
+use Rattle.lang_meaning.proofs.limits.Values.{side_fits, assigned_fits, whole_fits}
 use Rattle.lang_meaning.proofs.limits.ProgramPieces.{Below, known_below, Fits, Grows, Counted, Turns, counted_fits, follow_good}
 use Rattle.lang_meaning.proofs.limits.ProgramPieces.{follow_count, one_good, assignment_good, assignment_count, changed_good, changed_count}
 use Rattle.lang_meaning.proofs.limits.ProgramPieces.{change_nodes_good, change_nodes_count, label_fits, CountedFor, counted_for_fits}
@@ -209,18 +211,41 @@ module _ (line : ℕ → ℕ) (N : ℕ) where
     good = λ i. loop_good inside m c r.1 (line a) e t (h.good i);
   }
 
+  change_kind : (n : ℕ) (g : Change) → IsTrue (is_change n g) → IsTrue (is_kind n (tree.for_loop [] (tree.change_deeds g)))
+  change_kind n change.Unchanged h = refl
+  change_kind n (change.Set var form l) h = both_true (nat_lt var n && is_form n form) true h refl
+  change_kind n (change.Havoc var l) h = both_true (nat_lt var n) true h refl
+
+  change_kind_count : (g : Change) → kind_count (tree.for_loop [] (tree.change_deeds g)) ≡ change_count g
+  change_kind_count change.Unchanged = refl
+  change_kind_count (change.Set var form l) = refl
+  change_kind_count (change.Havoc var l) = refl
+
   grows_for : (inside : Bool) (st now : State) (k d e : ℕ) (c : Condition) (a : ℕ) (r : State × Statements) (u : State × Change)
       (q : State × Statements)
       → Grows N inside st d r → TestFits N c → Counted r.0 now → Turns N now u → Grows N true u.0 e q
-      → Grows N inside st (d + e) (closed k q.0, followed_by r.1 (one (tree.loop (tree.for_loop u.1) c q.1 (line a))))
+      → Grows N inside st (d + e) (
+        closed k q.0,
+        followed_by r.1
+            (one (tree.loop (tree.for_loop [] (tree.change_deeds u.1)) c q.1 (line a))),
+      )
   grows_for inside st now k d e c a r u q h t (f, n, l) (v, w, x, y) i = record {
     fits = record { few_names = i.fits.few_names; few_nodes = i.fits.few_nodes };
     names = omega (arith, i.names, w, ap length n, h.names);
     nodes =
-        omega (arith, h.nodes, l, x, i.nodes, follow_count r.1 (one (tree.loop (tree.for_loop u.1) c q.1 (line a))));
-    good = λ j. follow_good N inside r.1 (one (tree.loop (tree.for_loop u.1) c q.1 (line a)))
+        omega (
+          arith,
+          h.nodes,
+          l,
+          x,
+          i.nodes,
+          change_kind_count u.1,
+          follow_count r.1 (one (tree.loop (tree.for_loop [] (tree.change_deeds u.1)) c q.1 (line a))),
+        );
+    good = λ j. follow_good N inside r.1 (one (tree.loop (tree.for_loop [] (tree.change_deeds u.1)) c q.1 (line a)))
         (h.good (omega (arith, i.names, w, ap length n, j)))
-        (loop_good inside (tree.for_loop u.1) c q.1 (line a) (y (omega (arith, i.names, j))) t (i.good j));
+        (loop_good inside (tree.for_loop [] (tree.change_deeds u.1)) c q.1 (line a) (change_kind N u.1 (y (omega (arith, i.names, j)))) t
+        (i.good j));
   }
 
   grows_none : (inside : Bool) (st : State) → Fits st → Grows N inside st 0 (st, nil)
@@ -249,7 +274,8 @@ module _ (line : ℕ → ℕ) (N : ℕ) where
   turned st now g (f, n, c) e h = (f, ap length n, omega (arith, c, e), (λ k. h (omega (arith, ap length n, k))))
 
   set_good : (i : ℕ) (z : ℤ) (l : ℕ) → i < N → IsTrue (is_number z) → IsTrue (is_change N (change.Set i (variable_form N i z) l))
-  set_good i z l h k = both_true (nat_lt i N) (is_form N (variable_form N i z)) (lt-ltb i N h) (variable_fits N i z k)
+  set_good i z l h k = both_true (nat_lt i N) (is_form N (variable_form N i z)) (lt-ltb i N h)
+      (whole_fits N (variable_form N i z) (variable_fits N i z k))
 
   step_good : (g : Direction) (i a : ℕ) → i < N → IsTrue (is_change N (step_change line N g i a))
   step_good up i a h = set_good i (pos 1) (line a) h refl
@@ -321,9 +347,13 @@ module _ (line : ℕ → ℕ) (N : ℕ) where
       (λ v i. on_bind (TestFits N) (Grows N inside st 0) (tested a v) _ (tested_fits N a v i)
       (λ x t. grows_demand inside st now k a x h t)))
 
+  jump_inside : (j : Jump) → IsTrue (is_jump true (jump_kind j))
+  jump_inside breaks = refl
+  jump_inside continues = refl
+
   case_jumps : (inside : Bool) (j : Jump) (a b : ℕ) → Walked inside (walk_core line N inside (jumps j a b)) 0
   case_jumps true j a b st f = on_bind (Counted st) (Grows N true st 0) (counted a st) _ (counted_fits a st f.few_names)
-      (λ now k. grows_node true st now (tree.jump (jump_kind j) (line a)) k refl (λ h. refl))
+      (λ now k. grows_node true st now (tree.jump (jump_kind j) (line a)) k refl (λ h. jump_inside j))
   case_jumps false j a b st f = tt
 
   grows_closed : (inside : Bool) (st : State) (n d : ℕ) (r : State × Statements) → Grows N inside st d r
@@ -358,16 +388,16 @@ module _ (line : ℕ → ℕ) (N : ℕ) where
         (λ q i. grows_both inside st now (declared_sub s) (declared_sub u) x a r q t k h i)))
     core_fits inside (repeat a b e c s) st f =
         case_test inside e a (declared_sub s) (λ x now. walk_sub line N true s now
-        >>= λ r. Ok (r.0, one (tree.loop tree.while_loop x r.1 (line a)))) st f
+        >>= λ r. Ok (r.0, one (tree.loop (tree.while_loop []) x r.1 (line a)))) st f
         (λ x now t k. on_bind (Grows N true now (declared_sub s)) (Grows N inside st (declared_sub s)) (walk_sub line N true s now) _
-        (sub_fits true s now k.0) (λ r h. grows_loop inside st now (declared_sub s) tree.while_loop x a r refl refl t k h))
+        (sub_fits true s now k.0) (λ r h. grows_loop inside st now (declared_sub s) (tree.while_loop []) x a r refl refl t k h))
     core_fits inside (repeat_after a s b c e d i) st f =
         on_bind (Counted st) (Grows N inside st (declared_sub s)) (counted a st) _ (counted_fits a st f.few_names)
         (λ now k. on_bind (Grows N true now (declared_sub s)) (Grows N inside st (declared_sub s)) (walk_sub line N true s now) _
         (sub_fits true s now k.0)
         (λ r h. on_bind (ValueFits N) (Grows N inside st (declared_sub s)) (walk_expr line N r.0 e) _ (expr_fits r.0 e)
         (λ v j. on_bind (TestFits N) (Grows N inside st (declared_sub s)) (tested a v) _ (tested_fits N a v j)
-        (λ x t. grows_loop inside st now (declared_sub s) tree.do_loop x a r refl refl t k h))))
+        (λ x t. grows_loop inside st now (declared_sub s) (tree.do_loop []) x a r refl refl t k h))))
     core_fits inside (repeat_for a b y t l s) st f =
         on_bind (Grows N inside st (declared_before y)) (Grows N inside st (declared_before y + declared_sub s)) (walk_first line N y st) _
         (first_fits inside y st f) (λ r h. on_bind (TestFits N) (Grows N inside st (declared_before y + declared_sub s))
@@ -421,14 +451,16 @@ last_fits N d (x ∷ xs) q k h e =
     let l : length (x ∷ xs) ≡ length q.0.names = ap length (sym e) in
     let n : N ≡ length (x ∷ xs) = omega (arith, k, l, h.names, h.fits.few_names) in
     let c : nodes_in q.1 ≤ 512 = omega (arith, h.nodes, h.fits.few_nodes) in
-    let g : IsTrue (are_statements (length (x ∷ xs)) false q.1) = subst (λ (m : ℕ). IsTrue (are_statements m false q.1)) n
+    let k : IsTrue (are_statements (length (x ∷ xs)) false q.1) = subst (λ (m : ℕ). IsTrue (are_statements m false q.1)) n
     (h.good (omega (arith, n, l))) in
+    let m = length (x ∷ xs) + MOST_HIDDEN in
+    let g : IsTrue (are_statements m false q.1) = statements_grow (length (x ∷ xs)) m false q.1 (omega arith) k in
     both_true (nat_le 1 (length (x ∷ xs))) (nat_le (length (x ∷ xs)) MOST_VARIABLES
-    && (nat_le (nodes_in q.1) 512 && are_statements (length (x ∷ xs)) false q.1))
+    && (nat_le (nodes_in q.1) 4096 && are_statements m false q.1))
     (le-leb 1 (length (x ∷ xs)) (omega arith))
-    (both_true (nat_le (length (x ∷ xs)) MOST_VARIABLES) (nat_le (nodes_in q.1) 512 && are_statements (length (x ∷ xs)) false q.1)
+    (both_true (nat_le (length (x ∷ xs)) MOST_VARIABLES) (nat_le (nodes_in q.1) 4096 && are_statements m false q.1)
     (le-leb (length (x ∷ xs)) MOST_VARIABLES (omega (arith, l, h.fits.few_names)))
-    (both_true (nat_le (nodes_in q.1) 512) (are_statements (length (x ∷ xs)) false q.1) (le-leb (nodes_in q.1) 512 c) g))
+    (both_true (nat_le (nodes_in q.1) 4096) (are_statements m false q.1) (le-leb (nodes_in q.1) 4096 (omega (arith, c))) g))
 
 -- what the walk of a program's items gives, at the width of their declarations, is a program within the limits, or a fault
 pub program_fits : (line : ℕ → ℕ) (is : Items) → OnValue IsProgram (walk_items line (min MOST_VARIABLES (declared_items is)) false is

@@ -1,5 +1,6 @@
 -- What the walk of an expression gives is within the limits.
-use Rattle.std.proofs.Common.{◌≡◌, ◌∙◌, ℕ, zero, suc, ℤ, pos, negsuc, List, [], ◌∷◌, length, Bool, true, false, ◌&&◌, ◌==◌, cond, IsTrue}
+use Rattle.std.proofs.Common.{◌≡◌, ◌∙◌, ◌≤◌, ℕ, zero, suc, ℤ, pos, negsuc, List, [], ◌∷◌, length}
+use Rattle.std.proofs.Common.{Bool, true, false, ◌&&◌, ◌==◌, cond, IsTrue}
 use Rattle.std.proofs.Common.{Result, Ok, Err, Option, Some, None, refl, ap, arith, replicate, nat_le, nat_lt}
 use Rattle.std.proofs.Math.ListN.{set}
 use Rattle.std.proofs.lemmas.Bool.{le-leb, ltb-false, eq-eqb, eqb-true}
@@ -9,14 +10,14 @@ use Rattle.lang_grammar.specs.Grammar.{negation, Change as Assigning}
 use Rattle.lang_grammar.specs.Grammar.{replaces, adds, subtracts}
 use Rattle.lang_tree.specs.declared.form.Form.{Form}
 use Rattle.lang_tree.specs.Numbers.{is_number, are_numbers}
-use Rattle.lang_tree.specs.Limits.{is_form, is_compared, is_condition, is_tested}
+use Rattle.lang_tree.specs.Limits.{has_numbers, is_form, is_compared, is_condition, is_tested}
 use Rattle.lang_tree.specs.Tree.{Condition, leaf_count}
 use Rattle.lang_meaning.specs.declared.fault.ParseFault.{ParseFault}
 use Rattle.lang_meaning.specs.declared.fault.ParseFault.TheVariants as fault
 use Rattle.lang_meaning.specs.declared.fault.Limit.TheVariants as limit
 use Rattle.lang_meaning.specs.Results.{◌>>=◌}
 use Rattle.lang_meaning.specs.Forms.{constant_form, variable_form, pairwise, together, plus, minus, products, scaled, is_constant}
-use Rattle.lang_meaning.specs.Forms.{is_comparable}
+use Rattle.lang_meaning.specs.Forms.{is_comparable, is_whole_form}
 use Rattle.lang_meaning.specs.Walk.{Value, a_form, a_truth, a_nondet}
 use Rattle.lang_meaning.specs.Walk.{number_of, as_condition, ranged_number, ranged_numbers, ranged, two_numbers, two_conditions, compared}
 use Rattle.lang_meaning.specs.Walk.{product, combined}
@@ -70,13 +71,20 @@ products_length z [] = refl
 products_length z (x ∷ xs) = ap suc (products_length z xs)
 
 abbrev pub FormFits : ℕ → Form → Type 0
-FormFits n f = IsTrue (is_form n f)
+FormFits n f = IsTrue (is_whole_form n f)
 
 -- n coefficients and a constant, all in their range, are a form over n variables
 pub form_fits : (n : ℕ) (cs : List ℤ) (c : ℤ) → length cs ≡ n → IsTrue (are_numbers cs) → IsTrue (is_number c)
     → FormFits n (record { coeffs = cs; constant = c })
 form_fits n cs c l h i = both_true (length cs == n) (are_numbers cs && is_number c) (eq-eqb (length cs) n l)
     (both_true (are_numbers cs) (is_number c) h i)
+
+-- such a form is one over n variables
+pub whole_fits : (n : ℕ) (f : Form) → FormFits n f → IsTrue (is_form n f)
+whole_fits n f h =
+    let p = and_split (length f.coeffs == n) (has_numbers f) h in
+    let l : length f.coeffs ≤ n = omega (arith, eqb-true (length f.coeffs) n p.0) in
+    both_true (nat_le (length f.coeffs) n) (has_numbers f) (le-leb (length f.coeffs) n l) p.1
 
 form_length : (n : ℕ) (f : Form) → FormFits n f → length f.coeffs ≡ n
 form_length n f h = eqb-true (length f.coeffs) n (and_split (length f.coeffs == n) (are_numbers f.coeffs && is_number f.constant) h).0
@@ -111,7 +119,7 @@ number_fits n sign (a_nondet a) h = tt
 
 -- a form over n variables whose constant lets it be compared is one that is compared
 pub compared_fits : (n : ℕ) (f : Form) → FormFits n f → IsTrue (is_comparable f) → IsTrue (is_compared n f)
-compared_fits n f h i = both_true (is_form n f) (is_comparable f) h i
+compared_fits n f h i = both_true (is_form n f) (is_comparable f) (whole_fits n f h) i
 
 -- a value over n variables is a condition over n variables, or a fault
 pub condition_fits : (n : ℕ) (v : Value) → ValueFits n v → OnValue (λ c. IsTrue (is_condition n c)) (as_condition v)

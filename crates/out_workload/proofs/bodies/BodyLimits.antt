@@ -20,6 +20,7 @@ use Rattle.flow_edges.specs.declared.fault.FlowFault.TheVariants as fault
 use Rattle.flow_edges.specs.declared.point.Place.TheVariants.{Exit}
 use Rattle.flow_edges.specs.declared.point.Point.{Point}
 use Rattle.flow_edges.specs.Points.{made_in, points_of_program}
+use Rattle.flow_edges.specs.Checks.{checks_in}
 use Rattle.flow_edges.specs.Counts.{no_jump_counts, way_count_in, edge_count_in, edge_count}
 use Rattle.flow_edges.specs.Edges.{Way, arrived, prefixed, by_case, Jumps, no_jumps, loop_jumps, ways_in, edges_of_program}
 use Rattle.flow_edges.specs.Faults.{wide_lines_in, counted_fault, counted_after, fault_of_program, is_long}
@@ -103,7 +104,7 @@ IsShortWay k w = length w.actions ≤ k
 abbrev pub IsFew : Edge → Type 0
 IsFew e = length e.actions ≤ 4
 
-loops_ways : (n : ℕ) (ls : List Loop) (p e : ℕ) → Each (IsShortWay 1) (ways_in (loops_body n ls) p no_jumps (arrived e))
+loops_ways : (n : ℕ) (ls : List Loop) (p e : ℕ) → Each (IsShortWay 1) (ways_in (loops_body n ls) p (no_jumps (arrived e)) (arrived e))
 loops_ways n [] p e = (omega arith, tt)
 loops_ways n (l ∷ ls) p e = (omega arith, tt)
 
@@ -132,17 +133,18 @@ head_few f u v w g h m n p jumps next k =
     (omega arith, tt)
     (each-append (IsShortWay 4) (prefixed (guards (negated f ∷ [])) next) [] (guarded_short (negated f ∷ []) next refl k) tt))
 
-loops_few : (n : ℕ) (ls : List Loop) (p e : ℕ) → Each IsFew (edges_in_nodes (loops_body n ls) p no_jumps (arrived e))
+loops_few : (n : ℕ) (ls : List Loop) (p e : ℕ) → Each IsFew (edges_in_nodes (loops_body n ls) p (no_jumps (arrived e)) (arrived e))
 loops_few n [] p e = tt
 loops_few n (l ∷ ls) p e =
     let head = p + 0 in
     let behind = head + (1 + (0 + (0 + 0))) in
-    let next = ways_in (loops_body (n + 5) ls) behind no_jumps (arrived e) in
-    let jumps = loop_jumps while_loop (compare Lt (variable_form 3 l.variable (neg_ℤ (pos l.bound)))) head next in
+    let next = ways_in (loops_body (n + 5) ls) behind (no_jumps (arrived e)) (arrived e) in
+    let jumps = loop_jumps (while_loop []) (compare Lt (variable_form 3 l.variable (neg_ℤ (pos l.bound)))) head next (arrived e) in
     let through = by_case true (compare Lt (variable_form 3 l.variable (neg_ℤ (pos l.bound))))
     (ways_in (turn_of (n + 2) l) (head + 1) jumps (arrived head))
     ++ by_case false (compare Lt (variable_form 3 l.variable (neg_ℤ (pos l.bound)))) next in
-    each-append IsFew (reached (begun_at head) through ++ []) (edges_in_nodes (loops_body (n + 5) ls) behind no_jumps (arrived e))
+    each-append IsFew (reached (begun_at head) through ++ []) (edges_in_nodes (loops_body (n + 5) ls) behind (no_jumps (arrived e))
+    (arrived e))
     (each-append IsFew (reached (begun_at head) through) [] (head_few (variable_form 3 l.variable (neg_ℤ (pos l.bound))) l.variable
     (following l.variable) (head + 1) (variable_form 3 l.variable (pos l.step)) (variable_form 3 l.variable (pos 0)) (n + 2) (n + 2 + 1)
     head jumps next (loops_ways (n + 5) ls behind e)) tt)
@@ -150,7 +152,7 @@ loops_few n (l ∷ ls) p e =
 
 begin_few : (n : ℕ) (ls : List Loop) (p e : ℕ) → Each (IsShortWay 4) (prefixed (Assign 0 (constant_form 3 (pos 0)) ∷ [])
     (prefixed (Assign 1 (constant_form 3 (pos 0)) ∷ []) (prefixed (Assign 2 (constant_form 3 (pos 0)) ∷ [])
-    (ways_in (loops_body n ls) p no_jumps (arrived e)))))
+    (ways_in (loops_body n ls) p (no_jumps (arrived e)) (arrived e)))))
 begin_few n [] p e = (omega arith, tt)
 begin_few n (l ∷ ls) p e = (omega arith, tt)
 
@@ -159,8 +161,9 @@ kept_few seed loops =
     let body = generated_body seed loops in
     let ls = loops_from seed loops in
     let exit = exit_of body in
-    each-append IsFew (reached (begun_at 0) (ways_in body 1 no_jumps (arrived exit))) (edges_in_nodes body 1 no_jumps (arrived exit))
-    (reached_few 0 (ways_in body 1 no_jumps (arrived exit)) (begin_few 3 ls 1 exit))
+    each-append IsFew (reached (begun_at 0) (ways_in body 1 (no_jumps (arrived exit)) (arrived exit)))
+    (edges_in_nodes body 1 (no_jumps (arrived exit)) (arrived exit))
+    (reached_few 0 (ways_in body 1 (no_jumps (arrived exit)) (arrived exit)) (begin_few 3 ls 1 exit))
     (loops_few 3 ls 1 exit)
 
 none_from : (i : ℕ) (es : List Edge) → Each IsFew es → position_from is_long i es ≡ None
@@ -172,11 +175,16 @@ none_from i (e ∷ es) h =
 none_long : (es : List Edge) → Each IsFew es → position is_long es ≡ None
 none_long es h = position_from-zero is_long es ∙ none_from 0 es h
 
+unchecked : (n : ℕ) (ls : List Loop) → length (checks_in (loops_body n ls)) ≡ 0
+unchecked n [] = refl
+unchecked n (l ∷ ls) = unchecked (n + 5) ls
+
 -- a generated program with at most 46 loops has no fault
 pub generated_within : (seed loops : ℕ) → loops ≤ 46 → fault_of_program (generated_body seed loops) ≡ None
 generated_within seed loops h =
     let body = generated_body seed loops in
     no_fault body (generated_counted seed loops h) (none_long (kept_edges body) (kept_few seed loops))
+    (omega (arith, unchecked 3 (loops_from seed loops)))
 
 -- each edge of a generated program has at most four actions
 pub generated_few : (seed loops : ℕ) → Each IsFew (edges_of_program (generated_body seed loops))

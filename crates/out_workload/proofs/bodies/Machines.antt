@@ -40,7 +40,7 @@ abbrev pub first_node : ℕ → List ℕ → Statements
 first_node v ls = one (set v (constant_form 3 (pos 0)) (nth ls 0))
 
 abbrev pub second_node : (v w bound step : ℕ) → List ℕ → Statements
-second_node v w bound step ls = one (loop while_loop (compare Lt (variable_form 3 v (neg_ℤ (pos bound))))
+second_node v w bound step ls = one (loop (while_loop []) (compare Lt (variable_form 3 v (neg_ℤ (pos bound))))
     (cons (set v (variable_form 3 v (pos step)) (nth ls 11)) (cons (set w (variable_form 3 v (pos 0)) (nth ls 15)) nil)) (nth ls 4))
 
 -- what is known of the numbers
@@ -88,7 +88,7 @@ plus_number v a z y d e = each_variable (λ (x : ℕ). ranged a (plus (variable_
 loop_ends : (line : ℕ → ℕ) (st : State) (c : Condition) (b : ℕ) (ms ns : Statements) (o : Option (List ℕ)) (a : ℕ) (rest : List g.Token) →
     feed line 3 (g.token (next o) a ∷ rest) (at st (under (of_loop c b) nil ∷ under (of_items 0) ns ∷ []) (after ms))
     ≡ feed line 3 (g.token (next o) a ∷ rest) (at st
-    (under (of_items 0) (followed_by ns (one (loop while_loop c ms (line b)))) ∷ []) stands)
+    (under (of_items 0) (followed_by ns (one (loop (while_loop []) c ms (line b)))) ∷ []) stands)
 loop_ends line st c b ms ns (Some x) a rest = refl
 loop_ends line st c b ms ns None a rest = refl
 

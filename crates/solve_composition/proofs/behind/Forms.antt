@@ -1,6 +1,6 @@
 -- Actions with guards behind them: their forms, and the operations by which these are composed.
 use Rattle.std.proofs.Common.{◌≡◌, ◌∙◌, ℕ, suc, ◌+◌, List, [], ◌∷◌, ◌++◌, map, None, append_assoc, refl, ap, ap₂, sym, subst}
-use Rattle.std.specs.Prelude.{flat_map, slice_set}
+use Rattle.std.specs.Prelude.{flat_map}
 use Rattle.std.proofs.lemmas.List.{map-append}
 use Rattle.base_fractions.specs.Fits.{long_limit}
 use Rattle.base_fractions.specs.Operation.{first_wide}
@@ -11,7 +11,8 @@ use Rattle.flow_edges.specs.Steps.{guards}
 use Rattle.flow_systems.specs.Faults.{OperationFault, IsFaultOf}
 use Rattle.flow_systems.proofs.Faults.{sooner, later}
 use Rattle.flow_systems.proofs.Widths.{first_wide_later}
-use Rattle.theory_validity.specs.Words.{Affine as Formal, column, columns, composed, free_count, width, guards_from, ends_from, guard_forms}
+use Rattle.theory_validity.specs.Words.{Affine as Formal, with_form, column, columns, composed, free_count, width, guards_from, ends_from}
+use Rattle.theory_validity.specs.Words.{guard_forms}
 use Rattle.solve_composition.specs.declared.affine.Affine.{Affine}
 use Rattle.solve_composition.specs.declared.placed.PlacedForms.{PlacedForms}
 use Rattle.solve_composition.specs.Composed.{dense}
@@ -49,8 +50,8 @@ pub ends_behind : (k : ℕ) (fs : List Formal) (before : List Action) (gs : List
 unfolding ends_from
 ends_behind k fs [] gs = ends_only k fs gs
 ends_behind k fs (Guard form ∷ before) gs = ends_behind k fs before gs
-ends_behind k fs (Assign var form ∷ before) gs = ends_behind k (slice_set fs var (composed form fs)) before gs
-ends_behind k fs (Havoc var ∷ before) gs = ends_behind (suc k) (slice_set fs var (column k)) before gs
+ends_behind k fs (Assign var form ∷ before) gs = ends_behind k (with_form fs var (composed form fs)) before gs
+ends_behind k fs (Havoc var ∷ before) gs = ends_behind (suc k) (with_form fs var (column k)) before gs
 ends_behind k fs (Check about ∷ before) gs = ends_behind k fs before gs
 
 guards_only : (k : ℕ) (fs : List Formal) (gs : List Form) → guards_from k fs (guards gs) ≡ map (λ g. composed g fs) gs
@@ -64,8 +65,8 @@ pub guards_behind : (k : ℕ) (fs : List Formal) (before : List Action) (gs : Li
 unfolding guards_from ends_from
 guards_behind k fs [] gs = guards_only k fs gs
 guards_behind k fs (Guard form ∷ before) gs = ap (λ xs. composed form fs ∷ xs) (guards_behind k fs before gs)
-guards_behind k fs (Assign var form ∷ before) gs = guards_behind k (slice_set fs var (composed form fs)) before gs
-guards_behind k fs (Havoc var ∷ before) gs = guards_behind (suc k) (slice_set fs var (column k)) before gs
+guards_behind k fs (Assign var form ∷ before) gs = guards_behind k (with_form fs var (composed form fs)) before gs
+guards_behind k fs (Havoc var ∷ before) gs = guards_behind (suc k) (with_form fs var (column k)) before gs
 guards_behind k fs (Check about ∷ before) gs = guards_behind k fs before gs
 
 -- the operations of guards alone
@@ -85,11 +86,11 @@ composition_behind w k fs (Guard form ∷ before) gs =
     ∙ sym (append_assoc (form_composition w fs form) (actions_composition w [] k fs before)
     (flat_map (form_composition w (ends_from k fs before)) gs))
 composition_behind w k fs (Assign var form ∷ before) gs =
-    let next = slice_set fs var (composed form fs) in
+    let next = with_form fs var (composed form fs) in
     ap (λ os. form_composition w fs form ++ os) (composition_behind w k next before gs)
     ∙ sym (append_assoc (form_composition w fs form) (actions_composition w [] k next before)
     (flat_map (form_composition w (ends_from k next before)) gs))
-composition_behind w k fs (Havoc var ∷ before) gs = composition_behind w (suc k) (slice_set fs var (column k)) before gs
+composition_behind w k fs (Havoc var ∷ before) gs = composition_behind w (suc k) (with_form fs var (column k)) before gs
 composition_behind w k fs (Check about ∷ before) gs = composition_behind w k fs before gs
 
 dense_composed : (w : ℕ) (fs : List Formal) (gs : List Form)

@@ -1,7 +1,7 @@
 -- Guards over the variables alone are composed by operations that are never wide.
 use Rattle.std.proofs.Common.{◌≡◌, ◌∙◌, ◌⊎◌, inl, inr, ⊎_elim, ℕ, zero, suc, ℤ, List, [], ◌∷◌, get_or, map, None, refl, ap, sym, subst}
 use Rattle.std.proofs.Common.{nat_abs, arith}
-use Rattle.std.specs.Prelude.{IsTrue, flat_map, ◌&&◌, ◌==◌, length}
+use Rattle.std.specs.Prelude.{IsTrue, flat_map, ◌&&◌, nat_le, length}
 use Rattle.std.specs.List.{list_all, range_with_len}
 use Rattle.std.proofs.lemmas.Bool.{and_parts, leb-true}
 use Rattle.std.proofs.lemmas.Int.{ints}
@@ -135,7 +135,7 @@ flat_none f (x ∷ xs) h = first_wide_later long_limit (f x) (flat_map f xs) (h 
 
 guard_passes : (w n : ℕ) (g : Form) → IsTrue (is_form n g) → first_wide long_limit (form_composition w (columns n) g) ≡ None
 guard_passes w n g h =
-    let p = and_parts (length g.coeffs == n) (are_numbers g.coeffs && is_number g.constant) h in
+    let p = and_parts (nat_le (length g.coeffs) n) (are_numbers g.coeffs && is_number g.constant) h in
     let q = and_parts (are_numbers g.coeffs) (is_number g.constant) p.1 in
     let xs = constants (columns n) in
     let sum : dotℚ g.coeffs xs +ℚ whole g.constant ≡ whole g.constant = ap (λ s. s +ℚ whole g.constant)

@@ -1,7 +1,7 @@
 -- Actions that are composed one after the other.
 use Rattle.std.proofs.Common.{◌≡◌, ◌∙◌, ◌==◌, ℕ, suc, ◌+◌, ◌<◌, ◌≤◌, ℤ, List, [], ◌∷◌, ◌++◌, length, get_or, drop, map, append_assoc, None}
 use Rattle.std.proofs.Common.{refl, ap, ap₂, sym, subst, arith}
-use Rattle.std.specs.Prelude.{flat_map, slice_set}
+use Rattle.std.specs.Prelude.{flat_map}
 use Rattle.std.specs.List.{list_all}
 use Rattle.std.proofs.lemmas.Bool.{eqb-true}
 use Rattle.std.proofs.lemmas.List.{drop_more, drop_all, append-nil, map-append}
@@ -13,7 +13,7 @@ use Rattle.base_fractions.specs.Operation.{first_wide}
 use Rattle.flow_systems.proofs.Faults.{sooner}
 use Rattle.flow_systems.proofs.Widths.{first_wide_later}
 use Rattle.flow_systems.proofs.Sizes.{both}
-use Rattle.theory_validity.specs.Words.{Affine as Form, column, composed, free_count, guards_from, ends_from}
+use Rattle.theory_validity.specs.Words.{Affine as Form, with_form, column, composed, free_count, guards_from, ends_from}
 use Rattle.solve_composition.specs.declared.affine.Affine.{Affine}
 use Rattle.flow_systems.specs.declared.fault.Fault.TheVariants.{Wide, NoMemory}
 use Rattle.solve_composition.specs.Composed.{first_entries, dense}
@@ -164,7 +164,7 @@ pub guards_few : (k : ℕ) (forms : List Form) (actions : List Action) → lengt
 unfolding guards_from
 guards_few k forms [] = omega arith
 guards_few k forms (Guard form ∷ actions) = let h = guards_few k forms actions in omega (arith, h)
-guards_few k forms (Assign var form ∷ actions) = let h = guards_few k (slice_set forms var (composed form forms)) actions in
+guards_few k forms (Assign var form ∷ actions) = let h = guards_few k (with_form forms var (composed form forms)) actions in
     omega (arith, h)
-guards_few k forms (Havoc var ∷ actions) = let h = guards_few (suc k) (slice_set forms var (column k)) actions in omega (arith, h)
+guards_few k forms (Havoc var ∷ actions) = let h = guards_few (suc k) (with_form forms var (column k)) actions in omega (arith, h)
 guards_few k forms (Check about ∷ actions) = let h = guards_few k forms actions in omega (arith, h)

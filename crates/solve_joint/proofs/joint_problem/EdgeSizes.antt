@@ -2,7 +2,7 @@
 use Rattle.std.proofs.Common.{◌≡◌, ◌∙◌, ℕ, suc, ◌+◌, ◌<◌, ◌≤◌, Bool, true, false, true≢false, List, [], ◌∷◌, ◌++◌, ◌*◌, ◌%◌, Option, length}
 use Rattle.std.proofs.Common.{ap, sym, refl, length-append, arith}
 use Rattle.std.proofs.Math.Nat.{mul-le-mul_right}
-use Rattle.std.specs.Prelude.{ℤ, IsTrue, nat_le, nat_lt, slice_set}
+use Rattle.std.specs.Prelude.{ℤ, IsTrue, nat_le, nat_lt}
 use Rattle.std.specs.List.{list_all}
 use Rattle.std.proofs.lemmas.Bool.{leb-true, ltb-true}
 use Rattle.std.proofs.lemmas.List.Folds.{list_all_at}
@@ -14,14 +14,14 @@ use Rattle.flow_systems.proofs.Sizes.{both, flow_sizes}
 use Rattle.flow_systems.specs.View.{vector_of}
 use Rattle.base_numbers.specs.Rational.{ℚ, zero_ℚ, one_ℚ, neg_ℚ}
 use Rattle.base_numbers.specs.Extended.{Ext, neg_inf, fin, pos_inf}
-use Rattle.theory_validity.specs.Words.{Affine, free_count, width, guards_from, guard_forms, columns, column, composed}
+use Rattle.theory_validity.specs.Words.{Affine, with_form, free_count, width, guards_from, guard_forms, columns, column, composed}
 use Rattle.theory_transformers.specs.EdgeProblems.{source_limit, source_limits, guard_limits}
 use Rattle.solve_joint.specs.Numbers.{ArePicked}
 use Rattle.solve_joint.specs.Rows.{embedded}
 use Rattle.solve_joint.proofs.joint_rows.Picking.{system_size, edge_within}
 use Rattle.solve_joint.specs.Blocks.{edge_at, edge_for, split_width, sources_of, guards_of, own_of, blocks_from}
 use Rattle.flow_systems.specs.declared.limits.TheConstants.{MOST_UNKNOWNS}
-use Rattle.lang_tree.specs.declared.limits.TheConstants.{MOST_VARIABLES}
+use Rattle.lang_tree.specs.declared.limits.TheConstants.{MOST_VARIABLES, MOST_HIDDEN}
 
 frees_within : (actions : List Action) → free_count actions ≤ length actions
 unfolding free_count
@@ -32,13 +32,13 @@ frees_within (Havoc var ∷ actions) = omega (arith, frees_within actions)
 frees_within (Check about ∷ actions) = omega (arith, frees_within actions)
 
 edge_is : (system : System) (edge : ℕ) → edge < length system.flow.edges
-    → IsTrue (is_edge (length system.flow.names) (length system.flow.points) (edge_at system edge))
-edge_is system edge l = by (is_edge (length system.flow.names) (length system.flow.points) (edge_at system edge)) refl
+    → IsTrue (is_edge (length system.flow.names + MOST_HIDDEN) (length system.flow.points) (edge_at system edge))
+edge_is system edge l = by (is_edge (length system.flow.names + MOST_HIDDEN) (length system.flow.points) (edge_at system edge)) refl
   where
-    by : (b : Bool) → is_edge (length system.flow.names) (length system.flow.points) (edge_at system edge) ≡ b → b ≡ true
+    by : (b : Bool) → is_edge (length system.flow.names + MOST_HIDDEN) (length system.flow.points) (edge_at system edge) ≡ b → b ≡ true
     by true e = refl
     by false e = absurd (true≢false (sym (flow_sizes system.flow).edges
-        ∙ list_all_at (is_edge (length system.flow.names) (length system.flow.points)) system.flow.edges edge
+        ∙ list_all_at (is_edge (length system.flow.names + MOST_HIDDEN) (length system.flow.points)) system.flow.edges edge
         (record { from = 0; to = 0; actions = [] }) l e))
 
 -- an edge comes from a point
@@ -54,7 +54,8 @@ few_actions system edge l =
     let a = both (nat_lt e.from (length system.flow.points)) _ (edge_is system edge l) in
     let b = both (nat_lt 0 e.to) _ a.1 in
     let c = both (nat_lt e.to (length system.flow.points)) _ b.1 in
-    leb-true (length e.actions) 256 (both (nat_le (length e.actions) 256) (list_all (is_action (length system.flow.names)) e.actions) c.1).0
+    let n = length system.flow.names + MOST_HIDDEN in
+    leb-true (length e.actions) 256 (both (nat_le (length e.actions) 256) (list_all (is_action n) e.actions) c.1).0
 
 -- and has few columns
 pub few_columns : (system : System) (edge : ℕ) → edge < length system.flow.edges
@@ -94,8 +95,8 @@ forms_count : (k : ℕ) (fs : List Affine) (actions : List Action) → length (g
 unfolding guards_from
 forms_count k fs [] = omega arith
 forms_count k fs (Guard form ∷ actions) = omega (arith, forms_count k fs actions)
-forms_count k fs (Assign var form ∷ actions) = omega (arith, forms_count k (slice_set fs var (composed form fs)) actions)
-forms_count k fs (Havoc var ∷ actions) = omega (arith, forms_count (suc k) (slice_set fs var (column k)) actions)
+forms_count k fs (Assign var form ∷ actions) = omega (arith, forms_count k (with_form fs var (composed form fs)) actions)
+forms_count k fs (Havoc var ∷ actions) = omega (arith, forms_count (suc k) (with_form fs var (column k)) actions)
 forms_count k fs (Check about ∷ actions) = omega (arith, forms_count k fs actions)
 
 -- and no more guards than actions

@@ -1,5 +1,5 @@
 -- The edges of a system end at its points.
-use Rattle.std.proofs.Common.{◌≡◌, ◌∙◌, ℕ, ◌<◌, ◌&&◌, List, [], ◌∷◌, length, get_or, ⊎_elim, sym, ap, subst, arith}
+use Rattle.std.proofs.Common.{◌+◌, ◌≡◌, ◌∙◌, ℕ, ◌<◌, ◌&&◌, List, [], ◌∷◌, length, get_or, ⊎_elim, sym, ap, subst, arith}
 use Rattle.std.specs.Prelude.{IsTrue, Contains, nat_lt, nat_le}
 use Rattle.std.specs.List.{list_all}
 use Rattle.std.proofs.lemmas.Bool.{ltb-true}
@@ -14,6 +14,7 @@ use Rattle.flow_systems.proofs.Sizes.{both, flow_sizes}
 use Rattle.theory_validity.specs.Certificates.{PointsInRange}
 use Rattle.theory_validity.proofs.certificates.Needs.{in_of_contains}
 use Rattle.solve_offers.specs.AtBounds.{edge_at}
+use Rattle.lang_tree.specs.declared.limits.TheConstants.{MOST_HIDDEN}
 
 edge_passes : (n points : ℕ) (edges : List Edge) → IsTrue (list_all (is_edge n points) edges) → (edge : Edge) → In edges edge
     → IsTrue (is_edge n points edge)
@@ -26,7 +27,7 @@ edge_passes n points (first ∷ edges) h edge m =
 ends_pass : (system : System) (edge : Edge) → Contains system.flow.edges edge
     → (edge.from < length system.flow.points) × (edge.to < length system.flow.points)
 ends_pass system edge c =
-    let n = length system.flow.names in
+    let n = length system.flow.names + MOST_HIDDEN in
     let points = length system.flow.points in
     let a = both (nat_lt edge.from points) (nat_lt 0 edge.to && (nat_lt edge.to points
     && (nat_le (length edge.actions) 256 && list_all (is_action n) edge.actions)))

@@ -1,12 +1,13 @@
 -- Values that are carried action by action.
 use Rattle.std.proofs.Common.{◌≡◌, ◌∙◌, ℕ, ◌+◌, ◌<◌, ◌≤◌, List, [], ◌∷◌, length, get_or, drop, Some, None, Result, Ok, Err, refl, ap, sym}
 use Rattle.std.proofs.Common.{subst, arith}
-use Rattle.std.specs.Prelude.{ℤ, slice_set}
+use Rattle.std.specs.Prelude.{ℤ}
 use Rattle.std.proofs.lemmas.List.{drop_more, drop_all, drop-drop, nil_from_length}
-use Rattle.base_numbers.specs.Rational.{ℚ}
+use Rattle.base_numbers.specs.Rational.{ℚ, zero_ℚ}
 use Rattle.flow_edges.specs.declared.edge.Action.{Action}
 use Rattle.flow_edges.specs.declared.edge.Action.TheVariants.{Guard, Assign, Havoc}
 use Rattle.flow_edges.specs.declared.edge.Edge.{Edge}
+use Rattle.lang_tree.specs.Meaning.{put}
 use Rattle.lang_tree.specs.declared.form.Form.{Form}
 use Rattle.base_fractions.specs.declared.wide.Wide.{Wide}
 use Rattle.base_fractions.specs.Fits.{long_limit}
@@ -32,7 +33,7 @@ module _ (constants : Constants) (x : RationalState) (free : List ℚ) where
   -- an assignment, and one that is wide
   pub assign_made : (form : Form) (var : ℕ) (v : ℚ) → v ≡ valueℚ (form_with constants form) x
       → first_wide long_limit (form_operations (form_with constants form) x) ≡ None →
-      StepIs constants (Assign var form) x free (slice_set x var v) 0
+      StepIs constants (Assign var form) x free (put zero_ℚ x var v) 0
   assign_made form var v e n = (refl, λ rest. assigned (form_with constants form) x free v e n var (moves constants rest))
 
   -- a wide operation of an assignment's form is the first of the actions from there on
@@ -43,11 +44,11 @@ module _ (constants : Constants) (x : RationalState) (free : List ℚ) where
 
 -- a free value
 pub havoc_made : (constants : Constants) (x : RationalState) (free : List ℚ) (var : ℕ) (d q : ℚ) → 1 ≤ length free → q ≡ get_or free 0 d
-    → StepIs constants (Havoc var) x free (slice_set x var q) 1
+    → StepIs constants (Havoc var) x free (put zero_ℚ x var q) 1
 havoc_made constants x [] var d q l e = absurd (omega arith)
 havoc_made constants x (p ∷ free) var d q l e = (
   refl,
-  λ rest. subst (λ v. LeadsOn (Havoc var ∷ moves constants rest) x (p ∷ free) (moves constants rest) (slice_set x var v) free) (sym e)
+  λ rest. subst (λ v. LeadsOn (Havoc var ∷ moves constants rest) x (p ∷ free) (moves constants rest) (put zero_ℚ x var v) free) (sym e)
       (record { ends = λ y. (λ f. f, λ f. f); first = λ row. refl }),
 )
 

@@ -1,6 +1,6 @@
 -- The values that the moves of an edge carry are those of its composed forms.
 use Rattle.std.proofs.Common.{◌≡◌, ◌∙◌, ℕ, suc, List, [], ◌∷◌, ◌++◌, map, length, refl, sym, ap}
-use Rattle.std.specs.Prelude.{ℤ, slice_set}
+use Rattle.std.specs.Prelude.{ℤ}
 use Rattle.flow_edges.specs.declared.edge.Action.{Action}
 use Rattle.flow_edges.specs.declared.edge.Action.TheVariants.{Guard, Assign, Havoc, Check}
 use Rattle.flow_edges.specs.declared.edge.Edge.{Edge}
@@ -9,7 +9,7 @@ use Rattle.flow_systems.specs.FreeValues.{Follows}
 use Rattle.flow_systems.specs.Equations.{Equations}
 use Rattle.flow_systems.specs.declared.trace.Trace.{Trace}
 use Rattle.flow_systems.specs.Constants.{linear_form, linear_action}
-use Rattle.theory_validity.specs.Words.{Affine, Word, column, columns, composed, ends_from, end_of, values}
+use Rattle.theory_validity.specs.Words.{Affine, Word, with_form, column, columns, composed, ends_from, end_of, values}
 use Rattle.theory_validity.specs.Steps.{end_value}
 use Rattle.theory_validity.proofs.words.Following.{follows_iff}
 use Rattle.theory_validity.proofs.words.Linearized.{end-slope}
@@ -21,8 +21,8 @@ ends-kept : (k : ℕ) (fs : List Affine) (actions : List Action) → ends_from k
 unfolding ends_from
 ends-kept k fs [] = refl
 ends-kept k fs (Guard form ∷ actions) = ends-kept k fs actions
-ends-kept k fs (Assign var form ∷ actions) = ends-kept k (slice_set fs var (composed form fs)) actions
-ends-kept k fs (Havoc var ∷ actions) = ends-kept (suc k) (slice_set fs var (column k)) actions
+ends-kept k fs (Assign var form ∷ actions) = ends-kept k (with_form fs var (composed form fs)) actions
+ends-kept k fs (Havoc var ∷ actions) = ends-kept (suc k) (with_form fs var (column k)) actions
 ends-kept k fs (Check about ∷ actions) = ends-kept k fs actions
 
 ends-zero : (k : ℕ) (fs : List Affine) (actions : List Action) → ends_from k fs (moves Zero actions)
@@ -30,8 +30,8 @@ ends-zero : (k : ℕ) (fs : List Affine) (actions : List Action) → ends_from k
 unfolding ends_from
 ends-zero k fs [] = refl
 ends-zero k fs (Guard form ∷ actions) = ends-zero k fs actions
-ends-zero k fs (Assign var form ∷ actions) = ends-zero k (slice_set fs var (composed (linear_form form) fs)) actions
-ends-zero k fs (Havoc var ∷ actions) = ends-zero (suc k) (slice_set fs var (column k)) actions
+ends-zero k fs (Assign var form ∷ actions) = ends-zero k (with_form fs var (composed (linear_form form) fs)) actions
+ends-zero k fs (Havoc var ∷ actions) = ends-zero (suc k) (with_form fs var (column k)) actions
 ends-zero k fs (Check about ∷ actions) = ends-zero k fs actions
 
 -- where the moves end

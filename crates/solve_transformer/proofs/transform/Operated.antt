@@ -37,7 +37,7 @@ use Rattle.solve_transformer.specs.Values.{problem_reading}
 use Rattle.solve_transformer.specs.Splits.{bounds_at, IsSource}
 use Rattle.solve_transformer.specs.Readings.{IsProblemFault}
 use Rattle.solve_composition.proofs.Places.{read_at}
-use Rattle.solve_composition.proofs.Alls.{edge_fits}
+use Rattle.flow_systems.proofs.EdgeActions.{edge_fits}
 use Rattle.solve_composition.proofs.composed.Means.{paths_count, forms_are, have_columns}
 use Rattle.solve_composition.proofs.operations.Walked.{guards_few}
 

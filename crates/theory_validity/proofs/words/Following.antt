@@ -1,12 +1,13 @@
 -- A state followed with free values is a word that passes; a direction followed without constants is a direction that falls.
 use Rattle.std.proofs.Common.{◌≡◌, ◌∙◌, ◌↔◌, ℕ, suc, List, [], ◌∷◌, ◌++◌, length, append_assoc, length-append, refl, sym, ap, subst, arith}
-use Rattle.std.specs.Prelude.{slice_set}
 use Rattle.base_numbers.specs.Rational.{ℚ, zero_ℚ, ◌≤ℚ◌}
+use Rattle.lang_tree.specs.Meaning.{put}
 use Rattle.lang_tree.specs.declared.form.Form.{Form}
 use Rattle.flow_edges.specs.declared.edge.Action.{Action}
 use Rattle.flow_edges.specs.declared.edge.Action.TheVariants.{Guard, Assign, Havoc, Check}
 use Rattle.flow_systems.specs.States.{RationalState, valueℚ}
-use Rattle.theory_validity.specs.Words.{Word, Affine, column, columns, values, composed, guards_from, ends_from, free_count, guard_forms}
+use Rattle.theory_validity.specs.Words.{Word, Affine, column, columns, values, with_form, composed}
+use Rattle.theory_validity.specs.Words.{guards_from, ends_from, free_count, guard_forms}
 use Rattle.theory_validity.specs.Words.{end_of, AllAtMost, Passes}
 use Rattle.flow_systems.specs.FreeValues.{Follows}
 use Rattle.theory_validity.proofs.words.WordForms.{val-composed}
@@ -17,19 +18,19 @@ abbrev At : List Affine → Word → RationalState → Type 0
 At fs base x = (rest : Word) → values fs (base ++ rest) ≡ x
 
 at_assign : (fs : List Affine) (base : Word) (x : RationalState) (var : ℕ) (form : Form) → At fs base x
-    → At (slice_set fs var (composed form fs)) base (slice_set x var (valueℚ form x))
+    → At (with_form fs var (composed form fs)) base (put zero_ℚ x var (valueℚ form x))
 at_assign fs base x var form at rest =
     values-set fs var (composed form fs) (base ++ rest)
-    ∙ ap (slice_set (values fs (base ++ rest)) var) (val-composed form fs (base ++ rest))
-    ∙ ap (λ s. slice_set s var (valueℚ form s)) (at rest)
+    ∙ ap (put zero_ℚ (values fs (base ++ rest)) var) (val-composed form fs (base ++ rest))
+    ∙ ap (λ s. put zero_ℚ s var (valueℚ form s)) (at rest)
 
 at_forget : (fs : List Affine) (base : Word) (x : RationalState) (var : ℕ) (q : ℚ) → At fs base x
-    → At (slice_set fs var (column (length base))) (base ++ q ∷ []) (slice_set x var q)
+    → At (with_form fs var (column (length base))) (base ++ q ∷ []) (put zero_ℚ x var q)
 at_forget fs base x var q at rest =
-    ap (values (slice_set fs var (column (length base)))) (append_assoc base (q ∷ []) rest)
+    ap (values (with_form fs var (column (length base)))) (append_assoc base (q ∷ []) rest)
     ∙ values-set fs var (column (length base)) (base ++ q ∷ rest)
-    ∙ ap (slice_set (values fs (base ++ q ∷ rest)) var) (val-column base q rest)
-    ∙ ap (λ s. slice_set s var q) (at (q ∷ rest))
+    ∙ ap (put zero_ℚ (values fs (base ++ q ∷ rest)) var) (val-column base q rest)
+    ∙ ap (λ s. put zero_ℚ s var q) (at (q ∷ rest))
 
 one_more : (base : Word) (q : ℚ) → length (base ++ q ∷ []) ≡ suc (length base)
 one_more base q = omega (arith, length-append base (q ∷ []))
@@ -47,12 +48,12 @@ follows_passes (Guard form ∷ actions) fs base x free y at h =
     let r = follows_passes actions fs base x free y at h.1 in
     (r.0, (subst (λ s. s ≤ℚ zero_ℚ) (sym (val-composed form fs (base ++ free) ∙ ap (valueℚ form) (at free))) h.0, r.1), r.2)
 follows_passes (Assign var form ∷ actions) fs base x free y at h =
-    follows_passes actions (slice_set fs var (composed form fs)) base (slice_set x var (valueℚ form x)) free y
+    follows_passes actions (with_form fs var (composed form fs)) base (put zero_ℚ x var (valueℚ form x)) free y
     (at_assign fs base x var form at) h
 follows_passes (Havoc var ∷ actions) fs base x [] y at h = absurd h
 follows_passes (Havoc var ∷ actions) fs base x (q ∷ free) y at h =
-    let next = slice_set fs var (column (length base)) in
-    let r = follows_passes actions next (base ++ q ∷ []) (slice_set x var q) free y (at_forget fs base x var q at) h in
+    let next = with_form fs var (column (length base)) in
+    let r = follows_passes actions next (base ++ q ∷ []) (put zero_ℚ x var q) free y (at_forget fs base x var q at) h in
     let e = one_more base q in
     let same = append_assoc base (q ∷ []) free in (
       ap suc r.0,
@@ -73,15 +74,15 @@ passes_follows (Guard form ∷ actions) fs base x free y at h = (
   passes_follows actions fs base x free y at (h.0, h.1.1, h.2),
 )
 passes_follows (Assign var form ∷ actions) fs base x free y at h =
-    passes_follows actions (slice_set fs var (composed form fs)) base (slice_set x var (valueℚ form x)) free y
+    passes_follows actions (with_form fs var (composed form fs)) base (put zero_ℚ x var (valueℚ form x)) free y
     (at_assign fs base x var form at) h
 passes_follows (Havoc var ∷ actions) fs base x [] y at h = let e = h.0 in absurd (omega arith)
 passes_follows (Havoc var ∷ actions) fs base x (q ∷ free) y at h =
-    let next = slice_set fs var (column (length base)) in
+    let next = with_form fs var (column (length base)) in
     let e = sym (one_more base q) in
     let same = sym (append_assoc base (q ∷ []) free) in
     let l = h.0 in
-    passes_follows actions next (base ++ q ∷ []) (slice_set x var q) free y (at_forget fs base x var q at) (
+    passes_follows actions next (base ++ q ∷ []) (put zero_ℚ x var q) free y (at_forget fs base x var q at) (
       omega (arith, l),
       subst (λ w. AllAtMost (guards_from (length (base ++ q ∷ [])) next actions) w) same
           (subst (λ j. AllAtMost (guards_from j next actions) (base ++ q ∷ free)) e h.1),

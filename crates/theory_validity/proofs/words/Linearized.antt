@@ -1,7 +1,7 @@
 -- Linear parts of composed forms are the values of the forms composed without constants.
 use Rattle.std.proofs.Common.{◌≡◌, ◌∙◌, ◌↔◌, ℕ, zero, suc, List, [], ◌∷◌, map, refl, sym, ap, ap₂, subst}
-use Rattle.std.specs.Prelude.{ℤ, pos, slice_set}
-use Rattle.std.proofs.lemmas.List.{map-set}
+use Rattle.std.specs.Prelude.{ℤ, pos}
+use Rattle.lang_tree.proofs.Put.{map-put}
 use Rattle.base_numbers.specs.Rational.{whole, zero_ℚ, ◌+ℚ◌, ◌*ℚ◌, ◌≤ℚ◌}
 use Rattle.base_numbers.specs.Vector.{dot, add_vec, scale_vec}
 use Rattle.base_numbers.proofs.rational.Laws.{+ℚ_idr, *ℚ-zero, whole-zero}
@@ -9,7 +9,8 @@ use Rattle.lang_tree.specs.declared.form.Form.{Form}
 use Rattle.flow_edges.specs.declared.edge.Action.{Action}
 use Rattle.flow_edges.specs.declared.edge.Action.TheVariants.{Guard, Assign, Havoc, Check}
 use Rattle.flow_systems.specs.States.{dotℚ}
-use Rattle.theory_validity.specs.Words.{Word, Affine, val, lin, shifted, column, columns, combined, composed, guards_from, ends_from}
+use Rattle.theory_validity.specs.Words.{Word, Affine, val, lin, no_form, with_form, shifted, column}
+use Rattle.theory_validity.specs.Words.{columns, combined, composed, guards_from, ends_from}
 use Rattle.theory_validity.specs.Words.{guard_forms, end_form, end_of, AllAtMost, AllFall, Passes, Falls}
 use Rattle.flow_systems.specs.Constants.{linear_form, linear_action}
 use Rattle.theory_validity.proofs.words.WordLaws.{val-end_form}
@@ -55,8 +56,8 @@ flat-composed form fs =
     let e = flat-combined form.coeffs fs in
     affine_same _ _ (ap (λ g. g.coeffs) e) (ap (λ g. g.constant +ℚ whole (pos 0)) e ∙ ap (λ s. zero_ℚ +ℚ s) whole-zero ∙ +ℚ_idr zero_ℚ)
 
-flat-set : (fs : List Affine) (var : ℕ) (f g : Affine) → g ≡ flat f → slice_set (map flat fs) var g ≡ map flat (slice_set fs var f)
-flat-set fs var f g e = ap (slice_set (map flat fs) var) e ∙ sym (map-set flat fs var f)
+flat-set : (fs : List Affine) (var : ℕ) (f g : Affine) → g ≡ flat f → with_form (map flat fs) var g ≡ map flat (with_form fs var f)
+flat-set fs var f g e = ap (with_form (map flat fs) var) e ∙ sym (map-put flat no_form fs var f)
 
 flat-guards : (k : ℕ) (fs : List Affine) (actions : List Action) → guards_from k (map flat fs) (map linear_action actions)
     ≡ map flat (guards_from k fs actions)
@@ -65,10 +66,10 @@ flat-guards k fs [] = refl
 flat-guards k fs (Guard form ∷ actions) = ap₂ (λ g gs. g ∷ gs) (flat-composed form fs) (flat-guards k fs actions)
 flat-guards k fs (Assign var form ∷ actions) =
     ap (λ gs. guards_from k gs (map linear_action actions)) (flat-set fs var (composed form fs) (composed (linear_form form) (map flat fs))
-    (flat-composed form fs)) ∙ flat-guards k (slice_set fs var (composed form fs)) actions
+    (flat-composed form fs)) ∙ flat-guards k (with_form fs var (composed form fs)) actions
 flat-guards k fs (Havoc var ∷ actions) =
     ap (λ gs. guards_from (suc k) gs (map linear_action actions)) (flat-set fs var (column k) (column k) (sym (flat-column k)))
-    ∙ flat-guards (suc k) (slice_set fs var (column k)) actions
+    ∙ flat-guards (suc k) (with_form fs var (column k)) actions
 flat-guards k fs (Check about ∷ actions) = flat-guards k fs actions
 
 flat-ends : (k : ℕ) (fs : List Affine) (actions : List Action) → ends_from k (map flat fs) (map linear_action actions)
@@ -78,10 +79,10 @@ flat-ends k fs [] = refl
 flat-ends k fs (Guard form ∷ actions) = flat-ends k fs actions
 flat-ends k fs (Assign var form ∷ actions) =
     ap (λ gs. ends_from k gs (map linear_action actions)) (flat-set fs var (composed form fs) (composed (linear_form form) (map flat fs))
-    (flat-composed form fs)) ∙ flat-ends k (slice_set fs var (composed form fs)) actions
+    (flat-composed form fs)) ∙ flat-ends k (with_form fs var (composed form fs)) actions
 flat-ends k fs (Havoc var ∷ actions) =
     ap (λ gs. ends_from (suc k) gs (map linear_action actions)) (flat-set fs var (column k) (column k) (sym (flat-column k)))
-    ∙ flat-ends (suc k) (slice_set fs var (column k)) actions
+    ∙ flat-ends (suc k) (with_form fs var (column k)) actions
 flat-ends k fs (Check about ∷ actions) = flat-ends k fs actions
 
 falls_to : (gs : List Affine) (d : Word) → AllFall gs d ↔ AllAtMost (map flat gs) d

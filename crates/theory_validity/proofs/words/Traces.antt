@@ -1,15 +1,17 @@
 -- Traces along actions are words that pass.
 use Rattle.std.proofs.Common.{◌≡◌, ◌∙◌, ℕ, zero, suc, List, [], ◌∷◌, ◌++◌, map, length, append_assoc, refl, sym, ap, subst, arith}
-use Rattle.std.specs.Prelude.{slice_set}
-use Rattle.std.proofs.lemmas.List.{map-set, length-map, length-append}
+use Rattle.std.proofs.lemmas.List.{length-map, length-append}
 use Rattle.base_numbers.specs.Rational.{ℚ, zero_ℚ, one_ℚ, ◌+ℚ◌, ◌*ℚ◌, ◌≤ℚ◌}
 use Rattle.base_numbers.specs.Vector.{dot}
 use Rattle.base_numbers.proofs.rational.Laws.{+ℚ_idl, +ℚ_idr, *ℚ_idl, zero-*ℚ}
+use Rattle.lang_tree.specs.Meaning.{put}
+use Rattle.lang_tree.proofs.Put.{map-put}
 use Rattle.flow_edges.specs.declared.edge.Action.{Action}
 use Rattle.flow_edges.specs.declared.edge.Action.TheVariants.{Guard, Assign, Havoc, Check}
 use Rattle.flow_systems.specs.States.{RationalState, valueℚ, Traces}
-use Rattle.theory_validity.specs.Words.{Word, Affine, val, shifted, column, columns, values, composed, guards_from, ends_from, free_count}
-use Rattle.theory_validity.specs.Words.{guard_forms, start_of, end_of, AllAtMost, Passes}
+use Rattle.theory_validity.specs.Words.{Word, Affine, val, shifted, column, columns, values, no_form}
+use Rattle.theory_validity.specs.Words.{with_form, composed, guards_from, ends_from}
+use Rattle.theory_validity.specs.Words.{free_count, guard_forms, start_of, end_of, AllAtMost, Passes}
 use Rattle.theory_validity.proofs.words.WordForms.{val-composed}
 
 -- ---- columns
@@ -57,10 +59,15 @@ unfolding start_of
 start_is n x free e = subst (λ k. values (columns k) (x ++ free) ≡ x) e (values-columns x free)
 
 -- ---- a word that passes is a trace
+val-no_form : (w : Word) → val no_form w ≡ zero_ℚ
+unfolding val dot
+val-no_form w = +ℚ_idr zero_ℚ
+
+-- the values of a state of forms with another form at a variable
 pub values-set : (fs : List Affine) (var : ℕ) (f : Affine) (w : Word) →
-    values (slice_set fs var f) w ≡ slice_set (values fs w) var (val f w)
+    values (with_form fs var f) w ≡ put zero_ℚ (values fs w) var (val f w)
 unfolding values
-values-set fs var f w = map-set (λ g. val g w) fs var f
+values-set fs var f w = map-put (λ g. val g w) no_form fs var f ∙ ap (λ q. put q (values fs w) var (val f w)) (val-no_form w)
 
 trace_from : (actions : List Action) (k : ℕ) (fs : List Affine) (w : Word) → AllAtMost (guards_from k fs actions) w →
     Traces actions (values fs w) (values (ends_from k fs actions) w)
@@ -68,14 +75,14 @@ unfolding guards_from ends_from
 trace_from [] k fs w h = refl
 trace_from (Guard form ∷ actions) k fs w h = (subst (λ s. s ≤ℚ zero_ℚ) (val-composed form fs w) h.0, trace_from actions k fs w h.1)
 trace_from (Assign var form ∷ actions) k fs w h =
-    subst (λ x. Traces actions x (values (ends_from k (slice_set fs var (composed form fs)) actions) w))
-    (values-set fs var (composed form fs) w ∙ ap (slice_set (values fs w) var) (val-composed form fs w))
-    (trace_from actions k (slice_set fs var (composed form fs)) w h)
+    subst (λ x. Traces actions x (values (ends_from k (with_form fs var (composed form fs)) actions) w))
+    (values-set fs var (composed form fs) w ∙ ap (put zero_ℚ (values fs w) var) (val-composed form fs w))
+    (trace_from actions k (with_form fs var (composed form fs)) w h)
 trace_from (Havoc var ∷ actions) k fs w h = (
   val (column k) w,
-  subst (λ x. Traces actions x (values (ends_from (suc k) (slice_set fs var (column k)) actions) w))
+  subst (λ x. Traces actions x (values (ends_from (suc k) (with_form fs var (column k)) actions) w))
       (values-set fs var (column k) w)
-      (trace_from actions (suc k) (slice_set fs var (column k)) w h),
+      (trace_from actions (suc k) (with_form fs var (column k)) w h),
 )
 trace_from (Check about ∷ actions) k fs w h = trace_from actions k fs w h
 
@@ -100,20 +107,20 @@ frees_from (Guard form ∷ actions) fs base x y at h =
     let r = frees_from actions fs base x y at h.1 in
     (r.0, r.1, (subst (λ s. s ≤ℚ zero_ℚ) (sym (val-composed form fs (base ++ r.0) ∙ ap (valueℚ form) (at r.0))) h.0, r.2), r.3)
 frees_from (Assign var form ∷ actions) fs base x y at h =
-    frees_from actions (slice_set fs var (composed form fs)) base (slice_set x var (valueℚ form x)) y (λ rest.
+    frees_from actions (with_form fs var (composed form fs)) base (put zero_ℚ x var (valueℚ form x)) y (λ rest.
     values-set fs var (composed form fs) (base ++ rest)
-    ∙ ap (slice_set (values fs (base ++ rest)) var) (val-composed form fs (base ++ rest))
-    ∙ ap (λ s. slice_set s var (valueℚ form s)) (at rest)) h
+    ∙ ap (put zero_ℚ (values fs (base ++ rest)) var) (val-composed form fs (base ++ rest))
+    ∙ ap (λ s. put zero_ℚ s var (valueℚ form s)) (at rest)) h
 frees_from (Havoc var ∷ actions) fs base x y at h =
     let q = h.0 in
     let k = length base in
-    let next = slice_set fs var (column k) in
+    let next = with_form fs var (column k) in
     let e : length (base ++ q ∷ []) ≡ suc k = omega (arith, length-append base (q ∷ [])) in
-    let r = frees_from actions next (base ++ q ∷ []) (slice_set x var q) y (λ rest.
+    let r = frees_from actions next (base ++ q ∷ []) (put zero_ℚ x var q) y (λ rest.
     ap (values next) (append_assoc base (q ∷ []) rest)
     ∙ values-set fs var (column k) (base ++ q ∷ rest)
-    ∙ ap (slice_set (values fs (base ++ q ∷ rest)) var) (val-column base q rest)
-    ∙ ap (λ s. slice_set s var q) (at (q ∷ rest))) h.1 in
+    ∙ ap (put zero_ℚ (values fs (base ++ q ∷ rest)) var) (val-column base q rest)
+    ∙ ap (λ s. put zero_ℚ s var q) (at (q ∷ rest))) h.1 in
     let same = append_assoc base (q ∷ []) r.0 in (
       q ∷ r.0,
       ap suc r.1,

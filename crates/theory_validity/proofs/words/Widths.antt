@@ -1,7 +1,7 @@
 -- A composed form has no column past a word's, so coefficients that are the same on those are the same.
 use Rattle.std.proofs.Common.{◌≡◌, ◌∙◌, ℕ, zero, suc, ◌+◌, ◌<◌, ◌≤◌, List, [], ◌∷◌, length, map, get_or, refl, sym, ap, subst, arith}
 use Rattle.std.proofs.Common.{le_trans}
-use Rattle.std.specs.Prelude.{ℤ, slice_set}
+use Rattle.std.specs.Prelude.{ℤ}
 use Rattle.std.proofs.Math.ListN.{get_or-eq_default}
 use native.Mathlib.Decide.{dec_lt}
 use Rattle.base_numbers.proofs.vector.Vectors.{length-scale_vec}
@@ -13,7 +13,8 @@ use Rattle.flow_edges.specs.declared.edge.Action.{Action}
 use Rattle.flow_edges.specs.declared.edge.Action.TheVariants.{Guard, Assign, Havoc, Check}
 use Rattle.flow_edges.specs.declared.edge.Edge.{Edge}
 use Rattle.flow_systems.specs.Equations.{Equations}
-use Rattle.theory_validity.specs.Words.{Affine, shifted, column, columns, combined, composed, guards_from, ends_from, free_count, width}
+use Rattle.theory_validity.specs.Words.{Affine, with_form, shifted, column, columns, combined, composed}
+use Rattle.theory_validity.specs.Words.{guards_from, ends_from, free_count, width}
 use Rattle.theory_validity.specs.Words.{guard_forms, start_form, end_form}
 use Rattle.theory_validity.specs.Certificates.{coefficients, combination, SameColumns}
 
@@ -64,8 +65,9 @@ unfolding columns
 narrow_columns zero = tt
 narrow_columns (suc n) = (let r = narrow_column 0 in omega arith, narrow_shifted n (columns n) (narrow_columns n))
 
-narrow_set : (m : ℕ) (fs : List Affine) (i : ℕ) (f : Affine) → length f.coeffs ≤ m → Narrow m fs → Narrow m (slice_set fs i f)
-narrow_set m [] i f h n = tt
+narrow_set : (m : ℕ) (fs : List Affine) (i : ℕ) (f : Affine) → length f.coeffs ≤ m → Narrow m fs → Narrow m (with_form fs i f)
+narrow_set m [] zero f h n = (h, tt)
+narrow_set m [] (suc i) f h n = (omega arith, narrow_set m [] i f h tt)
 narrow_set m (g ∷ fs) zero f h n = (h, n.1)
 narrow_set m (g ∷ fs) (suc i) f h n = (n.0, narrow_set m fs i f h n.1)
 
@@ -74,12 +76,12 @@ narrow_guards : (k : ℕ) (fs : List Affine) (actions : List Action) → Narrow 
 unfolding guards_from free_count
 narrow_guards k fs [] h = tt
 narrow_guards k fs (Guard form ∷ actions) h = (let r = narrow_composed k form fs h in omega arith, narrow_guards k fs actions h)
-narrow_guards k fs (Assign var form ∷ actions) h = narrow_guards k (slice_set fs var (composed form fs)) actions
+narrow_guards k fs (Assign var form ∷ actions) h = narrow_guards k (with_form fs var (composed form fs)) actions
     (narrow_set k fs var (composed form fs) (narrow_composed k form fs h) h)
 narrow_guards k fs (Havoc var ∷ actions) h =
     let e : suc k + free_count actions ≡ k + suc (free_count actions) = omega arith in
-    subst (λ m. Narrow m (guards_from (suc k) (slice_set fs var (column k)) actions)) e
-    (narrow_guards (suc k) (slice_set fs var (column k)) actions (narrow_set (suc k) fs var (column k) (narrow_column k)
+    subst (λ m. Narrow m (guards_from (suc k) (with_form fs var (column k)) actions)) e
+    (narrow_guards (suc k) (with_form fs var (column k)) actions (narrow_set (suc k) fs var (column k) (narrow_column k)
     (widen k (suc k) fs (omega arith) h)))
 narrow_guards k fs (Check about ∷ actions) h = narrow_guards k fs actions h
 
@@ -87,12 +89,12 @@ narrow_ends : (k : ℕ) (fs : List Affine) (actions : List Action) → Narrow k 
 unfolding ends_from free_count
 narrow_ends k fs [] h = widen k (k + 0) fs (omega arith) h
 narrow_ends k fs (Guard form ∷ actions) h = narrow_ends k fs actions h
-narrow_ends k fs (Assign var form ∷ actions) h = narrow_ends k (slice_set fs var (composed form fs)) actions
+narrow_ends k fs (Assign var form ∷ actions) h = narrow_ends k (with_form fs var (composed form fs)) actions
     (narrow_set k fs var (composed form fs) (narrow_composed k form fs h) h)
 narrow_ends k fs (Havoc var ∷ actions) h =
     let e : suc k + free_count actions ≡ k + suc (free_count actions) = omega arith in
-    subst (λ m. Narrow m (ends_from (suc k) (slice_set fs var (column k)) actions)) e
-    (narrow_ends (suc k) (slice_set fs var (column k)) actions (narrow_set (suc k) fs var (column k) (narrow_column k)
+    subst (λ m. Narrow m (ends_from (suc k) (with_form fs var (column k)) actions)) e
+    (narrow_ends (suc k) (with_form fs var (column k)) actions (narrow_set (suc k) fs var (column k) (narrow_column k)
     (widen k (suc k) fs (omega arith) h)))
 narrow_ends k fs (Check about ∷ actions) h = narrow_ends k fs actions h
 

@@ -44,6 +44,12 @@ text_of names body template ns points v footer format bytes n p h =
     subst (λ ps. bytes ≡ report_in format names ps template v footer) p
     (subst (λ xs. bytes ≡ report_in format xs points template v footer) n h)
 
+-- the rows of a system's template are over its names
+pub over_names : (names : List (List ℕ)) (s : System) → s.flow.names ≡ names → IsTrue (is_over (length names) s.template)
+over_names names s e =
+    subst (λ (ns : List (List ℕ)). IsTrue (is_over (length ns) s.template)) e
+    (both (is_over (length s.flow.names) s.template) _ s.within_limits).0
+
 -- the report of a system's least vector is that of its program and template
 pub least_report : (names : List (List ℕ)) (body : Statements) (s : System) (v : Vector) (footer : Footer) (format : Format)
     (bytes : List ℕ) → s.flow.names ≡ names → s.flow.points ≡ points_of_program body → s.flow.edges ≡ edges_of_program body
@@ -54,7 +60,7 @@ least_report names body s v footer format bytes n p e least text =
     subst (λ q. Least q v) (same_equations names body s n p e) least in
     record {
       least = moved;
-      holds = program_soundness (length names) body s.template v moved.solves.post;
+      holds = program_soundness (length names) body s.template v (over_names names s n) moved.solves.post;
       report = text_of names body s.template s.flow.names s.flow.points v footer format bytes n p text;
     }
 

@@ -34,7 +34,7 @@ use Rattle.top_status.specs.declared.status.Excess.TheVariants.{Wide, Large}
 use Rattle.top_texts.proofs.check_texts.Listed.{verdicts_end, verdicts_speak}
 use Rattle.top_texts.proofs.questions.Answered.{halted}
 use Rattle.top_texts.proofs.rounds.OneChain.{solved_rounds}
-use Rattle.top_texts.proofs.texts.Once.{equations_are}
+use Rattle.top_texts.proofs.texts.Once.{equations_are, rows_over}
 
 -- the system of a program that a text reads as has the program's checks
 pub has_checks : (text : List ℕ) (rows : Domain (List ℕ)) (names : List (List ℕ)) (body : Statements) (s : System)
@@ -112,7 +112,8 @@ module _ (text : List ℕ) (rows : Domain (List ℕ)) (policy : Policy) (limit :
             };
             verdicts = verdicts;
             verdicts_are = are;
-            speak = verdicts_speak (length is.names) is.body is.template vector verdicts are has.within lowest.solves.post hold break;
+            speak = verdicts_speak (length is.names) is.body is.template vector verdicts are has.within
+                (rows_over is.names is.body is.template s is.system_for) lowest.solves.post hold break;
             written = subst₂ (λ ns (cs : List CheckCases). bytes ≡ checks_in format file text ns cs verdicts solved.improvements)
                 is.system_for.names_are has.checks_are written;
           }

@@ -9,6 +9,7 @@ use Rattle.lang_tree.specs.Limits.{is_program}
 use Rattle.lang_tree.specs.Tree.{Statements}
 use Rattle.flow_edges.specs.Checks.{Checked, checks_in, checks_of_program, with_cases}
 use Rattle.flow_systems.specs.Equations.{Equations, PostSolution, Vector}
+use Rattle.flow_systems.specs.SystemLimits.{is_over}
 use Rattle.flow_systems.specs.Solutions.{equations_of_program}
 use Rattle.flow_systems.specs.States.{RationalState}
 use Rattle.ask_checks.specs.Laws.{OpenStatesBreak, ProvedVerdictsHold}
@@ -96,16 +97,16 @@ module _ (body : Statements) (system : Equations) (vector : Vector) (verdicts : 
 -- at a post-solution of a program's system they speak of its runs
 pub verdicts_speak : (variables : ℕ) (body : Statements) (template : List (List ℤ)) (vector : Vector) (verdicts : List Verdict)
     → AreCheckVerdicts (equations_of_program variables body template) vector (checks_of_program body) verdicts
-    → IsTrue (is_program variables body) → PostSolution (equations_of_program variables body template) vector
-    → ProvedVerdictsHold → OpenStatesBreak
+    → IsTrue (is_program variables body) → IsTrue (is_over variables template)
+    → PostSolution (equations_of_program variables body template) vector → ProvedVerdictsHold → OpenStatesBreak
     → SpeakOfChecks variables body (equations_of_program variables body template) vector verdicts
-verdicts_speak variables body template vector verdicts are program post hold break =
+verdicts_speak variables body template vector verdicts are program over post hold break =
     let system = equations_of_program variables body template in
     record {
       one_each = one_each body system vector verdicts are;
       proved_where = λ k check said e f. (verdict_at body system vector verdicts are k check said e f).proved;
       proved = λ k check e f run is. hold variables body template vector (checks_of_program body) verdicts k check.about check.cond program
-          post are (cased (checks_in body) k check e) f run is;
+          over post are (cased (checks_in body) k check e) f run is;
       open_ones = λ k check state e f. break system vector (checks_of_program body) verdicts k (with_cases check) state are
           (cased (checks_in body) k check e) f;
     }

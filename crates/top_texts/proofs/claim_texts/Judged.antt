@@ -39,7 +39,7 @@ use Rattle.top_status.specs.declared.status.TextCause.{TextCause}
 use Rattle.top_status.specs.declared.status.TextCause.TheVariants.{Lex, Parse, Flow, Rows, Unknowns, Claims, Equ, Auto}
 use Rattle.top_texts.proofs.questions.Answered.{halted}
 use Rattle.top_texts.proofs.rounds.OneChain.{solved_rounds}
-use Rattle.top_texts.proofs.texts.Once.{equations_are}
+use Rattle.top_texts.proofs.texts.Once.{equations_are, rows_over}
 
 -- ---- claims over a flow
 
@@ -152,7 +152,7 @@ module _ (text : List ℕ) (rows : Domain (List ℕ)) (given : List ℕ) (policy
                   one_each = AllZip-long (IsClaimVerdict system vector) claims verdicts are_verdicts;
                   proved_where = λ k claim verdict e f. (verdict_at system vector claims verdicts k claim verdict are_verdicts e f).proved;
                   proved = λ k claim e f. proved_hold (length is.names) is.body is.template vector claims verdicts k claim
-                      lowest.solves.post are_verdicts e f
+                      (rows_over is.names is.body is.template s is.system_for) lowest.solves.post are_verdicts e f
                       (stands_at is.names (points_of_program is.body) claims k claim over.stand e).against;
                   open_ones = λ k claim state e f. open_break system vector claims verdicts k claim state are_verdicts e f;
                 };

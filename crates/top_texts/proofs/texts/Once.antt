@@ -1,7 +1,7 @@
 -- Texts are refused by one cause, or mean a system: by stages, each of which has one cause or goes on to the next. The text of a program
 -- alone is refused by one cause, or by none where its points and edges are within the limits.
 use Rattle.std.proofs.Common.{◌≡◌, ◌≤◌, ◌<◌, ℕ, List, length, refl, sym, ap, ◌∙◌, subst, arith}
-use Rattle.std.specs.Prelude.{ℤ, Option, Ok, Err, Some, None}
+use Rattle.std.specs.Prelude.{ℤ, IsTrue, Option, Ok, Err, Some, None}
 use Rattle.lang_tokens.specs.declared.fault.LexFault.{LexFault}
 use Rattle.lang_tokens.specs.Faults.{HasFault}
 use Rattle.lang_tokens.proofs.reading.Once.{one_text_fault, no_fault}
@@ -11,19 +11,26 @@ use Rattle.flow_edges.specs.declared.fault.FlowFault.{FlowFault}
 use Rattle.flow_edges.specs.Faults.{fault_of_program}
 use Rattle.flow_templates.specs.declared.fault.RowFault.{RowFault}
 use Rattle.flow_systems.specs.declared.system.System.{System}
+use Rattle.flow_systems.specs.SystemLimits.{is_over}
 use Rattle.flow_systems.specs.Solutions.{equations_of_program}
 use Rattle.flow_systems.specs.View.{equations_of}
 use Rattle.ask_words.specs.declared.request.Domain.{Domain}
 use Rattle.ask_words.specs.declared.request.Domain.TheVariants.{Intervals}
 use Rattle.top_texts.specs.Rounds.{IsSystemFor}
-use Rattle.top_texts.proofs.analyse.Solved.{same_equations}
+use Rattle.top_texts.proofs.analyse.Solved.{over_names, same_equations}
 use Rattle.top_texts.specs.Texts.{HasTemplate, IsAnalysed, IsReady, IsRefused, IsRefusedProgram, IsSolvedSystem, Reading, unknowns}
 use Rattle.top_texts.proofs.texts.Readings.{program_once, fault_once, not_both, rows_once, row_fault_once, not_rows}
 use Rattle.top_status.specs.declared.status.TextCause.{TextCause}
 use Rattle.top_status.specs.declared.status.TextCause.TheVariants.{Lex, Parse, Flow, Rows, Unknowns, Claims, Equ, Auto}
 use Rattle.flow_systems.specs.declared.limits.TheConstants.{MOST_UNKNOWNS}
 
--- ---- the last stage: too many unknowns, or not
+-- ---- the system of a program
+
+-- the rows of its template are over its names
+pub rows_over : (names : List (List ℕ)) (body : Statements) (template : List (List ℤ)) (s : System) → IsSystemFor names body template s
+    → IsTrue (is_over (length names) template)
+rows_over names body template s is =
+    subst (λ (rows : List (List ℤ)). IsTrue (is_over (length names) rows)) is.template_is (over_names names s is.names_are)
 
 -- the equations of a system are those of its program and template
 pub equations_are : (names : List (List ℕ)) (body : Statements) (template : List (List ℤ)) (s : System) → IsSystemFor names body template s
@@ -31,6 +38,8 @@ pub equations_are : (names : List (List ℕ)) (body : Statements) (template : Li
 equations_are names body template s is =
     same_equations names body s is.names_are is.points_are is.edges_are
     ∙ ap (λ t. equations_of_program (length names) body t) is.template_is
+
+-- ---- the last stage: too many unknowns, or not
 
 data LastStage (names : List (List ℕ)) (body : Statements) (template : List (List ℤ)) (o : Option TextCause) : Type 0 where
   many : MOST_UNKNOWNS < unknowns body template → o ≡ Some (Unknowns (unknowns body template)) → LastStage names body template o

@@ -9,20 +9,20 @@ use Rattle.acsl_annotate.proofs.answer.Refused.{plain_names, refused_names, refu
 use Rattle.acsl_annotate.proofs.answer.annotated.Goals as goal
 
 pub returns-in-Ok-clause-says : goal.returns-in-Ok-clause-says
-returns-in-Ok-clause-says g c = c.written.ensures.says (analysis_text c.args.analysis) c.args._format refl c.in-Ok.ensures.ok
+returns-in-Ok-clause-says g c = λ format. c.written.ensures.says (analysis_text c.args.analysis) format refl c.in-Ok.ensures.ok
 
 pub returns-in-Ok-clause-names : goal.returns-in-Ok-clause-names
-returns-in-Ok-clause-names g c =
-    plain_names (analysis_text c.args.analysis) c.args._format _ _ c.written.ensures.message c.written.ensures.ends
+returns-in-Ok-clause-names g c = λ format.
+    plain_names (analysis_text c.args.analysis) format _ _ c.written.ensures.message c.written.ensures.ends
 
 pub returns-in-Err-clause-says : goal.returns-in-Err-clause-says
-returns-in-Err-clause-says g c =
-    subst₂ (λ s bytes. Says (annotating exact (Analyse Report (analysis_text c.args.analysis) c.args._format)) s bytes)
+returns-in-Err-clause-says g c = λ format.
+    subst₂ (λ s bytes. Says (annotating exact (Analyse Report (analysis_text c.args.analysis) format)) s bytes)
     (sym c.refused_answer.ensures.status) (sym c.refused_answer.ensures.bytes)
-    (refused_says (analysis_text c.args.analysis) c.args._format c.in-Err.ending.status c.in-Err.ensures.err.answer
+    (refused_says (analysis_text c.args.analysis) format c.in-Err.ending.status c.in-Err.ensures.err.answer
     c.in-Err.ensures.err.unput)
 
 pub returns-in-Err-clause-names : goal.returns-in-Err-clause-names
-returns-in-Err-clause-names g c =
-    refused_names (analysis_text c.args.analysis) c.args._format c.in-Err.ending _ _ c.refused_answer.ensures.status
+returns-in-Err-clause-names g c = λ format.
+    refused_names (analysis_text c.args.analysis) format c.in-Err.ending _ _ c.refused_answer.ensures.status
     c.refused_answer.ensures.message c.in-Err.ensures.err

@@ -1,4 +1,4 @@
-use Rattle.std.proofs.Common.{length, refl, sym, ap, subst, arith}
+use Rattle.std.proofs.Common.{◌+◌, length, refl, sym, ap, subst, arith}
 use Rattle.std.specs.Prelude.{IsTrue}
 use Rattle.std.specs.List.{list_all}
 use Rattle.std.proofs.lemmas.Result.{err_from_is_err_and}
@@ -11,10 +11,11 @@ use Rattle.ask_checks.proofs.places.Sizes.{all_take}
 use Rattle.ask_checks.proofs.verdicts.Turns.{IsOpened, on_other, on_refused, on_proved, on_opened}
 use Rattle.ask_checks.proofs.judge.edge_verdict.Goals as goal
 use Rattle.ask_checks.proofs.judge.edge_verdict.Goals.{In-Open, then-is_check+in_ok-verdict+in-Proved, else-is_check}
+use Rattle.lang_tree.specs.declared.limits.TheConstants.{MOST_HIDDEN}
 
 pub verdict-requires-clause-actions : goal.verdict-requires-clause-actions
 verdict-requires-clause-actions c =
-    let n = length c.args.system.now.flow.names in
+    let n = length c.args.system.now.flow.names + MOST_HIDDEN in
     all_take (is_action n) c.as_slice-actions.result.now c.loop-place.place
     (subst (λ xs. IsTrue (list_all (is_action n) xs)) (sym c.as_slice-actions.ensures) c.requires.actions)
 

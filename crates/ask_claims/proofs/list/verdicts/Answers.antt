@@ -1,8 +1,9 @@
-use Rattle.std.proofs.Common.{rules, ◌∙◌, [], length, sym, subst}
+use Rattle.std.proofs.Common.{◌+◌, rules, arith, ◌∙◌, [], length, sym, subst}
 use Rattle.std.specs.Prelude.{IsTrue, false}
 use Rattle.std.specs.List.{All, list_all}
 use Rattle.std.proofs.lemmas.List.{take_all}
 use Rattle.lang_tree.specs.View.{condition_of}
+use Rattle.lang_tree.proofs.Grown.{tested_grows}
 use Rattle.flow_systems.specs.View.{equations_of, vector_at}
 use Rattle.ask_verdicts.specs.Breaking.{is_case}
 use Rattle.ask_verdicts.specs.Verdicts.{AllFit, IsFirstFault, IsVerdict}
@@ -11,6 +12,7 @@ use Rattle.ask_verdicts.proofs.lists.Judged.{judged_push, judged_refused}
 use Rattle.ask_claims.specs.AllVerdicts.{IsClaimVerdict, ClaimFits}
 use Rattle.ask_claims.specs.Claims.{IsClaimOf}
 use Rattle.ask_claims.proofs.list.verdicts.Goals as goal
+use Rattle.lang_tree.specs.declared.limits.TheConstants.{MOST_HIDDEN}
 
 pub verdict-requires-clause-against : goal.verdict-requires-clause-against
 verdict-requires-clause-against c =
@@ -18,8 +20,9 @@ verdict-requires-clause-against c =
     let item = c.index-claims-number.result in
     let claim : IsClaimOf flow item =
     subst (IsClaimOf flow) (sym c.index-claims-number.is) (c.requires.claims c.loop-number.number item c.loop-number-test.true) in
-    subst (λ cases. IsTrue (list_all (is_case (length flow.names)) cases)) (sym (c.as_slice.ensures ∙ claim.against))
-    (tested_cases (length flow.names) false (condition_of item.cond) claim.condition)
+    subst (λ cases. IsTrue (list_all (is_case (length flow.names + MOST_HIDDEN)) cases)) (sym (c.as_slice.ensures ∙ claim.against))
+    (tested_cases (length flow.names + MOST_HIDDEN) false (condition_of item.cond)
+    (tested_grows (length flow.names) (length flow.names + MOST_HIDDEN) (condition_of item.cond) (omega arith) claim.condition))
 
 pub returns-in-Err-Wide-clause-refused : goal.returns-in-Err-Wide-clause-refused
 returns-in-Err-Wide-clause-refused c =

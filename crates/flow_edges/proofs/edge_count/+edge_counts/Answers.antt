@@ -1,10 +1,9 @@
-use Rattle.std.proofs.Common.{◌∙◌, ⊎_elim, sym, ap, min, arith}
-use Rattle.lang_tree.specs.declared.stmt.Stmt.{Stmt}
-use Rattle.lang_tree.specs.View.{condition_of, statement_of, statements_of}
+use Rattle.std.proofs.Common.{◌∙◌, sym, ap, min, arith}
+use Rattle.lang_tree.specs.View.{condition_of, deeds_of, statement_of, statements_of}
 use Rattle.flow_edges.specs.declared.edge_count.JumpCounts.{JumpCounts}
-use Rattle.flow_edges.specs.Counts.{edge_count_of, way_count_in}
+use Rattle.flow_edges.specs.Counts.{deeds_count, edge_count_of, tested_count, way_count_in}
 use Rattle.flow_edges.specs.declared.saturated.TheConstants.{ENOUGH}
-use Rattle.flow_edges.proofs.edge_count.Saturation.{counted_on, counted_turn, counted_do}
+use Rattle.flow_edges.proofs.edge_count.Saturation.{counted_on, counted_off, counted_tested, counted_ends, counted_do}
 use Rattle.flow_edges.proofs.edge_count.+edge_counts.Goals as goal
 
 pub edge_count_in-returns-then-completes : goal.edge_count_in-returns-then-completes
@@ -15,21 +14,39 @@ edge_count_in-returns-then-completes t c =
     c.edge_count_of-count.ensures c.edge_count_in.ensures
     c.sum.ensures
 
+pub edge_count_in-returns-else-completes : goal.edge_count_in-returns-else-completes
+edge_count_in-returns-else-completes t c =
+    counted_off (statements_of c.args.stmts.now) (statements_of c.in-Some.rest.now) (statement_of c.in-Some.stmt.now) c.args.jumps
+    c.args.next c.way_count.result _
+    (ap statements_of c.in-Some.ensures.cases.0) (sym c.completes.ensures ∙ c.if-completes.false) c.way_count.ensures
+    c.edge_count_of-count.ensures
+
+pub edge_count_of-returns-in-For : goal.edge_count_of-returns-in-For
+edge_count_of-returns-in-For t c =
+    let cond = condition_of c.in-For.cond in
+    let next = c.args.next in
+    c.tested_count-in-For.ensures
+    ∙ ap (λ p. min (tested_count p cond c.in-For.body c.deeds_count-end.result next) ENOUGH) c.as_slice-in-For-2.ensures
+    ∙ counted_ends c.in-For.prelude cond c.in-For.body c.deeds_count-end.result (deeds_count c.in-For.change 1) next
+    (c.deeds_count-end.ensures ∙ ap (λ g. min (deeds_count g 1) ENOUGH) c.as_slice-in-For.ensures)
+    ∙ ap (λ s. min (edge_count_of s c.args.jumps next) ENOUGH) (sym (ap statement_of c.in-For.is))
+
 pub edge_count_of-returns-in-Do : goal.edge_count_of-returns-in-Do
 edge_count_of-returns-in-Do t c =
-    counted_do (condition_of c.in-Do.cond) c.in-Do.body _ c.in-Do.line c.args.jumps c.args.next c.choice_count-end.result _ _ _
+    counted_do c.in-Do.prelude (condition_of c.in-Do.cond) c.in-Do.body _ c.in-Do.line c.args.jumps c.args.next c.choice_count.result
+    c.deeds_count-end-in-Do.result _ _ _
     c.as_slice-stmts.ensures
-    c.choice_count-end.ensures.few (c.choice_count-end.ensures.count 1 c.args.next (omega arith) (omega arith)) c.way_count.ensures
+    (c.choice_count.ensures.count 1 c.args.next (omega arith) (omega arith))
+    (c.deeds_count-end-in-Do.ensures ∙ ap (λ p. min (deeds_count p c.choice_count.result) ENOUGH) c.as_slice-in-Do.ensures)
+    c.way_count.ensures
     c.edge_count_in-in-Do.ensures c.sum-in-Do.ensures
     ∙ ap (λ s. min (edge_count_of s c.args.jumps c.args.next) ENOUGH) (sym (ap statement_of c.in-Do.is))
 
-pub edge_count_of-returns-in-While : goal.edge_count_of-returns-in-While
-edge_count_of-returns-in-While t c =
-    let inner : JumpCounts = record { broken = c.args.next; continued = 1 } in
-    let ways = way_count_in (statements_of c.as_slice-stmts-in-While.result.now) inner 1 in
-    let turn =
-    counted_turn (condition_of c.in-While.cond) c.in-While.body _ c.args.next _ _ _ c.as_slice-stmts-in-While.ensures
-    (c.choice_count-head.ensures.count ways c.args.next c.way_count-in-While.ensures (omega arith)) c.edge_count_in-in-While.ensures
-    c.sum-in-While.ensures in
-    let as_stmt = λ (s : Stmt). min (edge_count_of (statement_of s) c.args.jumps c.args.next) ENOUGH in
-    ⊎_elim (λ h. turn ∙ ap as_stmt (sym h.1)) (λ h. turn ∙ ap as_stmt (sym h.2)) c.in-While.is
+pub tested_count-returns : goal.tested_count-returns
+tested_count-returns t c =
+    let inner : JumpCounts = record { broken = c.args.next; continued = c.args.end } in
+    let ways = way_count_in (statements_of c.as_slice-stmts.result.now) inner c.args.end in
+    counted_tested (deeds_of c.args.prelude.now) (condition_of c.args.cond.now) c.args.body.now _ c.args.end c.args.next
+    c.choice_count-turn.result _ _ _ c.as_slice-stmts.ensures
+    (c.choice_count-turn.ensures.count ways c.args.next c.way_count.ensures (omega arith)) c.deeds_count.ensures c.edge_count_in.ensures
+    c.sum.ensures

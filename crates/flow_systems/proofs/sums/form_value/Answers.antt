@@ -1,12 +1,12 @@
-use Rattle.std.proofs.Common.{◌∙◌, length, sym}
+use Rattle.std.proofs.Common.{◌∙◌, sym}
 use Rattle.std.proofs.lemmas.Result.{err_from_is_err_and}
 use Rattle.flow_systems.specs.Constants.{form_with}
-use Rattle.flow_systems.proofs.states.Summed.{form_refused, form_added, constant_at}
+use Rattle.flow_systems.proofs.states.Summed.{form_refused, form_added, numbers_at}
 use Rattle.flow_systems.proofs.follow.WithConstants.{coeffs_same}
 use Rattle.flow_systems.proofs.sums.form_value.Goals as goal
 
 pub constant-requires : goal.constant-requires
-constant-requires c = constant_at (length c.args.state.now) c.args.form.now c.requires
+constant-requires c = (numbers_at c.args.form.now c.requires).1
 
 pub returns-in_err-sum : goal.returns-in_err-sum
 returns-in_err-sum c =

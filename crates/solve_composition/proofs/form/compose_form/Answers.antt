@@ -1,7 +1,7 @@
-use Rattle.std.proofs.Common.{◌∙◌, ℤ, List, length, ap, refl, sym, subst}
+use Rattle.std.proofs.Common.{◌∙◌, ℤ, List, ap, refl, sym, subst}
 use Rattle.std.proofs.lemmas.Result.{err_from_is_err_and}
 use Rattle.base_numbers.specs.Rational.{whole}
-use Rattle.flow_systems.proofs.states.Summed.{constant_at, number_same}
+use Rattle.flow_systems.proofs.states.Summed.{numbers_at, number_same}
 use Rattle.base_fractions.specs.Fits.{long_limit}
 use Rattle.base_fractions.specs.Operation.{first_wide}
 use Rattle.theory_validity.specs.Words.{combined}
@@ -27,7 +27,7 @@ returns-in_err-constant c = λ forms e.
     (last_refused c.args.width c.args.form.now forms c.in_ok-row.row c.fraction.result
     (row.0 ∙ ap (λ (cs : List ℤ). dense c.args.width (combined cs forms)) c.as_slice.ensures.list)
     (c.fraction.ensures ∙ ap whole (number_same c.args.form.now.constant
-    (constant_at (length c.args.state.now) c.args.form.now c.requires.form)))
+    (numbers_at c.args.form.now c.requires.form).1))
     (ap (λ (cs : List ℤ). first_wide long_limit (row_composition c.args.width forms cs)) (sym c.as_slice.ensures.list) ∙ row.1)
     c.in_err-constant.field-0.0 c.in_err-constant.ensures)
 
@@ -37,6 +37,6 @@ returns c = λ forms e.
     form_composed c.args.width c.args.form.now forms c.in_ok-row.row c.fraction.result
     (row.0 ∙ ap (λ (cs : List ℤ). dense c.args.width (combined cs forms)) c.as_slice.ensures.list)
     (c.fraction.ensures ∙ ap whole (number_same c.args.form.now.constant
-    (constant_at (length c.args.state.now) c.args.form.now c.requires.form)))
+    (numbers_at c.args.form.now c.requires.form).1))
     (ap (λ (cs : List ℤ). first_wide long_limit (row_composition c.args.width forms cs)) (sym c.as_slice.ensures.list) ∙ row.1)
     c.in_ok-row.row.coeffs c.in_ok-constant.constant refl c.in_ok-constant.ensures

@@ -19,32 +19,33 @@ loop-i-init c = record {
 pub returns-in_err-sum : goal.returns-in_err-sum
 returns-in_err-sum c =
     let p = err_from_is_err_and c.from_residual.result c.from_residual.ensures.1 in
-    let n = number_at c.args.coeffs.now c.loop-i.i c.requires.numbers c.loop-i-test.true in
+    let n = number_at c.args.coeffs.now c.loop-i.i c.requires (omega arith) in
     let size = length-map c.args.state.now (λ (f : Affine). f.constant) in
     rw (p.1, p.2)
-    (summed_wide c.args.coeffs.now (dense_constants c.args.state.now) c.loop-i.i c.loop-i.sum c.loop-i.invariant.summed c.loop-i-test.true
-    (omega (arith, c.requires.size, size)) (to_z w64 (of_z w64 (get_or c.args.coeffs.now c.loop-i.i (pos 0))))
+    (summed_wide c.args.coeffs.now (dense_constants c.args.state.now) c.loop-i.i c.loop-i.sum c.loop-i.invariant.summed (omega arith)
+    (omega (arith, size)) (to_z w64 (of_z w64 (get_or c.args.coeffs.now c.loop-i.i (pos 0))))
     (get_or c.args.state.now c.loop-i.i c.index-state-i.result).constant (number_same (get_or c.args.coeffs.now c.loop-i.i (pos 0)) n)
     (constant_read c.args.state.now c.loop-i.i c.index-state-i.result (get_or c.args.state.now c.loop-i.i c.index-state-i.result).constant
-    (omega (arith, c.requires.size)) refl)
+    (omega arith) refl)
     (operation_of (λ q. q) c.in_err-sum.field-0.0) c.in_err-sum.ensures)
 
 pub loop-i-preserved : goal.loop-i-preserved
 loop-i-preserved c =
-    let n = number_at c.args.coeffs.now c.loop-i.i c.requires.numbers c.loop-i-test.true in
+    let n = number_at c.args.coeffs.now c.loop-i.i c.requires (omega arith) in
     let size = length-map c.args.state.now (λ (f : Affine). f.constant) in
     record {
       summed = summed_more c.args.coeffs.now (dense_constants c.args.state.now) c.loop-i.i c.loop-i.sum c.loop-i.invariant.summed
-          c.loop-i-test.true (omega (arith, c.requires.size, size)) (to_z w64 (of_z w64 (get_or c.args.coeffs.now c.loop-i.i (pos 0))))
+          (omega arith) (omega (arith, size)) (to_z w64 (of_z w64 (get_or c.args.coeffs.now c.loop-i.i (pos 0))))
           (get_or c.args.state.now c.loop-i.i c.index-state-i.result).constant (number_same (get_or c.args.coeffs.now c.loop-i.i (pos 0)) n)
           (constant_read c.args.state.now c.loop-i.i c.index-state-i.result
-          (get_or c.args.state.now c.loop-i.i c.index-state-i.result).constant (omega (arith, c.requires.size)) refl)
+          (get_or c.args.state.now c.loop-i.i c.index-state-i.result).constant (omega arith) refl)
           c.in_ok-sum.sum c.in_ok-sum.ensures.0 c.in_ok-sum.ensures.1;
       fits = c.in_ok-sum.ensures.2;
     }
 
 pub returns : goal.returns
 returns c =
-    let s = summed_all c.args.coeffs.now (dense_constants c.args.state.now) c.loop-i.i c.loop-i.sum (omega arith)
-    c.loop-i.invariant.summed in
+    let size = length-map c.args.state.now (λ (f : Affine). f.constant) in
+    let s = summed_all c.args.coeffs.now (dense_constants c.args.state.now) c.loop-i.i c.loop-i.sum
+    (omega (arith, size)) c.loop-i.invariant.summed in
     (s.0, s.1, c.loop-i.invariant.fits)

@@ -1,7 +1,9 @@
-use Rattle.std.proofs.Common.{◌∙◌, ◌∷◌, [], ap, ap₂, refl, sym, arith}
-use Rattle.std.specs.Prelude.{slice_set}
-use Rattle.std.proofs.lemmas.List.{append-nil, map-set}
-use Rattle.theory_validity.specs.Words.{column, composed, free_count}
+use Rattle.std.proofs.Common.{◌∙◌, ◌∷◌, [], List, ap, ap₂, refl, sym, arith}
+use Rattle.std.proofs.lemmas.List.{append-nil}
+use Rattle.lang_tree.specs.Meaning.{put}
+use Rattle.lang_tree.proofs.Put.{map-put}
+use Rattle.theory_validity.specs.Words.{column, composed, free_count, no_form}
+use Rattle.solve_composition.specs.declared.affine.Affine.{Affine}
 use Rattle.solve_composition.specs.Composed.{dense}
 use Rattle.solve_composition.proofs.walk.Frees.{frees-havoc}
 use Rattle.solve_composition.proofs.walk.step.Goals as goal
@@ -12,23 +14,31 @@ compose_column-requires c =
     let room = c.requires.next in
     omega (arith, one, room)
 
-pub returns-in_ok-state-in-Assign : goal.returns-in_ok-state-in-Assign
-returns-in_ok-state-in-Assign c = λ forms e.
-    let f = c.in_ok-state-in-Assign.ensures forms e in
+pub overflow_add-result : goal.overflow_add-result
+overflow_add-result c =
+    let one = ap (λ a. free_count (a ∷ [])) c.in-Havoc.is ∙ frees-havoc c.in-Havoc.var in
+    let room = c.requires.next in
+    omega (arith, one, room, c.ranges.width.fits)
+
+pub returns-in_ok-put-in-Assign : goal.returns-in_ok-put-in-Assign
+returns-in_ok-put-in-Assign c = λ forms e.
+    let f = c.in_ok-value-in-Assign.ensures forms (c.as_slice-in-Assign.ensures.value ∙ e) in
     rw c.in-Assign.is (
       refl,
-      ap₂ (λ s x. slice_set s c.in-Assign.var x) e f.0 ∙ sym (map-set (dense c.args.width) forms c.in-Assign.var
-          (composed c.in-Assign.form forms)),
+      c.in_ok-put-in-Assign.ensures
+          ∙ ap₂ (λ (s : List Affine) x. put (dense c.args.width no_form) s c.in-Assign.var x) e f.0
+          ∙ sym (map-put (dense c.args.width) no_form forms c.in-Assign.var (composed c.in-Assign.form forms)),
       sym (append-nil c.args.guards.now.items),
       f.1,
     )
 
-pub returns-in_ok-state-in-Havoc : goal.returns-in_ok-state-in-Havoc
-returns-in_ok-state-in-Havoc c = λ forms e.
+pub returns-in_ok-put-in-Havoc : goal.returns-in_ok-put-in-Havoc
+returns-in_ok-put-in-Havoc c = λ forms e.
     rw c.in-Havoc.is (
       omega arith,
-      ap₂ (λ s x. slice_set s c.in-Havoc.var x) e c.in_ok-state-in-Havoc.ensures
-          ∙ sym (map-set (dense c.args.width) forms c.in-Havoc.var (column c.args.next)),
+      c.in_ok-put-in-Havoc.ensures
+          ∙ ap₂ (λ (s : List Affine) x. put (dense c.args.width no_form) s c.in-Havoc.var x) e c.in_ok-value-in-Havoc.ensures
+          ∙ sym (map-put (dense c.args.width) no_form forms c.in-Havoc.var (column c.args.next)),
       sym (append-nil c.args.guards.now.items),
       refl,
     )

@@ -7,8 +7,8 @@ use Rattle.solve_composition.proofs.walk.walk.Given as goal
 
 abbrev pub invariant-loop-action : goal.invariant-loop-action
 invariant-loop-action l = record {
-  walked : (forms : List Form) → l.fn.state ≡ map (dense l.width) forms
-      → Walked l.width (length l.fn.state) forms l.actions l.action-index l.next l.state l.guards.items;
-  state : IsState l.width l.state;
+  walked : (forms : List Form) → l.fn.state.items ≡ map (dense l.width) forms
+      → Walked l.width (length l.fn.state.items) forms l.actions l.action-index l.next l.state.items l.guards.items;
+  state : IsState l.width l.state.items;
   room : l.next + free_count (drop l.action-index l.actions) ≡ l.width;
 }

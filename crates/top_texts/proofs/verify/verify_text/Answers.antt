@@ -1,4 +1,4 @@
-use Rattle.std.proofs.Common.{◌≡◌, List, ℕ, length, rules, subst, subst₂, sym}
+use Rattle.std.proofs.Common.{◌+◌, ◌≡◌, List, ℕ, length, rules, subst, subst₂, sym}
 use Rattle.std.specs.Prelude.{◌↔◌, Contains, IsTrue}
 use Rattle.std.specs.List.{list_all}
 use Rattle.flow_edges.specs.Checks.{checks_of_program}
@@ -18,6 +18,7 @@ use Rattle.top_texts.specs.Questions.{checks_question}
 use Rattle.top_texts.proofs.check_texts.Cased.{checks_cased}
 use Rattle.top_texts.proofs.check_texts.Judged.{judged, unsolved, unsystematic, unverified}
 use Rattle.top_texts.proofs.verify.verify_text.Goals as goal
+use Rattle.lang_tree.specs.declared.limits.TheConstants.{MOST_HIDDEN}
 
 pub returns-in_err-checked-clause-err : goal.returns-in_err-checked-clause-err
 returns-in_err-checked-clause-err g c =
@@ -48,12 +49,12 @@ returns-in_err-list-clause-err g c =
 pub verdicts_of-requires-clause-against : goal.verdicts_of-requires-clause-against
 verdicts_of-requires-clause-against g c =
     let has = c.in_ok-checked.ensures.ok in
-    let all : IsTrue (list_all (λ (check : CheckCases). list_all (is_case (length has.solved.names)) check.against)
+    let all : IsTrue (list_all (λ (check : CheckCases). list_all (is_case (length has.solved.names + MOST_HIDDEN)) check.against)
     (checks_of_program has.solved.body)) = checks_cased (length has.solved.names) has.solved.body has.within in
     subst (λ (cs : List CheckCases). IsTrue (list_all (λ (check : CheckCases).
-    list_all (is_case (length c.in_ok-checked.checked.system.flow.names)) check.against) cs)) (sym c.as_slice-checks.ensures)
+    list_all (is_case (length c.in_ok-checked.checked.system.flow.names + MOST_HIDDEN)) check.against) cs)) (sym c.as_slice-checks.ensures)
     (subst₂ (λ (names : List (List ℕ)) (cs : List CheckCases). IsTrue (list_all (λ (check : CheckCases).
-    list_all (is_case (length names)) check.against) cs)) (sym has.solved.system_for.names_are) (sym has.checks_are) all)
+    list_all (is_case (length names + MOST_HIDDEN)) check.against) cs)) (sym has.solved.system_for.names_are) (sym has.checks_are) all)
 
 pub returns-clause-ok : goal.returns-clause-ok
 returns-clause-ok g c =

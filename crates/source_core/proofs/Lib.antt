@@ -1,0 +1,5 @@
+pub mod forms
+pub mod preludes
+pub mod expressions
+pub mod runs
+pub mod backward

@@ -1,0 +1,9 @@
+pub mod Division
+pub mod Operated
+pub mod Values
+pub mod Operands
+pub mod Kept
+pub mod Breaking
+pub mod Broken
+pub mod Exact
+pub mod Exactly

@@ -1,0 +1,213 @@
+-- Where no operation may give other values than it has, an expression has each value that its result has behind its prelude.
+use Rattle.std.proofs.Common.{◌≡◌, ◌≢◌, ◌⊎◌, inl, inr, ⊎_elim, ℕ, zero, suc, Bool, true, false, List, [], ◌∷◌, ◌++◌}
+use Rattle.std.proofs.Common.{refl, sym, ap, ap₂, subst, ◌∙◌, arith, true≢false}
+use Rattle.std.specs.Prelude.{ℤ, pos, negsuc, ◌-ℤ◌, ◌*ℤ◌, int_div, int_rem, ◌||◌, IsTrue, if◌then◌else◌}
+use Rattle.std.proofs.lemmas.Int.{ints}
+use Rattle.lang_tree.specs.declared.form.Form.{Form}
+use Rattle.lang_tree.specs.Tree.{Condition, Deed, havocs, wheres}
+use Rattle.lang_tree.specs.Tree as tree
+use Rattle.lang_tree.specs.Meaning.{State, value, MayBe}
+use Rattle.source_tree.specs.Expressions.{Operation, plus, minus, times, over, remainder}
+use Rattle.source_tree.specs.Values.{truth_number, Tells, Gives}
+use Rattle.source_core.specs.Forms as form
+use Rattle.source_core.specs.Forms.{constant_form, variable_form, scaled, is_constant}
+use Rattle.source_core.specs.Preludes.{AllLeave, all_under}
+use Rattle.source_core.specs.Laws.{MayResult}
+use Rattle.source_core.specs.Elaborated.{Result, a_form, a_truth, any, Elaborated, Numbered, Tested, tested, as_number}
+use Rattle.source_core.specs.Elaborated.{as_condition, selects, divides, operated, form_behind, havocked, quotient_by, remainder_by}
+use Rattle.source_core.specs.Elaborated.{unless_zero, quotient_behind, is_unit}
+use Rattle.source_core.specs.Laws.{is_exact_on}
+use Rattle.std.proofs.Math.IntN.{*ℤ_comm}
+use Rattle.source_core.proofs.preludes.Parts.{ResultOver}
+use Rattle.source_core.proofs.expressions.Division.{rest_is, divides_quotient}
+use Rattle.source_core.proofs.expressions.Operated.{Given, is_divisor_of, is_unit_of, quotient_by_unit, remainder_by_unit}
+use Rattle.source_core.proofs.forms.Forms.{value-plus, value-minus, value-scaled, value-constant, value-is_constant}
+use Rattle.source_core.proofs.forms.Over.{FormOver, ConditionOver, agree_sym, value-agrees, may_be-agrees}
+use Rattle.source_core.proofs.forms.Over.{over_constant}
+use Rattle.source_core.proofs.preludes.Preludes.{WritesFrom, leave-agrees}
+
+-- ---- preludes in two parts
+-- what one list of deeds and then another leave, the second leaves behind a state that the first leaves
+pub leave-split : (ds es : List Deed) (x z : State) → AllLeave (ds ++ es) x z → (y : State) × AllLeave ds x y × AllLeave es y z
+leave-split [] es x z h = (x, refl, h)
+leave-split (d ∷ ds) es x z h = let r = leave-split ds es h.0 z h.2 in (r.0, (h.0, h.1, r.1), r.2)
+
+-- deeds leave what they leave with their checks under a condition
+pub leave-from_under : (c : Condition) (ds : List Deed) (x y : State) → AllLeave (all_under c ds) x y → AllLeave ds x y
+leave-from_under c [] x y h = h
+leave-from_under c (tree.sets i f line ∷ ds) x y h = (h.0, h.1, leave-from_under c ds h.0 y h.2)
+leave-from_under c (tree.havocs i line ∷ ds) x y h = (h.0, h.1, leave-from_under c ds h.0 y h.2)
+leave-from_under c (tree.wheres d line ∷ ds) x y h = (h.0, h.1, leave-from_under c ds h.0 y h.2)
+leave-from_under c (tree.checks about d line ∷ ds) x y h = (h.0, h.1, leave-from_under c ds h.0 y h.2)
+
+-- ---- what an operand has
+-- the values of a result behind its prelude are among these
+abbrev pub Has : (State → ℤ → Type 0) → Elaborated → Type 0
+Has P e = (x y : State) (z : ℤ) → AllLeave e.prelude x y → MayResult e.result y z → P x z
+
+-- the values of a form behind its prelude are among these
+abbrev pub HasNumber : (State → ℤ → Type 0) → Numbered → Type 0
+HasNumber P e = (x y : State) → AllLeave e.prelude x y → P x (value e.form y)
+
+-- what a condition may be behind its prelude is what one of these tells
+abbrev pub HasTruth : (State → ℤ → Type 0) → Tested → Type 0
+HasTruth P e = (x y : State) (t : Bool) → AllLeave e.prelude x y → MayBe t e.condition y → (z : ℤ) × P x z × Tells t z
+
+-- ---- one of two values
+one_zero : (a b : ℤ) → a -ℤ b ≡ pos 0 → a ≡ b
+one_zero a b e = omega (arith, ints, e)
+
+-- behind the deeds that give a hidden variable one of two forms it is the one that the condition told before
+pub selected : (line : ℕ) (c : Condition) (h : ℕ) (f g : Form) (x y : State) → ConditionOver h c → FormOver h f → FormOver h g
+    → AllLeave (havocs h line ∷ wheres (selects c h f g) line ∷ []) x y
+    → (MayBe true c x × (value (variable_form h) y ≡ value f x)) ⊎ (MayBe false c x × (value (variable_form h) y ≡ value g x))
+selected line c h f g x y o p q l =
+    let writes : WritesFrom h (havocs h line ∷ wheres (selects c h f g) line ∷ []) = (omega arith, tt) in
+    let a = agree_sym h x y (leave-agrees h (havocs h line ∷ wheres (selects c h f g) line ∷ []) x y writes l) in
+    let is : l.0 ≡ y = sym l.2.1.1 ∙ sym l.2.2 in
+    ⊎_elim
+    (λ m. inl (
+      may_be-agrees h true c y x o a (subst (λ s. MayBe true c s) is m.0),
+      one_zero _ _ (sym (value-minus (variable_form h) f y) ∙ subst (λ s. value (form.minus (variable_form h) f) s ≡ pos 0) is m.1)
+          ∙ value-agrees h f y x p a,
+    ))
+    (λ m. inr (
+      may_be-agrees h false c y x o a (subst (λ s. MayBe false c s) is m.0),
+      one_zero _ _ (sym (value-minus (variable_form h) g y) ∙ subst (λ s. value (form.minus (variable_form h) g) s ≡ pos 0) is m.1)
+          ∙ value-agrees h g y x q a,
+    )) l.2.1.0
+
+-- ---- results as numbers and as conditions
+-- a result has no other values as a number
+pub number-of_result : (line : ℕ) (P : State → ℤ → Type 0) (ds : List Deed) (h : ℕ) (r : Result) → ResultOver h r
+    → ((x y : State) (z : ℤ) → AllLeave ds x y → MayResult r y z → P x z) → HasNumber P (as_number line ds h r)
+number-of_result line P ds h (a_form f) o has = λ x y l. has x y (value f y) l refl
+number-of_result line P ds h (a_truth c) o has = λ x y l.
+    let s = leave-split ds _ x y l in
+    ⊎_elim
+    (λ m. subst (λ z. P x z) (sym (m.1 ∙ value-constant (pos 1) s.0)) (has x s.0 (pos 1) s.1 (true, m.0, refl)))
+    (λ m. subst (λ z. P x z) (sym (m.1 ∙ value-constant (pos 0) s.0)) (has x s.0 (pos 0) s.1 (false, m.0, refl)))
+    (selected line c h (constant_form (pos 1)) (constant_form (pos 0)) s.0 y o (over_constant h (pos 1)) (over_constant h (pos 0)) s.2)
+number-of_result line P ds h any o has = λ x y l. let s = leave-split ds _ x y l in has x s.0 (value (variable_form h) y) s.1 tt
+
+not_unequal : (z : ℤ) → ¬ (z ≢ pos 0) → z ≡ pos 0
+not_unequal (pos zero) h = refl
+not_unequal (pos (suc n)) h = absurd (h (λ e. omega (arith, ints, e)))
+not_unequal (negsuc n) h = absurd (h (λ e. omega (arith, ints, e)))
+
+tells_itself : (t : Bool) → Tells t (truth_number t)
+tells_itself true = λ e. omega (arith, ints, e)
+tells_itself false = refl
+
+-- a result tells nothing as a condition but what one of its values tells
+pub truth-of_result : (P : State → ℤ → Type 0) (e : Elaborated) → Has P e → HasTruth P (tested e)
+truth-of_result P e has = λ x y t l m. by e.result t x y l m (λ z. has x y z l)
+  where
+    by : (r : Result) (t : Bool) (x y : State) → AllLeave e.prelude x y → MayBe t (as_condition r) y → ((z : ℤ) → MayResult r y z → P x z)
+        → (z : ℤ) × P x z × Tells t z
+    by (a_form f) true x y l m k = (value f y, k (value f y) refl, m)
+    by (a_form f) false x y l m k = (value f y, k (value f y) refl, not_unequal (value f y) m)
+    by (a_truth c) t x y l m k = (truth_number t, k (truth_number t) (t, m, refl), tells_itself t)
+    by any t x y l m k = (truth_number t, k (truth_number t) tt, tells_itself t)
+
+-- ---- quotients
+-- a form has the value that it had before a hidden variable is given a quotient
+same_behind : (line : ℕ) (f : Form) (c : ℤ) (h : ℕ) (x y : State) → FormOver h f
+    → AllLeave (havocs h line ∷ wheres (divides f c h) line ∷ []) x y → value f y ≡ value f x
+same_behind line f c h x y o l =
+    let writes : WritesFrom h (havocs h line ∷ wheres (divides f c h) line ∷ []) = (omega arith, tt) in
+    value-agrees h f y x o (agree_sym h x y (leave-agrees h (havocs h line ∷ wheres (divides f c h) line ∷ []) x y writes l))
+
+behind_deeds : (line : ℕ) (f : Form) (c : ℤ) (h : ℕ) (x y : State) → FormOver h f → c ≢ pos 0
+    → AllLeave (havocs h line ∷ wheres (divides f c h) line ∷ []) x y → value (variable_form h) y ≡ int_div (value f x) c
+behind_deeds line f c h x y o n l =
+    let is : l.0 ≡ y = sym l.2.1.1 ∙ sym l.2.2 in
+    divides_quotient f c h y n (subst (λ s. MayBe true (divides f c h) s) is l.2.1.0)
+    ∙ ap (λ v. int_div v c) (same_behind line f c h x y o l)
+
+-- ---- operations
+-- the values of two forms behind a prelude are among these
+abbrev pub HasBoth : (State → ℤ → ℤ → Type 0) → List Deed → Form → Form → Type 0
+HasBoth R ds f g = (x y : State) → AllLeave ds x y → R x (value f y) (value g y)
+
+given : (o : Operation) (R : State → ℤ → ℤ → Type 0) (x : State) (u v z w : ℤ) → R x u v → Gives o u v z → w ≡ z → Given o R x w
+given o R x u v z w r g e = (u, v, r, subst (λ k. Gives o u v k) (sym e) g)
+
+-- the result of an exact operation has no values but numbers that the operation gives
+pub operated-has : (line : ℕ) (o : Operation) (sign : ℕ) (R : State → ℤ → ℤ → Type 0) (ds : List Deed) (h : ℕ) (f g : Form) → FormOver h f
+    → IsTrue (is_exact_on o f g) → HasBoth R ds f g → Has (Given o R) (operated line o sign ds h f g)
+operated-has line plus sign R ds h f g o t has = λ x y z l m.
+    given plus R x (value f y) (value g y) _ z (has x y l) refl (m ∙ value-plus f g y)
+operated-has line minus sign R ds h f g o t has = λ x y z l m.
+    given minus R x (value f y) (value g y) _ z (has x y l) refl (m ∙ value-minus f g y)
+operated-has line times sign R ds h f g o t has = by (is_constant f) (is_constant g) refl refl
+  where
+    neither : is_constant f ≡ false → is_constant g ≡ false → IsTrue (is_constant f || is_constant g) → ⊥
+    neither p q t = true≢false (sym t ∙ ap₂ (λ a b. a || b) p q)
+
+    by : (s u : Bool) → is_constant f ≡ s → is_constant g ≡ u
+        → Has (Given times R) (if s then form_behind ds h (scaled f.constant g)
+        else (if u then form_behind ds h (scaled g.constant f) else havocked line ds h))
+    by true u p q = λ x y z l m. given times R x (value f y) (value g y) _ z (has x y l) refl
+        (m ∙ value-scaled f.constant g y ∙ ap (λ k. k *ℤ value g y) (sym (value-is_constant f y p)))
+    by false true p q = λ x y z l m. given times R x (value f y) (value g y) _ z (has x y l) refl
+        (m ∙ value-scaled g.constant f y ∙ ap (λ k. k *ℤ value f y) (sym (value-is_constant g y q)) ∙ *ℤ_comm (value g y) (value f y))
+    by false false p q = absurd (neither p q t)
+operated-has line over sign R ds h f g o t has =
+    subst (λ s. Has (Given over R) (if s then quotient_by line ds h f g.constant else unless_zero line ds h sign g)) (sym t)
+    (by (is_unit g.constant) (is_constant f) refl refl)
+  where
+    d : IsTrue (is_constant g) × (g.constant ≢ pos 0)
+    d = is_divisor_of g t
+
+    divisor : (y : State) → value g y ≡ g.constant
+    divisor y = value-is_constant g y d.0
+
+    not_zero : (y : State) → value g y ≢ pos 0
+    not_zero y = λ e. d.1 (sym (divisor y) ∙ e)
+
+    by : (s u : Bool) → is_unit g.constant ≡ s → is_constant f ≡ u
+        → Has (Given over R) (if s then form_behind ds h (scaled g.constant f)
+        else (if u then form_behind ds h (constant_form (int_div f.constant g.constant))
+        else form_behind (quotient_behind line ds h f g.constant) (suc h) (variable_form h)))
+    by true u p q = λ x y z l m. given over R x (value f y) (value g y) _ z (has x y l) (not_zero y, refl)
+        (m ∙ value-scaled g.constant f y ∙ sym (quotient_by_unit (value f y) g.constant (is_unit_of g.constant p))
+        ∙ ap (λ k. int_div (value f y) k) (sym (divisor y)))
+    by false true p q = λ x y z l m. given over R x (value f y) (value g y) _ z (has x y l) (not_zero y, refl)
+        (m ∙ value-constant (int_div f.constant g.constant) y ∙ ap₂ int_div (sym (value-is_constant f y q)) (sym (divisor y)))
+    by false false p q = λ x y z l m.
+        let s = leave-split ds _ x y l in
+        let r = behind_deeds line f g.constant h s.0 y o d.1 s.2 in
+        given over R x (value f s.0) (value g s.0) _ z (has x s.0 s.1) (not_zero s.0, refl)
+        (m ∙ r ∙ ap (λ k. int_div (value f s.0) k) (sym (divisor s.0)))
+operated-has line remainder sign R ds h f g o t has =
+    subst (λ s. Has (Given remainder R) (if s then remainder_by line ds h f g.constant else unless_zero line ds h sign g)) (sym t)
+    (by (is_unit g.constant) (is_constant f) refl refl)
+  where
+    d : IsTrue (is_constant g) × (g.constant ≢ pos 0)
+    d = is_divisor_of g t
+
+    divisor : (y : State) → value g y ≡ g.constant
+    divisor y = value-is_constant g y d.0
+
+    not_zero : (y : State) → value g y ≢ pos 0
+    not_zero y = λ e. d.1 (sym (divisor y) ∙ e)
+
+    by : (s u : Bool) → is_unit g.constant ≡ s → is_constant f ≡ u
+        → Has (Given remainder R) (if s then form_behind ds h (constant_form (pos 0))
+        else (if u then form_behind ds h (constant_form (int_rem f.constant g.constant))
+        else form_behind (quotient_behind line ds h f g.constant) (suc h) (form.minus f (scaled g.constant (variable_form h)))))
+    by true u p q = λ x y z l m. given remainder R x (value f y) (value g y) _ z (has x y l) (not_zero y, refl)
+        (m ∙ value-constant (pos 0) y ∙ sym (remainder_by_unit (value f y) g.constant (is_unit_of g.constant p))
+        ∙ ap (λ k. int_rem (value f y) k) (sym (divisor y)))
+    by false true p q = λ x y z l m. given remainder R x (value f y) (value g y) _ z (has x y l) (not_zero y, refl)
+        (m ∙ value-constant (int_rem f.constant g.constant) y ∙ ap₂ int_rem (sym (value-is_constant f y q)) (sym (divisor y)))
+    by false false p q = λ x y z l m.
+        let s = leave-split ds _ x y l in
+        let r = behind_deeds line f g.constant h s.0 y o d.1 s.2 in
+        let a = same_behind line f g.constant h s.0 y o s.2 in
+        let w = value-minus f (scaled g.constant (variable_form h)) y
+        ∙ ap₂ (λ (a b : ℤ). a -ℤ b) a (value-scaled g.constant (variable_form h) y ∙ ap (λ k. g.constant *ℤ k) r)
+        ∙ rest_is (value f s.0) g.constant in
+        given remainder R x (value f s.0) (value g s.0) _ z (has x s.0 s.1) (not_zero s.0, refl)
+        (m ∙ w ∙ ap (λ k. int_rem (value f s.0) k) (sym (divisor s.0)))

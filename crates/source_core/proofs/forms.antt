@@ -1,0 +1,4 @@
+pub mod Integers
+pub mod Tests
+pub mod Forms
+pub mod Over

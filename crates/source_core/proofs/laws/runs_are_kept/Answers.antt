@@ -1,0 +1,13 @@
+use Rattle.source_core.proofs.laws.runs_are_kept.Goals as goal
+use Rattle.source_core.proofs.runs.Runs.{runs-kept}
+use Rattle.source_core.proofs.runs.Checks.{checks-kept}
+use Rattle.source_core.proofs.backward.Backward.{runs-exact}
+
+pub returns-clause-runs : goal.returns-clause-runs
+returns-clause-runs c = runs-kept
+
+pub returns-clause-checks : goal.returns-clause-checks
+returns-clause-checks c = checks-kept
+
+pub returns-clause-exact : goal.returns-clause-exact
+returns-clause-exact c = runs-exact

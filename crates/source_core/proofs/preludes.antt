@@ -1,0 +1,2 @@
+pub mod Preludes
+pub mod Parts

@@ -1,0 +1,6 @@
+pub mod Work
+pub mod Reach
+pub mod Steps
+pub mod Simulated
+pub mod Runs
+pub mod Checks

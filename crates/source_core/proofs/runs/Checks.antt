@@ -1,0 +1,160 @@
+-- A check that isn't true in a run of the source isn't true in a run of its core.
+use Rattle.std.proofs.Common.{◌≡◌, inr, ⊎_elim, ◌+◌, ℕ, false, List, [], ◌∷◌}
+use Rattle.std.proofs.Common.{refl, sym, ap, subst, ◌∙◌, arith}
+use Rattle.std.specs.Prelude.{pos, ◌&&◌, nat_lt, IsTrue}
+use Rattle.lang_tree.specs.declared.check.Check.{Check}
+use Rattle.lang_tree.specs.declared.check.CheckKind.TheVariants.{Assert, Error}
+use Rattle.lang_tree.specs.declared.cond.Rel.TheVariants.{Ne}
+use Rattle.lang_tree.specs.Tree.{Deed}
+use Rattle.lang_tree.specs.Tree as tree
+use Rattle.lang_tree.specs.Meaning.{State, MayBe}
+use Rattle.lang_tree.specs.Runs as core
+use Rattle.lang_tree.specs.Runs.{left_at}
+use Rattle.source_tree.specs.Expressions.{Expression}
+use Rattle.source_tree.specs.Values.{May, Breaks}
+use Rattle.source_tree.specs.Statements.{Change, sets, evaluates}
+use Rattle.source_tree.specs.Statements.{declares, changes, assumes, asserts, never, branch, loop, jump, label}
+use Rattle.source_core.specs.Forms.{constant_form}
+use Rattle.source_core.specs.Preludes.{MayFail}
+use Rattle.source_core.specs.Laws.{is_over, Agree}
+use Rattle.source_core.specs.RunLaws.{is_change_over, are_statements_over, ChecksAreKept}
+use Rattle.source_core.specs.Elaborated.{Result, a_form, a_truth, any, Elaborated, elaborated, numbered}
+use Rattle.source_core.specs.Core.{one, taken, change_deeds, condition_of, kind_of, core_in}
+use Rattle.source_core.specs.SourceRuns.{Item, node, change, mark, turn, end, ItemBreaks, ChangeBreaks, exit_of}
+use Rattle.source_core.proofs.forms.Tests.{both_of}
+use Rattle.source_core.proofs.forms.Forms.{value-constant}
+use Rattle.source_core.proofs.preludes.Preludes.{fail-before}
+use Rattle.source_core.proofs.expressions.Breaking.{breaks-agrees, some_breaks-agrees}
+use Rattle.source_core.proofs.expressions.Broken.{broken, some_broken, fail-number}
+use Rattle.source_core.proofs.runs.Work.{deed_items, deeds_work-is, image}
+use Rattle.source_core.proofs.runs.Reach.{Reaches, reaches-same, reaches-step, last_of, do-deeds, Fails, fails-behind, fails-here}
+use Rattle.source_core.proofs.runs.Reach.{fail-deeds}
+use Rattle.source_core.proofs.runs.Steps.{Same, core-behind, condition-kept}
+use Rattle.source_core.proofs.runs.Simulated.{condition_over}
+use Rattle.source_core.proofs.runs.Runs.{Among, keep, starts, contains-among, among-contains}
+
+-- ---- what a configuration comes to
+-- where the deeds that stand first may fail
+fails-first : (n exit : ℕ) (c : core.Configuration) (ds : List Deed) (m : ℕ) (rest : List core.Item) (about : Check)
+    → c.work ≡ deed_items m ds rest
+    → MayFail ds c.state about → Fails n exit c about
+fails-first n exit c ds m rest about w f =
+    let at : core.Configuration = record { work = deed_items m ds rest; state = c.state } in
+    let is : at ≡ c = ap (λ v. let r : core.Configuration = record { work = v; state = c.state } in r) (sym w) in
+    subst (λ k. Fails n exit k about) is (fail-deeds n exit ds m rest c.state about f)
+
+taken-fails : (line var : ℕ) (e : Elaborated) (x : State) (about : Check) → MayFail e.prelude x about
+    → MayFail (taken var line e e.result) x about
+taken-fails line var e x about f = by e.result
+  where
+    by : (r : Result) → MayFail (taken var line e r) x about
+    by (a_form g) = fail-before (numbered line e).prelude _ x about (fail-number line e x about f)
+    by (a_truth c) = fail-before (numbered line e).prelude _ x about (fail-number line e x about f)
+    by any = fail-before e.prelude _ x about f
+
+change-fails : (n : ℕ) (g : Change) (x s : State) (about : Check) → IsTrue (is_change_over n g) → Agree n x s → ChangeBreaks g x about
+    → MayFail (change_deeds n g) s about
+change-fails n (sets var e line) x s about o a b =
+    let p = both_of (nat_lt var n) (is_over n e) o in
+    taken-fails line var (elaborated line e n) s about
+    (broken line e n n (omega arith) p.1 s about (breaks-agrees e n x s about p.1 a b))
+change-fails n (evaluates es line) x s about o a b =
+    some_broken line es n n (omega arith) o s about (some_breaks-agrees es n x s about o a b)
+
+condition-fails : (n line : ℕ) (e : Expression) (x s : State) (about : Check) → IsTrue (is_over n e) → Agree n x s → Breaks e x about
+    → MayFail (condition_of n line e).prelude s about
+condition-fails n line e x s about o a b = broken line e n n (omega arith) o s about (breaks-agrees e n x s about o a b)
+
+never_true : (x : State) → MayBe false (tree.compare Ne (constant_form (pos 0))) x
+never_true x = λ d. d (value-constant (pos 0) x)
+
+-- an assertion that is false
+assert-fails : (n exit line at m : ℕ) (e : Expression) (rest : List Item) (x : State) (c : core.Configuration)
+    → Same n record { work = node (asserts e at line) m ∷ rest; state = x } c → May e x (pos 0)
+    → Fails n exit c record { kind = Assert; at = at }
+assert-fails n exit line at m e rest x c s z =
+    let con = condition_of n line e in
+    let about : Check = record { kind = Assert; at = at } in
+    let k = condition-kept n line e x c.state (pos 0) s.over.0 s.agree z in
+    let last = tree.cons (tree.check about con.condition line) (one (tree.only_where con.condition line)) in
+    let behind = core.node (tree.only_where con.condition line) (m + 0) ∷ image n rest in
+    let here = core.node (tree.check about con.condition line) m in
+    let w = s.work ∙ core-behind con.prelude last m (image n rest) in
+    let start : core.Configuration = record { work = deed_items m con.prelude (here ∷ behind); state = c.state } in
+    let is : start ≡ c = ap (λ v. let r : core.Configuration = record { work = v; state = c.state } in r) (sym w) in
+    let left = ap (λ v. left_at n v c.state) (sym w) ∙ s.left in
+    subst (λ d. Fails n exit d about) is
+    (fails-behind n exit start record { work = here ∷ behind; state = k.0 } about
+    (do-deeds n exit con.prelude m (here ∷ behind) c.state k.0 left k.1)
+    (fails-here n exit about con.condition line m behind k.0 (k.2 false refl)))
+
+item-fails : (n exit : ℕ) (item : Item) (rest : List Item) (x : State) (c : core.Configuration) (about : Check)
+    → Same n record { work = item ∷ rest; state = x } c → ItemBreaks item x about → Fails n exit c about
+item-fails n exit (mark p) rest x c about s b = absurd b
+item-fails n exit (change g) rest x c about s b =
+    fails-first n exit c (change_deeds n g) 0 (image n rest) about (s.work ∙ deeds_work-is (change_deeds n g) (image n rest))
+    (change-fails n g x c.state about s.over.0 s.agree b)
+item-fails n exit (node (declares var line) m) rest x c about s b = absurd b
+item-fails n exit (node (changes g) m) rest x c about s b =
+    fails-first n exit c (change_deeds n g) m (image n rest) about (s.work ∙ core-behind (change_deeds n g) tree.nil m (image n rest))
+    (change-fails n g x c.state about s.over.0 s.agree b)
+item-fails n exit (node (assumes e line) m) rest x c about s b =
+    let con = condition_of n line e in
+    fails-first n exit c con.prelude m _ about (s.work ∙ core-behind con.prelude (one (tree.assume con.condition line)) m (image n rest))
+    (condition-fails n line e x c.state about s.over.0 s.agree b)
+item-fails n exit (node (asserts e at line) m) rest x c about s b =
+    let con = condition_of n line e in
+    let last = tree.cons (tree.check record { kind = Assert; at = at } con.condition line) (one (tree.only_where con.condition line)) in
+    ⊎_elim
+    (λ k. fails-first n exit c con.prelude m _ about (s.work ∙ core-behind con.prelude last m (image n rest))
+    (condition-fails n line e x c.state about s.over.0 s.agree k))
+    (λ k. subst (λ a. Fails n exit c a) (sym k.1) (assert-fails n exit line at m e rest x c s k.0)) b
+item-fails n exit (node (never at line) m) rest x c about s b =
+    let none = tree.compare Ne (constant_form (pos 0)) in
+    let here : Check = record { kind = Error; at = at } in
+    let is = ap (λ v. let r : core.Configuration = record { work = v; state = c.state } in r) (sym s.work) in
+    subst (λ a. Fails n exit c a) (sym b)
+    (subst (λ d. Fails n exit d here) is (fails-here n exit here none line m (image n rest) c.state (never_true c.state)))
+item-fails n exit (node (branch e first second line) m) rest x c about s b =
+    let con = condition_of n line e in
+    let last = one (tree.branch con.condition (core_in n first) (core_in n second) line) in
+    fails-first n exit c con.prelude m _ about (s.work ∙ core-behind con.prelude last m (image n rest))
+    (condition-fails n line e x c.state about
+    (both_of (is_over n e) (are_statements_over n first && are_statements_over n second) s.over.0).0 s.agree b)
+item-fails n exit (node (loop kind e body line) m) rest x c about s b = absurd b
+item-fails n exit (node (jump kind line) m) rest x c about s b = absurd b
+item-fails n exit (node (label name line) m) rest x c about s b = absurd b
+item-fails n exit (turn kind e body line m) rest x c about s b =
+    let con = condition_of n line e in
+    let item = core.turn (kind_of n kind con.prelude) con.condition (core_in n body) line m in
+    fails-first n exit c con.prelude 0 (item ∷ image n rest) about (s.work ∙ deeds_work-is con.prelude (item ∷ image n rest))
+    (condition-fails n line e x c.state about (condition_over n kind e body line s.over.0) s.agree b)
+item-fails n exit (end kind e body line m) rest x c about s b = absurd b
+
+-- ---- the law
+-- the way to a configuration among those of a path
+cut : (n exit : ℕ) (c : core.Configuration) (path : List core.Configuration) (d : core.Configuration) → core.Follows n exit c path
+    → Among c path d
+    → Reaches n exit c d
+cut n exit c [] d f h = subst (λ k. Reaches n exit c k) (sym h) (reaches-same n exit c)
+cut n exit c (e ∷ es) d f h = ⊎_elim (λ k. subst (λ v. Reaches n exit c v) (sym k) (reaches-same n exit c))
+    (λ k. reaches-step n exit c e d f.0 (cut n exit e es d f.1 k)) h
+
+last-among : (c : core.Configuration) (path : List core.Configuration) (d : core.Configuration) → last_of c path ≡ d → Among c path d
+last-among c [] d e = sym e
+last-among c (b ∷ bs) d e = inr (last-among b bs d e)
+
+-- a check that is true in each run of the core is true in each run of the source
+pub checks-kept : ChecksAreKept
+checks-kept n body o about true_in_core [] r = absurd r
+checks-kept n body o about true_in_core (s ∷ ss) r = λ t h item rest w b.
+    let exit = exit_of n body in
+    let c : core.Configuration = record { work = core.start_work (core_in n body); state = s.state } in
+    let k = keep n exit s ss c (starts n body s o r.0 r.1) r.2 in
+    let d = k.each t (contains-among s ss t h) in
+    let same = subst (λ v. Same n record { work = v; state = t.state } d.0) w d.2 in
+    let f = fails-behind n exit c d.0 about (cut n exit c k.path d.0 k.follows d.1)
+    (item-fails n exit item rest t.state d.0 about same b) in
+    let now : core.Configuration = record { work = core.node (tree.check about f.cond f.line) f.number ∷ f.rest; state = f.state } in
+    true_in_core (c ∷ f.reaches.path) (refl, r.1, f.reaches.follows) f.cond now
+    (among-contains c f.reaches.path now (last-among c f.reaches.path now f.reaches.ends)) (f.line, f.number, f.rest, refl) f.fails

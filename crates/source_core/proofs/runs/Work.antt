@@ -1,0 +1,183 @@
+-- The work of a source program, and that of its core.
+use Rattle.std.proofs.Common.{◌≡◌, ◌+◌, ℕ, Bool, true, false, List, [], ◌∷◌, ◌++◌, append_assoc, refl, sym, ap, ◌∙◌, arith}
+use Rattle.std.specs.Prelude.{if◌then◌else◌}
+use Rattle.lang_tree.specs.Tree.{Deed, sets, havocs, wheres, checks, statement_by}
+use Rattle.lang_tree.specs.Tree as tree
+use Rattle.lang_tree.specs.PointNumbers as points
+use Rattle.lang_tree.specs.Runs as core
+use Rattle.source_tree.specs.Expressions.{Expression}
+use Rattle.source_tree.specs.Statements.{Change, LoopKind, while_loop, for_loop, do_loop}
+use Rattle.source_tree.specs.Statements.{Statements, loop, nil, cons}
+use Rattle.source_core.specs.Core.{followed_by, behind, change_deeds, changes_deeds, condition_of, kind_of, core_of, core_in, points_of}
+use Rattle.source_core.specs.Core.{points_in}
+use Rattle.source_core.specs.SourceRuns.{Item, node, change, mark, turn, end, nodes, branch_work, head_work, turn_work, end_work, past_loop}
+use Rattle.source_core.specs.SourceRuns.{end_of_body, changes_work}
+
+-- ---- deeds with a number
+-- the nodes of deeds, all with one number, and other work behind them
+abbrev pub deed_items : ℕ → List Deed → List core.Item → List core.Item
+deed_items m [] rest = rest
+deed_items m (d ∷ ds) rest = core.node (statement_by d) m ∷ deed_items m ds rest
+
+-- deeds in a work list are nodes with the number 0
+pub deeds_work-is : (ds : List Deed) (rest : List core.Item) → core.deeds_work ds rest ≡ deed_items 0 ds rest
+deeds_work-is [] rest = refl
+deeds_work-is (d ∷ ds) rest = ap (λ r. core.node (statement_by d) 0 ∷ r) (deeds_work-is ds rest)
+
+-- what is put behind the work of deeds is put behind what stands behind them
+pub deed_items-onto : (m : ℕ) (ds : List Deed) (us bs : List core.Item) → deed_items m ds us ++ bs ≡ deed_items m ds (us ++ bs)
+deed_items-onto m [] us bs = refl
+deed_items-onto m (d ∷ ds) us bs = ap (λ r. core.node (statement_by d) m ∷ r) (deed_items-onto m ds us bs)
+
+no_points : (d : Deed) (m : ℕ) → m + points.points_of (statement_by d) ≡ m
+no_points (sets v f line) m = omega arith
+no_points (havocs v line) m = omega arith
+no_points (wheres c line) m = omega arith
+no_points (checks about c line) m = omega arith
+
+-- the nodes of deeds that stand before statements are those of the deeds, and then those of the statements
+pub nodes-behind : (ds : List Deed) (rest : tree.Statements) (m : ℕ) → core.nodes (behind ds rest) m ≡ deed_items m ds (core.nodes rest m)
+nodes-behind [] rest m = refl
+nodes-behind (d ∷ ds) rest m =
+    ap (λ r. core.node (statement_by d) m ∷ r)
+    (ap (λ k. core.nodes (behind ds rest) k) (no_points d m) ∙ nodes-behind ds rest m)
+
+-- the work of one list of deeds and then another is that of the first onto that of the second
+pub deeds_work-then : (ds es : List Deed) (rest : List core.Item)
+    → core.deeds_work (ds ++ es) rest ≡ core.deeds_work ds (core.deeds_work es rest)
+deeds_work-then [] es rest = refl
+deeds_work-then (d ∷ ds) es rest = ap (λ r. core.node (statement_by d) 0 ∷ r) (deeds_work-then ds es rest)
+
+-- ---- one list of statements and then another
+points-followed : (a b : tree.Statements) → points.points_in (followed_by a b) ≡ points.points_in a + points.points_in b
+points-followed tree.nil b = omega arith
+points-followed (tree.cons s ss) b = let e = points-followed ss b in omega (arith, e)
+
+nodes-followed : (a b : tree.Statements) (m : ℕ) → core.nodes (followed_by a b) m ≡ core.nodes a m ++ core.nodes b (m + points.points_in a)
+nodes-followed tree.nil b m = ap (λ k. core.nodes b k) (omega arith)
+nodes-followed (tree.cons s ss) b m =
+    ap (λ r. core.node s m ∷ r) (nodes-followed ss b (m + points.points_of s)
+    ∙ ap (λ k. core.nodes ss (m + points.points_of s) ++ core.nodes b k) (omega arith))
+
+-- ---- images
+-- the work of the core for an item
+abbrev pub item_core : ℕ → Item → List core.Item → List core.Item
+item_core n (node s m) rest = core.nodes (core_of n s) m ++ rest
+item_core n (change g) rest = core.deeds_work (change_deeds n g) rest
+item_core n (mark p) rest = core.mark p ∷ rest
+item_core n (turn kind e body line m) rest = core.deeds_work (condition_of n line e).prelude
+    (core.turn (kind_of n kind (condition_of n line e).prelude) (condition_of n line e).condition (core_in n body) line m ∷ rest)
+item_core n (end kind e body line m) rest =
+    core.end (kind_of n kind (condition_of n line e).prelude) (condition_of n line e).condition (core_in n body) line m ∷ rest
+
+-- the work of the core for a list of items, onto other work
+abbrev pub image_onto : ℕ → List Item → List core.Item → List core.Item
+image_onto n [] rest = rest
+image_onto n (i ∷ is) rest = item_core n i (image_onto n is rest)
+
+-- the work of the core for a list of items
+abbrev pub image : ℕ → List Item → List core.Item
+image n is = image_onto n is []
+
+-- the core's work for one list of items and then another is that of the first onto that of the second
+pub image-then : (n : ℕ) (us bs : List Item) (rest : List core.Item) → image_onto n (us ++ bs) rest ≡ image_onto n us (image_onto n bs rest)
+image-then n [] bs rest = refl
+image-then n (a ∷ us) bs rest = ap (λ r. item_core n a r) (image-then n us bs rest)
+
+-- the core's work for the nodes of statements is the nodes of their core
+pub image-nodes : (n : ℕ) (ss : Statements) (m : ℕ) (rest : List core.Item)
+    → image_onto n (nodes n ss m) rest ≡ core.nodes (core_in n ss) m ++ rest
+image-nodes n nil m rest = refl
+image-nodes n (cons s ss) m rest =
+    ap (λ r. core.nodes (core_of n s) m ++ r) (image-nodes n ss (m + points_of n s) rest)
+    ∙ sym (append_assoc (core.nodes (core_of n s) m) (core.nodes (core_in n ss) (m + points_of n s)) rest)
+    ∙ ap (λ r. r ++ rest) (sym (nodes-followed (core_of n s) (core_in n ss) m))
+
+-- the nodes of statements, and other work behind them
+pub image-nodes_then : (n : ℕ) (ss : Statements) (m : ℕ) (is : List Item)
+    → image n (nodes n ss m ++ is) ≡ core.nodes (core_in n ss) m ++ image n is
+image-nodes_then n ss m is = image-then n (nodes n ss m) is [] ∙ image-nodes n ss m (image n is)
+
+-- behind an `if` the core's work is that for the source's
+pub image-branch : (n : ℕ) (t : Bool) (first second : Statements) (m : ℕ) (is : List Item)
+    → core.branch_work t (core_in n first) (core_in n second) m (image n is) ≡ image n (branch_work n t first second m is)
+image-branch n true first second m is = sym (image-nodes_then n first m (mark _ ∷ is))
+image-branch n false first second m is = sym (image-nodes_then n second (m + points_in n first) (mark _ ∷ is))
+
+image-body : (n : ℕ) (kind : LoopKind) (e : Expression) (body : Statements) (line m : ℕ) (is : List Item)
+    → core.body_work (kind_of n kind (condition_of n line e).prelude) (condition_of n line e).condition (core_in n body) line m (image n is)
+    ≡ image n (nodes n body (m + 1) ++ (end kind e body line m ∷ is))
+image-body n kind e body line m is = sym (image-nodes_then n body (m + 1) (end kind e body line m ∷ is))
+
+-- behind the head of a loop the core's work is that for the source's
+pub image-head : (n : ℕ) (kind : LoopKind) (e : Expression) (body : Statements) (line m : ℕ) (is : List Item)
+    → core.head_work (kind_of n kind (condition_of n line e).prelude) (condition_of n line e).condition (core_in n body) line m (image n is)
+    ≡ image n (head_work n kind e body line m is)
+image-head n while_loop e body line m is = refl
+image-head n (for_loop gs) e body line m is = refl
+image-head n do_loop e body line m is = image-body n do_loop e body line m is
+
+-- behind the turn of a loop the core's work is that for the source's
+pub image-turn : (n : ℕ) (t : Bool) (kind : LoopKind) (e : Expression) (body : Statements) (line m : ℕ) (is : List Item)
+    → core.turn_work t (kind_of n kind (condition_of n line e).prelude) (condition_of n line e).condition (core_in n body) line m
+    (image n is)
+    ≡ image n (turn_work n t kind e body line m is)
+image-turn n true while_loop e body line m is = image-body n while_loop e body line m is
+image-turn n true (for_loop gs) e body line m is = image-body n (for_loop gs) e body line m is
+image-turn n true do_loop e body line m is = refl
+image-turn n false kind e body line m is = refl
+
+image-changes : (n : ℕ) (gs : List Change) (is : List Item)
+    → core.deeds_work (changes_deeds n gs) (image n is) ≡ image n (changes_work gs is)
+image-changes n [] is = refl
+image-changes n (g ∷ gs) is = deeds_work-then (change_deeds n g) (changes_deeds n gs) (image n is)
+    ∙ ap (λ r. core.deeds_work (change_deeds n g) r) (image-changes n gs is)
+
+-- behind the end of a loop's body the core's work is that for the source's
+pub image-end : (n : ℕ) (kind : LoopKind) (e : Expression) (body : Statements) (line m : ℕ) (is : List Item)
+    → core.end_work (kind_of n kind (condition_of n line e).prelude) (condition_of n line e).condition (core_in n body) line m (image n is)
+    ≡ image n (end_work n kind e body line m is)
+image-end n while_loop e body line m is = refl
+image-end n (for_loop gs) e body line m is = image-changes n gs (node (loop (for_loop gs) e body line) m ∷ is)
+image-end n do_loop e body line m is = refl
+
+-- behind an assumption the core's work is that for the source's
+pub image-split : (n : ℕ) (t : Bool) (m : ℕ) (is : List Item)
+    → (if t then core.mark m ∷ image n is else image n is) ≡ image n (if t then mark m ∷ is else is)
+image-split n true m is = refl
+image-split n false m is = refl
+
+-- ---- jumps
+past-deeds : (ds : List Deed) (rest : List core.Item) → core.past_loop (core.deeds_work ds rest) ≡ core.past_loop rest
+past-deeds [] rest = refl
+past-deeds (d ∷ ds) rest = past-deeds ds rest
+
+past-nodes : (ss : tree.Statements) (m : ℕ) (rest : List core.Item) → core.past_loop (core.nodes ss m ++ rest) ≡ core.past_loop rest
+past-nodes tree.nil m rest = refl
+past-nodes (tree.cons s ss) m rest = past-nodes ss (m + points.points_of s) rest
+
+-- past the innermost loop the core's work is that for the source's
+pub image-past : (n : ℕ) (is : List Item) → core.past_loop (image n is) ≡ image n (past_loop is)
+image-past n [] = refl
+image-past n (node s m ∷ is) = past-nodes (core_of n s) m (image n is) ∙ image-past n is
+image-past n (change g ∷ is) = past-deeds (change_deeds n g) (image n is) ∙ image-past n is
+image-past n (mark p ∷ is) = image-past n is
+image-past n (turn kind e body line m ∷ is) = past-deeds (condition_of n line e).prelude _ ∙ image-past n is
+image-past n (end kind e body line m ∷ is) = refl
+
+ending-deeds : (ds : List Deed) (rest : List core.Item) → core.end_of_body (core.deeds_work ds rest) ≡ core.end_of_body rest
+ending-deeds [] rest = refl
+ending-deeds (d ∷ ds) rest = ending-deeds ds rest
+
+ending-nodes : (ss : tree.Statements) (m : ℕ) (rest : List core.Item) → core.end_of_body (core.nodes ss m ++ rest) ≡ core.end_of_body rest
+ending-nodes tree.nil m rest = refl
+ending-nodes (tree.cons s ss) m rest = ending-nodes ss (m + points.points_of s) rest
+
+-- from the end of the innermost loop's body on the core's work is that for the source's
+pub image-ending : (n : ℕ) (is : List Item) → core.end_of_body (image n is) ≡ image n (end_of_body is)
+image-ending n [] = refl
+image-ending n (node s m ∷ is) = ending-nodes (core_of n s) m (image n is) ∙ image-ending n is
+image-ending n (change g ∷ is) = ending-deeds (change_deeds n g) (image n is) ∙ image-ending n is
+image-ending n (mark p ∷ is) = image-ending n is
+image-ending n (turn kind e body line m ∷ is) = ending-deeds (condition_of n line e).prelude _ ∙ image-ending n is
+image-ending n (end kind e body line m ∷ is) = refl

@@ -1,0 +1,104 @@
+-- What expressions in the core keep of those of C.
+use Rattle.std.specs.Prelude.{◌≡◌, ◌<◌, ◌≤◌, ℕ, ℤ, pos, Bool, true, false, ◌&&◌, ◌||◌, nat_lt, IsTrue, get_or}
+use Rattle.lang_tree.specs.declared.check.Check.{Check}
+use Rattle.lang_tree.specs.Meaning.{State, value, MayBe}
+use Rattle.source_tree.specs.Expressions.{Expression, Expressions, number, variable, unknown, call, element, grouped, negative, positive}
+use Rattle.source_tree.specs.Expressions.{inverse, joined, compared, both, either, chosen, none, more}
+use Rattle.source_tree.specs.Values.{truth_number, May, Breaks}
+use Rattle.source_core.specs.Preludes.{AllLeave, MayFail}
+use Rattle.source_core.specs.Forms.{is_constant}
+use Rattle.source_core.specs.Elaborated.{Result, a_form, a_truth, any, elaborated, numbered, is_divisor}
+use Rattle.source_tree.specs.Expressions.{Operation, plus, minus, times, over, remainder}
+use Rattle.lang_tree.specs.declared.form.Form.{Form}
+
+abbrev mutual
+  -- an expression has no variables but the first n
+  pub is_over : ℕ → Expression → Bool
+  is_over n (number v at) = true
+  is_over n (variable i at) = nat_lt i n
+  is_over n (unknown at) = true
+  is_over n (call es at) = are_over n es
+  is_over n (element size bracket e at) = is_over n e
+  is_over n (grouped at e) = is_over n e
+  is_over n (negative at e) = is_over n e
+  is_over n (positive at e) = is_over n e
+  is_over n (inverse at e) = is_over n e
+  is_over n (joined o sign e f) = is_over n e && is_over n f
+  is_over n (compared rel sign e f) = is_over n e && is_over n f
+  is_over n (both c d) = is_over n c && is_over n d
+  is_over n (either c d) = is_over n c && is_over n d
+  is_over n (chosen sign c e f) = is_over n c && (is_over n e && is_over n f)
+
+  -- nor has any of these
+  pub are_over : ℕ → Expressions → Bool
+  are_over n none = true
+  are_over n (more e es) = is_over n e && are_over n es
+
+-- the states have the same values of the first n variables
+abbrev pub Agree : ℕ → State → State → Type 0
+Agree n x y = (i : ℕ) → i < n → get_or x i (pos 0) ≡ get_or y i (pos 0)
+
+-- a result may be this number at a state
+abbrev pub MayResult : Result → State → ℤ → Type 0
+MayResult (a_form f) y z = z ≡ value f y
+MayResult (a_truth c) y z = (t : Bool) × MayBe t c y × (z ≡ truth_number t)
+MayResult any y z = Unit {0}
+
+-- each value that an expression may have is one that its result may be behind its prelude, which keeps the variables
+abbrev pub ValuesAreKept : Type 0
+ValuesAreKept = (line : ℕ) (e : Expression) (n h : ℕ) → n ≤ h → IsTrue (is_over n e) → (x : State) (z : ℤ) → May e x z
+    → (y : State) × AllLeave (elaborated line e h).prelude x y × Agree h x y × MayResult (elaborated line e h).result y z
+
+-- no prelude stops a run, whether or not the expression has a value, and each keeps the variables
+abbrev pub NothingStops : Type 0
+NothingStops = (line : ℕ) (e : Expression) (n h : ℕ) → n ≤ h → IsTrue (is_over n e)
+    → ((x : State) → (y : State) × AllLeave (elaborated line e h).prelude x y)
+    × ((x y : State) → AllLeave (elaborated line e h).prelude x y → Agree h x y)
+
+-- where an expression breaks a check, the check may be false on the way through the prelude
+abbrev pub BreaksAreKept : Type 0
+BreaksAreKept = (line : ℕ) (e : Expression) (n h : ℕ) → n ≤ h → IsTrue (is_over n e) → (x : State) (about : Check) → Breaks e x about
+    → MayFail (elaborated line e h).prelude x about
+
+-- an operation on these forms has the values that it has by C, and no more: no product of two forms, and no division by anything but a
+-- number other than 0
+abbrev pub is_exact_on : Operation → Form → Form → Bool
+is_exact_on plus f g = true
+is_exact_on minus f g = true
+is_exact_on times f g = is_constant f || is_constant g
+is_exact_on over f g = is_divisor g
+is_exact_on remainder f g = is_divisor g
+
+module _ (line : ℕ) where
+  -- each operation in an expression is exact, and it has no calls and no elements; hidden variables are numbered from h
+  abbrev pub is_exact : Expression → (h : ℕ) → Bool
+  is_exact (number v at) h = true
+  is_exact (variable i at) h = true
+  is_exact (unknown at) h = true
+  is_exact (call es at) h = false
+  is_exact (element size bracket e at) h = false
+  is_exact (grouped at e) h = is_exact e h
+  is_exact (negative at e) h = is_exact e h
+  is_exact (positive at e) h = is_exact e h
+  is_exact (inverse at e) h = is_exact e h
+  is_exact (joined o sign e f) h =
+      let a = numbered line (elaborated line e h) in
+      let b = numbered line (elaborated line f a.next) in
+      is_exact e h && (is_exact f a.next && is_exact_on o a.form b.form)
+  is_exact (compared rel sign e f) h = is_exact e h && is_exact f (numbered line (elaborated line e h)).next
+  is_exact (both c d) h = is_exact c h && is_exact d (elaborated line c h).next
+  is_exact (either c d) h = is_exact c h && is_exact d (elaborated line c h).next
+  is_exact (chosen sign c e f) h =
+      let a = elaborated line c h in
+      let b = numbered line (elaborated line e a.next) in
+      is_exact c h && (is_exact e a.next && is_exact f b.next)
+
+  -- each of some expressions
+  abbrev pub are_exact : Expressions → (h : ℕ) → Bool
+  are_exact none h = true
+  are_exact (more e es) h = is_exact e h && are_exact es (elaborated line e h).next
+
+-- the values that an exact expression may have are all that its result may be behind its prelude
+abbrev pub ValuesAreExact : Type 0
+ValuesAreExact = (line : ℕ) (e : Expression) (n h : ℕ) → n ≤ h → IsTrue (is_over n e) → IsTrue (is_exact line e h) → (x y : State) (z : ℤ)
+    → AllLeave (elaborated line e h).prelude x y → MayResult (elaborated line e h).result y z → May e x z

@@ -1,0 +1,101 @@
+-- Which values an expression may have at an integer state, by C, and where an operation in it has none.
+use Rattle.std.specs.Prelude.{◌≡◌, ◌≢◌, ◌⊎◌, ℕ, ℤ, pos, neg_ℤ, ◌+ℤ◌, ◌-ℤ◌, ◌*ℤ◌, ◌≤ℤ◌, ◌<ℤ◌, int_div, int_rem, Bool, true, false, get_or}
+use Rattle.lang_tree.specs.declared.cond.Rel.{Rel}
+use Rattle.lang_tree.specs.declared.check.Check.{Check}
+use Rattle.lang_tree.specs.declared.check.CheckKind.TheVariants.{Divisor, Index}
+use Rattle.lang_tree.specs.Meaning.{State, Relates}
+use Rattle.source_tree.specs.Expressions.{Operation, plus, minus, times, over, remainder}
+use Rattle.source_tree.specs.Expressions.{Expression, Expressions, number, variable, unknown, call, element, grouped, negative, positive}
+use Rattle.source_tree.specs.Expressions.{inverse, joined, compared, both, either, chosen, none, more}
+
+-- the number that a truth is
+abbrev pub truth_number : Bool → ℤ
+truth_number true = pos 1
+truth_number false = pos 0
+
+-- whether a number is true, which it is where it isn't 0
+abbrev pub Tells : Bool → ℤ → Type 0
+Tells true z = z ≢ pos 0
+Tells false z = z ≡ pos 0
+
+-- an operation on two numbers gives this one: a quotient is truncated towards 0, a remainder has the sign of the dividend, and nothing may
+-- be divided by 0
+abbrev pub Gives : Operation → ℤ → ℤ → ℤ → Type 0
+Gives plus a b z = z ≡ a +ℤ b
+Gives minus a b z = z ≡ a -ℤ b
+Gives times a b z = z ≡ a *ℤ b
+Gives over a b z = (b ≢ pos 0) × (z ≡ int_div a b)
+Gives remainder a b z = (b ≢ pos 0) × (z ≡ int_rem a b)
+
+-- two numbers are so related, or aren't
+abbrev pub Compares : Bool → Rel → ℤ → ℤ → Type 0
+Compares true rel a b = Relates rel (a -ℤ b)
+Compares false rel a b = ¬ (Relates rel (a -ℤ b))
+
+-- a number is the index of an element of an array of so many
+abbrev pub IsIndex : ℕ → ℤ → Type 0
+IsIndex size i = (pos 0 ≤ℤ i) × (i <ℤ pos size)
+
+abbrev mutual
+  -- the expression may have this value at the state. What isn't evaluated needs none: the right side of `&&` where the left one is false,
+  -- that of `||` where it is true, and one side of `?:`. `nondet()`, a call and an element may have any
+  pub May : Expression → State → ℤ → Type 0
+  May (number v at) x z = z ≡ pos v
+  May (variable i at) x z = z ≡ get_or x i (pos 0)
+  May (unknown at) x z = Unit {0}
+  May (call es at) x z = AllMay es x
+  May (element size bracket e at) x z = (i : ℤ) × May e x i × IsIndex size i
+  May (grouped at e) x z = May e x z
+  May (negative at e) x z = (a : ℤ) × May e x a × (z ≡ neg_ℤ a)
+  May (positive at e) x z = May e x z
+  May (inverse at e) x z = (a : ℤ) × (t : Bool) × May e x a × Tells t a × (z ≡ pos 1 -ℤ truth_number t)
+  May (joined o sign e f) x z = (a b : ℤ) × May e x a × May f x b × Gives o a b z
+  May (compared rel sign e f) x z = (a b : ℤ) × (t : Bool) × May e x a × May f x b × Compares t rel a b × (z ≡ truth_number t)
+  May (both c d) x z =
+      (May c x (pos 0) × (z ≡ pos 0))
+      ⊎ ((a b : ℤ) × (t : Bool) × May c x a × (a ≢ pos 0) × May d x b × Tells t b × (z ≡ truth_number t))
+  May (either c d) x z =
+      ((a : ℤ) × May c x a × (a ≢ pos 0) × (z ≡ pos 1))
+      ⊎ ((b : ℤ) × (t : Bool) × May c x (pos 0) × May d x b × Tells t b × (z ≡ truth_number t))
+  May (chosen sign c e f) x z = ((a : ℤ) × May c x a × (a ≢ pos 0) × May e x z) ⊎ (May c x (pos 0) × May f x z)
+
+  -- each of them may have some value
+  pub AllMay : Expressions → State → Type 0
+  AllMay none x = Unit {0}
+  AllMay (more e es) x = ((z : ℤ) × May e x z) × AllMay es x
+
+-- an operation of this sign with these operands has no value, as a check of it says
+abbrev pub Fails : Operation → (sign : ℕ) → Check → ℤ → Type 0
+Fails plus sign about b = ⊥
+Fails minus sign about b = ⊥
+Fails times sign about b = ⊥
+Fails over sign about b = (about ≡ record { kind = Divisor; at = sign }) × (b ≡ pos 0)
+Fails remainder sign about b = (about ≡ record { kind = Divisor; at = sign }) × (b ≡ pos 0)
+
+abbrev mutual
+  -- evaluated from the left at the state, the expression may come to an operation without a value, where this check isn't true
+  pub Breaks : Expression → State → Check → Type 0
+  Breaks (number v at) x about = ⊥
+  Breaks (variable i at) x about = ⊥
+  Breaks (unknown at) x about = ⊥
+  Breaks (call es at) x about = SomeBreaks es x about
+  Breaks (element size bracket e at) x about =
+      Breaks e x about ⊎ ((i : ℤ) × May e x i × ¬ (IsIndex size i) × (about ≡ record { kind = Index; at = bracket }))
+  Breaks (grouped at e) x about = Breaks e x about
+  Breaks (negative at e) x about = Breaks e x about
+  Breaks (positive at e) x about = Breaks e x about
+  Breaks (inverse at e) x about = Breaks e x about
+  Breaks (joined o sign e f) x about =
+      Breaks e x about
+      ⊎ (((a : ℤ) × May e x a × Breaks f x about) ⊎ ((a b : ℤ) × May e x a × May f x b × Fails o sign about b))
+  Breaks (compared rel sign e f) x about = Breaks e x about ⊎ ((a : ℤ) × May e x a × Breaks f x about)
+  Breaks (both c d) x about = Breaks c x about ⊎ ((a : ℤ) × May c x a × (a ≢ pos 0) × Breaks d x about)
+  Breaks (either c d) x about = Breaks c x about ⊎ (May c x (pos 0) × Breaks d x about)
+  Breaks (chosen sign c e f) x about =
+      Breaks c x about
+      ⊎ (((a : ℤ) × May c x a × (a ≢ pos 0) × Breaks e x about) ⊎ (May c x (pos 0) × Breaks f x about))
+
+  -- one of them may, those before it having values
+  pub SomeBreaks : Expressions → State → Check → Type 0
+  SomeBreaks none x about = ⊥
+  SomeBreaks (more e es) x about = Breaks e x about ⊎ (((z : ℤ) × May e x z) × SomeBreaks es x about)

@@ -1,0 +1,2 @@
+//! Functions of C as trees: expressions and statements, and which values expressions may have.
+#![tactic(auto)]
