@@ -1,0 +1,9 @@
+pub mod Tokens
+pub mod Grammar
+pub mod Depth
+pub mod Faults
+pub mod View
+pub mod Symbols
+pub mod Machine
+pub mod Verdicts
+pub mod Goals

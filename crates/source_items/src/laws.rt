@@ -1,0 +1,8 @@
+//! A law of divisions. The function does nothing: its contract is the law.
+
+ghost use Rattle.source_items.specs.Laws.{OneDivision};
+
+/// Tokens are those of one list of elements at most, and one thing becomes of them.
+pub fn one_division()
+    ensures { OneDivision }
+{}

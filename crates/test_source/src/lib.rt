@@ -1,0 +1,9 @@
+//! Tests of functions of C files: what their grammar says of tokens, and what the items of a file are.
+#![tactic(auto)]
+
+#[cfg(test)]
+mod grammar;
+#[cfg(test)]
+mod items;
+#[cfg(test)]
+mod words;
