@@ -1,0 +1,226 @@
+-- All numbers of what is read are in their ranges.
+use Rattle.std.proofs.Common.{◌≡◌, ℕ, zero, suc, ℤ, pos, Bool, true, false, List, [], ◌∷◌, ◌++◌, IsTrue, refl, sym}
+use Rattle.std.proofs.Common.{subst, replicate}
+use Rattle.std.specs.Prelude.{◌&&◌}
+use Rattle.std.specs.List.{list_all}
+use Rattle.std.proofs.lemmas.Bool.{and_from, and_parts}
+use Rattle.lang_tree.specs.Numbers.{are_numbers}
+use Rattle.lang_tree.specs.Limits.{has_numbers}
+use Rattle.lang_tree.specs.Tree.{Condition, Deed, sets, havocs, wheres, checks}
+use Rattle.lang_tree.specs.Tree as core
+use Rattle.source_grammar.specs.Tokens as g
+use Rattle.source_grammar.specs.Grammar.{Expr, Arguments, MoreArguments, no_arguments, arguments, last_argument, next_argument}
+use Rattle.source_grammar.specs.Grammar as tree
+use Rattle.source_tree.specs.Expressions.{Expression, number, element, negative}
+use Rattle.source_tree.specs.Expressions.{joined, compared, chosen, plus, minus, times, over, remainder}
+use Rattle.source_core.specs.Forms.{constant_form, variable_form, sums}
+use Rattle.source_core.specs.Forms as form
+use Rattle.source_core.specs.Preludes.{under, all_under}
+use Rattle.source_core.specs.Elaborated.{Result as Value, a_form, a_truth, any, Elaborated, selects, tested, as_number, numbered}
+use Rattle.source_core.specs.Elaborated.{elaborated, evaluated}
+use Rattle.source_core.specs.Fits.{is_comparable, condition_fits, deed_fits, deeds_fit, result_fits, fits, numbered_fits, tested_fits}
+use Rattle.source_meaning.specs.declared.fault.FunctionFault.TheVariants.{BigNumber}
+use Rattle.source_meaning.specs.Names.{State, known, variable_of, array_of, as_called}
+use Rattle.source_meaning.specs.Expressions.{first_of, rel_of, ranged, as_condition, behind, behind_number, operated, joins_conditions}
+use Rattle.source_meaning.specs.Expressions.{side}
+use Rattle.source_meaning.specs.Expressions.{behind_side, prefixed, read, read_arguments, read_more}
+use Rattle.source_meaning.proofs.results.Values.{OnValue, on_bind, on_provided}
+use Rattle.source_meaning.proofs.expressions.Over.{anything}
+
+-- ---- deeds
+-- what each of two lists passes, both one behind the other pass
+pub all_then : {A : Type 0} (f : A → Bool) (xs ys : List A) → IsTrue (list_all f xs) → IsTrue (list_all f ys)
+    → IsTrue (list_all f (xs ++ ys))
+all_then f [] ys h k = k
+all_then f (x ∷ xs) ys h k = let p = and_parts (f x) (list_all f xs) h in
+    and_from (f x) (list_all f (xs ++ ys)) p.0 (all_then f xs ys p.1 k)
+
+under_fits : (c : Condition) (d : Deed) → IsTrue (condition_fits c) → IsTrue (deed_fits d) → IsTrue (deed_fits (under c d))
+under_fits c (sets var f line) h k = k
+under_fits c (havocs var line) h k = k
+under_fits c (wheres e line) h k = k
+under_fits c (checks about e line) h k = and_from (condition_fits c) (condition_fits e) h k
+
+all_under_fit : (c : Condition) (ds : List Deed) → IsTrue (condition_fits c) → IsTrue (deeds_fit ds) → IsTrue (deeds_fit (all_under c ds))
+all_under_fit c [] h k = refl
+all_under_fit c (d ∷ ds) h k = let p = and_parts (deed_fits d) (deeds_fit ds) k in
+    and_from (deed_fits (under c d)) (deeds_fit (all_under c ds)) (under_fits c d h p.0) (all_under_fit c ds h p.1)
+
+-- ---- hidden variables
+unit_numbers : (i : ℕ) → IsTrue (are_numbers (replicate i (pos 0) ++ (pos 1 ∷ [])))
+unit_numbers zero = refl
+unit_numbers (suc i) = unit_numbers i
+
+-- a variable has numbers in their ranges
+pub variable_numbers : (i : ℕ) → IsTrue (has_numbers (variable_form i))
+variable_numbers i = and_from (are_numbers (replicate i (pos 0) ++ (pos 1 ∷ []))) true (unit_numbers i) refl
+
+sums_none : (xs : List ℤ) → sums xs [] ≡ xs
+sums_none [] = refl
+sums_none (x ∷ xs) = refl
+
+less_numbers : (i : ℕ) → IsTrue (are_numbers (sums (replicate i (pos 0) ++ (pos 1 ∷ [])) []))
+less_numbers i = subst (λ xs. IsTrue (are_numbers xs)) (sym (sums_none (replicate i (pos 0) ++ (pos 1 ∷ [])))) (unit_numbers i)
+
+-- so has a variable less 1, or less 0, compared with 0
+less_one : (i : ℕ) → IsTrue (is_comparable (form.minus (variable_form i) (constant_form (pos 1))))
+less_one i = and_from (has_numbers (form.minus (variable_form i) (constant_form (pos 1)))) true
+    (and_from (are_numbers (sums (replicate i (pos 0) ++ (pos 1 ∷ [])) [])) true (less_numbers i) refl) refl
+
+less_none : (i : ℕ) → IsTrue (is_comparable (form.minus (variable_form i) (constant_form (pos 0))))
+less_none i = and_from (has_numbers (form.minus (variable_form i) (constant_form (pos 0)))) true
+    (and_from (are_numbers (sums (replicate i (pos 0) ++ (pos 1 ∷ [])) [])) true (less_numbers i) refl) refl
+
+-- a result in range is one as a number
+number_fits : (line : ℕ) (ds : List Deed) (h : ℕ) (r : Value) → IsTrue (deeds_fit ds) → IsTrue (result_fits r)
+    → IsTrue (numbered_fits (as_number line ds h r))
+number_fits line ds h (a_form f) p q = and_from (deeds_fit ds) (has_numbers f) p q
+number_fits line ds h (a_truth c) p q =
+    let one = constant_form (pos 1) in
+    let zero = constant_form (pos 0) in
+    let last = havocs h line ∷ wheres (selects c h one zero) line ∷ [] in
+    let u = is_comparable (form.minus (variable_form h) one) in
+    let v = is_comparable (form.minus (variable_form h) zero) in
+    let w : IsTrue (condition_fits (selects c h one zero)) =
+    and_from (condition_fits c && u) (condition_fits c && v) (and_from (condition_fits c) u q (less_one h))
+    (and_from (condition_fits c) v q (less_none h)) in
+    and_from (deeds_fit (ds ++ last)) (has_numbers (variable_form h))
+    (all_then deed_fits ds last p (and_from (condition_fits (selects c h one zero)) true w refl)) (variable_numbers h)
+number_fits line ds h any p q = and_from (deeds_fit (ds ++ havocs h line ∷ [])) (has_numbers (variable_form h))
+    (all_then deed_fits ds (havocs h line ∷ []) p refl) (variable_numbers h)
+
+-- so is the result of an expression
+pub numbered_fit : (line : ℕ) (e : Elaborated) → IsTrue (fits e) → IsTrue (numbered_fits (numbered line e))
+numbered_fit line e h = let p = and_parts (deeds_fit e.prelude) (result_fits e.result) h in
+    number_fits line e.prelude e.next e.result p.0 p.1
+
+-- the prelude of a result in range is in range
+pub prelude_fits : (e : Elaborated) → IsTrue (fits e) → IsTrue (deeds_fit e.prelude)
+prelude_fits e h = (and_parts (deeds_fit e.prelude) (result_fits e.result) h).0
+
+-- ---- expressions
+module _ (line : ℕ) where
+  -- what an expression is in the core has numbers in their ranges
+  abbrev pub InRange : (h : ℕ) → Expression → Type 0
+  InRange h e = IsTrue (fits (elaborated line e h))
+
+  -- so has what it is as a condition, where it has to be one
+  abbrev SideInRange : Bool → (h : ℕ) → Expression → Type 0
+  SideInRange true h e = IsTrue (tested_fits (tested (elaborated line e h)))
+  SideInRange false h e = Unit {0}
+
+  -- an expression whose numbers are asked for has them in their ranges
+  pub ranged_fits : (sign h : ℕ) (e : Expression) → OnValue (InRange h) (ranged line sign h e)
+  ranged_fits sign h e = on_provided (InRange h) (fits (elaborated line e h)) (BigNumber sign) e (λ t. t)
+
+  -- so has one that is to be a condition
+  pub condition_in_range : (first h : ℕ) (e : Expression)
+      → OnValue (λ x. IsTrue (tested_fits (tested (elaborated line x h)))) (as_condition line first h e)
+  condition_in_range first h e = on_provided (λ x. IsTrue (tested_fits (tested (elaborated line x h))))
+      (tested_fits (tested (elaborated line e h))) (BigNumber first) e (λ t. t)
+
+  side_in_range : (b : Bool) (first h : ℕ) (e : Expression) → OnValue (SideInRange b h) (side line b first h e)
+  side_in_range true first h e = condition_in_range first h e
+  side_in_range false first h e = tt
+
+  -- conditions that are joined, the deeds of the second under a condition
+  conditions_fit : (ds es : List Deed) (c d u : Condition) → IsTrue (deeds_fit ds && condition_fits c)
+      → IsTrue (deeds_fit es && condition_fits d) → IsTrue (condition_fits u)
+      → IsTrue (deeds_fit (ds ++ all_under u es) && (condition_fits c && condition_fits d))
+  conditions_fit ds es c d u h k l =
+      let p = and_parts (deeds_fit ds) (condition_fits c) h in
+      let q = and_parts (deeds_fit es) (condition_fits d) k in
+      and_from (deeds_fit (ds ++ all_under u es)) (condition_fits c && condition_fits d)
+      (all_then deed_fits ds (all_under u es) p.0 (all_under_fit u es l q.0)) (and_from (condition_fits c) (condition_fits d) p.1 q.1)
+
+  operated_fits : (o : g.Op) (sign h : ℕ) (x y : Expression) → SideInRange (joins_conditions line o) h x
+      → SideInRange (joins_conditions line o) (behind_side line (joins_conditions line o) x h) y
+      → OnValue (InRange h) (operated line o sign h x y)
+  operated_fits g.or_op sign h x y p q =
+      let a = tested (elaborated line x h) in
+      let b = tested (elaborated line y a.next) in
+      conditions_fit a.prelude b.prelude a.condition b.condition (core.negation a.condition) p q
+      (and_parts (deeds_fit a.prelude) (condition_fits a.condition) p).1
+  operated_fits g.and_op sign h x y p q =
+      let a = tested (elaborated line x h) in
+      let b = tested (elaborated line y a.next) in
+      conditions_fit a.prelude b.prelude a.condition b.condition a.condition p q
+      (and_parts (deeds_fit a.prelude) (condition_fits a.condition) p).1
+  operated_fits (g.compare_op r) sign h x y p q = ranged_fits sign h (compared (rel_of r) sign x y)
+  operated_fits g.plus_op sign h x y p q = ranged_fits sign h (joined plus sign x y)
+  operated_fits g.minus_op sign h x y p q = ranged_fits sign h (joined minus sign x y)
+  operated_fits g.times_op sign h x y p q = ranged_fits sign h (joined times sign x y)
+  operated_fits g.over_op sign h x y p q = ranged_fits sign h (joined over sign x y)
+  operated_fits g.remainder_op sign h x y p q = ranged_fits sign h (joined remainder sign x y)
+
+  prefixed_fits : (p : g.Prefix) (sign first h : ℕ) (x : Expression) → InRange h x → OnValue (InRange h) (prefixed line p sign first h x)
+  prefixed_fits g.negative sign first h x k = ranged_fits sign h (negative sign x)
+  prefixed_fits g.positive sign first h x k = numbered_fit line (elaborated line x h) k
+  prefixed_fits g.negation sign first h x k =
+      on_bind (λ x. IsTrue (tested_fits (tested (elaborated line x h)))) (InRange h) (as_condition line first h x) _
+      (condition_in_range first h x) (λ x t. t)
+
+  module _ (st : State) where
+    mutual
+      -- the expression that is read
+      pub read_fits : (e : Expr) (h : ℕ) → OnValue (λ x. IsTrue (fits (elaborated line x h))) (read line st e h)
+      read_fits (tree.number v a) h = ranged_fits a h (number v a)
+      read_fits (tree.variable x a) h = on_bind (λ i. Unit {0}) (λ x. IsTrue (fits (elaborated line x h))) (variable_of x a st) _
+          (anything (variable_of x a st)) (λ i u. variable_numbers i)
+      read_fits (tree.element x a b e c) h = on_bind (λ size. Unit {0}) (λ x. IsTrue (fits (elaborated line x h))) (array_of x a st) _
+          (anything (array_of x a st))
+          (λ size u. on_bind (λ x. IsTrue (fits (elaborated line x h))) (λ x. IsTrue (fits (elaborated line x h))) (read line st e h) _
+          (read_fits e h) (λ i k. ranged_fits b h (element size b i a)))
+      read_fits (tree.call x a b es c) h = on_bind (λ y. Unit {0}) (λ x. IsTrue (fits (elaborated line x h)))
+          (as_called a (known x st.names) a) _
+          (anything (as_called a (known x st.names) a))
+          (λ y u. on_bind (λ xs. IsTrue (deeds_fit (evaluated line xs h).prelude)) (λ x. IsTrue (fits (elaborated line x h)))
+          (read_arguments line st es h) _ (arguments_fit es h) (λ xs k. and_from (deeds_fit (evaluated line xs h).prelude) true k refl))
+      read_fits (tree.free a b c) h = refl
+      read_fits (tree.grouped a e b) h = on_bind (λ x. IsTrue (fits (elaborated line x h))) (λ x. IsTrue (fits (elaborated line x h)))
+          (read line st e h) _ (read_fits e h) (λ x k. k)
+      read_fits (tree.prefixed p a e) h = on_bind (λ x. IsTrue (fits (elaborated line x h))) (λ x. IsTrue (fits (elaborated line x h)))
+          (read line st e h) _ (read_fits e h) (λ x k. prefixed_fits p a (first_of e) h x k)
+      read_fits (tree.joined e o a f) h =
+          let P : Expression → Type 0 = λ x. IsTrue (fits (elaborated line x h)) in
+          let b = joins_conditions line o in
+          on_bind (λ x. Unit {0}) P (read line st e h) _ (anything (read line st e h))
+          (λ x u. on_bind (SideInRange b h) P (side line b (first_of e) h x) _ (side_in_range b (first_of e) h x)
+          (λ x p. on_bind (λ y. Unit {0}) P (read line st f (behind_side line b x h)) _ (anything (read line st f (behind_side line b x h)))
+          (λ y u. on_bind (SideInRange b (behind_side line b x h)) P (side line b (first_of f) (behind_side line b x h) y) _
+          (side_in_range b (first_of f) (behind_side line b x h) y)
+          (λ y q. operated_fits o a h x y p q))))
+      read_fits (tree.chosen c a e b f) h =
+          let P : Expression → Type 0 = λ x. IsTrue (fits (elaborated line x h)) in
+          on_bind (λ x. Unit {0}) P (read line st c h) _ (anything (read line st c h))
+          (λ x u. on_bind (λ x. Unit {0}) P (as_condition line (first_of c) h x) _ (anything (as_condition line (first_of c) h x))
+          (λ x u. on_bind (λ y. Unit {0}) P (read line st e (behind line x h)) _ (anything (read line st e (behind line x h)))
+          (λ y u. on_bind (λ z. Unit {0}) P (read line st f (behind_number line y (behind line x h))) _
+          (anything (read line st f (behind_number line y (behind line x h))))
+          (λ z u. ranged_fits a h (chosen a x y z)))))
+
+      -- the arguments that are read
+      pub arguments_fit : (es : Arguments) (h : ℕ)
+          → OnValue (λ xs. IsTrue (deeds_fit (evaluated line xs h).prelude)) (read_arguments line st es h)
+      arguments_fit no_arguments h = refl
+      arguments_fit (arguments e es) h =
+          on_bind (λ x. IsTrue (fits (elaborated line x h))) (λ xs. IsTrue (deeds_fit (evaluated line xs h).prelude)) (read line st e h) _
+          (read_fits e h)
+          (λ x k. on_bind (λ xs. IsTrue (deeds_fit (evaluated line xs (behind line x h)).prelude))
+          (λ xs. IsTrue (deeds_fit (evaluated line xs h).prelude)) (read_more line st es (behind line x h)) _
+          (more_fit es (behind line x h))
+          (λ xs l. all_then deed_fits (elaborated line x h).prelude (evaluated line xs (behind line x h)).prelude
+          (prelude_fits (elaborated line x h) k) l))
+
+      -- and those behind the first
+      pub more_fit : (es : MoreArguments) (h : ℕ)
+          → OnValue (λ xs. IsTrue (deeds_fit (evaluated line xs h).prelude)) (read_more line st es h)
+      more_fit last_argument h = refl
+      more_fit (next_argument a e es) h =
+          on_bind (λ x. IsTrue (fits (elaborated line x h))) (λ xs. IsTrue (deeds_fit (evaluated line xs h).prelude)) (read line st e h) _
+          (read_fits e h)
+          (λ x k. on_bind (λ xs. IsTrue (deeds_fit (evaluated line xs (behind line x h)).prelude))
+          (λ xs. IsTrue (deeds_fit (evaluated line xs h).prelude)) (read_more line st es (behind line x h)) _
+          (more_fit es (behind line x h))
+          (λ xs l. all_then deed_fits (elaborated line x h).prelude (evaluated line xs (behind line x h)).prelude
+          (prelude_fits (elaborated line x h) k) l))

@@ -1,0 +1,331 @@
+-- Which variables the deeds and the result of an expression have: those of the function, and the hidden ones that it takes.
+use Rattle.std.proofs.Common.{◌≤◌, ◌<◌, ℕ, suc, ℤ, pos, negsuc, Bool, true, false, List, [], ◌∷◌, ◌++◌, arith, cond, IsTrue}
+use Rattle.std.specs.Prelude.{◌&&◌, ◌-ℤ◌, int_div, int_rem, nat_abs}
+use Rattle.std.proofs.lemmas.Bool.{and_parts, ltb-true}
+use Rattle.lang_tree.specs.declared.form.Form.{Form}
+use Rattle.lang_tree.specs.declared.cond.Rel.TheVariants.{Ne}
+use Rattle.lang_tree.specs.declared.check.CheckKind.TheVariants.{Divisor, Index}
+use Rattle.lang_tree.specs.Tree.{Condition, Deed, sets, havocs, wheres, checks}
+use Rattle.lang_tree.specs.Tree as core
+use Rattle.source_tree.specs.Expressions.{Operation, plus, minus, times, over, remainder}
+use Rattle.source_tree.specs.Expressions.{Expression, Expressions, number, variable, unknown, call, element, grouped, negative, positive}
+use Rattle.source_tree.specs.Expressions.{inverse, joined, compared, both, either, chosen, none, more}
+use Rattle.source_core.specs.Forms.{constant_form, variable_form, scaled, is_constant}
+use Rattle.source_core.specs.Forms as form
+use Rattle.source_core.specs.Preludes.{under, all_under}
+use Rattle.source_core.specs.Laws.{is_over, are_over}
+use Rattle.source_core.specs.Elaborated.{Result, a_form, a_truth, any, Elaborated, Numbered, Tested, related, selects, divides}
+use Rattle.source_core.specs.Elaborated.{is_index, is_unit, as_condition, tested, is_divisor, as_number, numbered, havocked, checked}
+use Rattle.source_core.specs.Elaborated.{quotient_behind, unless_zero, operated, choice}
+use Rattle.source_core.specs.Elaborated.{elaborated, evaluated}
+use Rattle.source_core.proofs.forms.Over.{FormOver, over_more, over_plus, over_scaled, over_minus, over_constant, over_variable}
+use Rattle.source_core.proofs.forms.Over.{ConditionOver, condition_over_more}
+use Rattle.source_core.proofs.preludes.Parts.{ResultOver}
+
+-- ---- deeds
+-- a deed has no variables but the first n
+abbrev pub DeedOver : ℕ → Deed → Type 0
+DeedOver n (sets var f line) = (var < n) × FormOver n f
+DeedOver n (havocs var line) = var < n
+DeedOver n (wheres c line) = ConditionOver n c
+DeedOver n (checks about c line) = ConditionOver n c
+
+-- nor have deeds in order
+abbrev pub DeedsOver : ℕ → List Deed → Type 0
+DeedsOver n [] = Unit {0}
+DeedsOver n (d ∷ ds) = DeedOver n d × DeedsOver n ds
+
+deed_more : (n m : ℕ) (d : Deed) → n ≤ m → DeedOver n d → DeedOver m d
+deed_more n m (sets var f line) l h = (omega (arith, h.0, l), over_more n m f l h.1)
+deed_more n m (havocs var line) l h = omega (arith, h, l)
+deed_more n m (wheres c line) l h = condition_over_more n m c l h
+deed_more n m (checks about c line) l h = condition_over_more n m c l h
+
+-- deeds over some variables are over more
+pub deeds_more : (n m : ℕ) (ds : List Deed) → n ≤ m → DeedsOver n ds → DeedsOver m ds
+deeds_more n m [] l h = tt
+deeds_more n m (d ∷ ds) l h = (deed_more n m d l h.0, deeds_more n m ds l h.1)
+
+-- so are deeds one behind the other
+pub deeds_then : (n : ℕ) (ds es : List Deed) → DeedsOver n ds → DeedsOver n es → DeedsOver n (ds ++ es)
+deeds_then n [] es h k = k
+deeds_then n (d ∷ ds) es h k = (h.0, deeds_then n ds es h.1 k)
+
+one_under : (n : ℕ) (c : Condition) (d : Deed) → ConditionOver n c → DeedOver n d → DeedOver n (under c d)
+one_under n c (sets var f line) o h = h
+one_under n c (havocs var line) o h = h
+one_under n c (wheres e line) o h = h
+one_under n c (checks about e line) o h = (o, h)
+
+deeds_under : (n : ℕ) (c : Condition) (ds : List Deed) → ConditionOver n c → DeedsOver n ds → DeedsOver n (all_under c ds)
+deeds_under n c [] o h = tt
+deeds_under n c (d ∷ ds) o h = (one_under n c d o h.0, deeds_under n c ds o h.1)
+
+-- deeds that take the hidden variables from one number up to another
+pub record Within (h : ℕ) (ds : List Deed) (next : ℕ) : Type 0 where
+  -- they are taken upwards
+  pub grows : h ≤ next
+  -- the deeds have no variables behind these
+  pub deeds : DeedsOver next ds
+
+within_none : (h : ℕ) → Within h [] h
+within_none h = record { grows = omega arith; deeds = tt }
+
+within_then : (h m k : ℕ) (ds es : List Deed) → Within h ds m → Within m es k → Within h (ds ++ es) k
+within_then h m k ds es a b = record {
+  grows = omega (arith, a.grows, b.grows);
+  deeds = deeds_then k ds es (deeds_more m k ds b.grows a.deeds) b.deeds;
+}
+
+within_under : (h k : ℕ) (c : Condition) (ds : List Deed) → ConditionOver h c → Within h ds k → Within h (all_under c ds) k
+within_under h k c ds o w = record { grows = w.grows; deeds = deeds_under k c ds (condition_over_more h k c w.grows o) w.deeds }
+
+-- ---- results
+-- a result behind such deeds
+pub record IsWithin (h : ℕ) (e : Elaborated) : Type 0 where
+  -- the prelude takes the hidden variables up to the next one
+  pub within : Within h e.prelude e.next
+  -- the result has no variables behind these
+  pub over : ResultOver e.next e.result
+
+-- a number behind such deeds
+pub record NumberWithin (h : ℕ) (a : Numbered) : Type 0 where
+  -- the prelude takes the hidden variables up to the next one
+  pub within : Within h a.prelude a.next
+  -- the form has no variables behind these
+  pub over : FormOver a.next a.form
+
+-- a condition of a result has its variables
+pub condition_over : (n : ℕ) (r : Result) → ResultOver n r → ConditionOver n (as_condition r)
+condition_over n (a_form f) o = o
+condition_over n (a_truth c) o = o
+condition_over n any o = tt
+
+selects_within : (line h : ℕ) (c : Condition) (f g : Form) → ConditionOver h c → FormOver h f → FormOver h g
+    → Within h (havocs h line ∷ wheres (selects c h f g) line ∷ []) (suc h)
+selects_within line h c f g o p q =
+    let l : h ≤ suc h = omega arith in
+    let v = over_variable (suc h) h (omega arith) in
+    let c' = condition_over_more h (suc h) c l o in
+    record {
+      grows = omega arith;
+      deeds = (
+        omega arith,
+        (
+          (
+            (c', over_minus (suc h) (variable_form h) f v (over_more h (suc h) f l p)),
+            (c', over_minus (suc h) (variable_form h) g v (over_more h (suc h) g l q)),
+          ),
+          tt,
+        ),
+      );
+    }
+
+havoc_within : (line h : ℕ) → Within h (havocs h line ∷ []) (suc h)
+havoc_within line h = record { grows = omega arith; deeds = (omega arith, tt) }
+
+number_within : (line h : ℕ) (ds : List Deed) (next : ℕ) (r : Result) → Within h ds next → ResultOver next r
+    → NumberWithin h (as_number line ds next r)
+number_within line h ds next (a_form f) w o = record { within = w; over = o }
+number_within line h ds next (a_truth c) w o =
+    let one = constant_form (pos 1) in
+    let zero = constant_form (pos 0) in
+    record {
+      within = within_then h next (suc next) ds (havocs next line ∷ wheres (selects c next one zero) line ∷ []) w
+          (selects_within line next c one zero o (over_constant next (pos 1)) (over_constant next (pos 0)));
+      over = over_variable (suc next) next (omega arith);
+    }
+number_within line h ds next any w o = record {
+  within = within_then h next (suc next) ds (havocs next line ∷ []) w (havoc_within line next);
+  over = over_variable (suc next) next (omega arith);
+}
+
+-- a result is one as a number
+pub numbered_within : (line h : ℕ) (e : Elaborated) → IsWithin h e → NumberWithin h (numbered line e)
+numbered_within line h e w = number_within line h e.prelude e.next e.result w.within w.over
+
+-- ---- operations
+-- what holds of both choices holds of the one that a test takes
+cond_has : {A : Type 0} (P : A → Type 0) (b : Bool) (x y : A) → P x → P y → P (cond b x y)
+cond_has P true x y p q = p
+cond_has P false x y p q = q
+
+havocked_within : (line h : ℕ) (ds : List Deed) (next : ℕ) → Within h ds next → IsWithin h (havocked line ds next)
+havocked_within line h ds next w = record {
+  within = within_then h next (suc next) ds (havocs next line ∷ []) w (havoc_within line next);
+  over = over_variable (suc next) next (omega arith);
+}
+
+divides_over : (h : ℕ) (f : Form) (c : ℤ) → FormOver h f → ConditionOver (suc h) (divides f c h)
+divides_over h f c o =
+    let l : h ≤ suc h = omega arith in
+    let m = suc h in
+    let v = over_variable m h (omega arith) in
+    let p = over_more h m f l o in
+    let rest = form.minus f (scaled c (variable_form h)) in
+    let r = over_minus m f (scaled c (variable_form h)) p (over_scaled m c (variable_form h) v) in
+    let against : (g : Form) → FormOver m g → (z : ℤ) → FormOver m (form.minus g (constant_form z)) =
+    λ g k z. over_minus m g (constant_form z) k (over_constant m z) in (
+      ((against f p (pos 0), against rest r (pos 0)), against rest r (pos (nat_abs c) -ℤ pos 1)),
+      ((against f p (negsuc 0), against rest r (pos 0)), against rest r (pos 1 -ℤ pos (nat_abs c))),
+    )
+
+quotient_within : (line h : ℕ) (ds : List Deed) (next : ℕ) (f : Form) (c : ℤ) → Within h ds next → FormOver next f
+    → Within h (quotient_behind line ds next f c) (suc next)
+quotient_within line h ds next f c w o =
+    within_then h next (suc next) ds (havocs next line ∷ wheres (divides f c next) line ∷ []) w
+    (record { grows = omega arith; deeds = (omega arith, (divides_over next f c o, tt)) })
+
+check_within : (h : ℕ) (d : Deed) → DeedOver h d → Within h (d ∷ []) h
+check_within h d o = record { grows = omega arith; deeds = (o, tt) }
+
+unless_within : (line h : ℕ) (ds : List Deed) (next sign : ℕ) (g : Form) → Within h ds next → FormOver next g
+    → IsWithin h (unless_zero line ds next sign g)
+unless_within line h ds next sign g w q =
+    let d = checked line Divisor sign (related Ne g (constant_form (pos 0))) in
+    havocked_within line h (ds ++ d ∷ []) next
+    (within_then h next next ds (d ∷ []) w (check_within next d (over_minus next g (constant_form (pos 0)) q (over_constant next (pos 0)))))
+
+operated_within : (line h : ℕ) (o : Operation) (sign : ℕ) (ds : List Deed) (next : ℕ) (f g : Form) → Within h ds next → FormOver next f
+    → FormOver next g → IsWithin h (operated line o sign ds next f g)
+operated_within line h plus sign ds next f g w p q = record { within = w; over = over_plus next f g p q }
+operated_within line h minus sign ds next f g w p q = record { within = w; over = over_minus next f g p q }
+operated_within line h times sign ds next f g w p q =
+    cond_has (IsWithin h) (is_constant f) _ _ (record { within = w; over = over_scaled next f.constant g q })
+    (cond_has (IsWithin h) (is_constant g) _ _ (record { within = w; over = over_scaled next g.constant f p })
+    (havocked_within line h ds next w))
+operated_within line h over sign ds next f g w p q =
+    cond_has (IsWithin h) (is_divisor g) _ _
+    (cond_has (IsWithin h) (is_unit g.constant) _ _ (record { within = w; over = over_scaled next g.constant f p })
+    (cond_has (IsWithin h) (is_constant f) _ _ (record { within = w; over = over_constant next (int_div f.constant g.constant) })
+    (record { within = quotient_within line h ds next f g.constant w p; over = over_variable (suc next) next (omega arith) })))
+    (unless_within line h ds next sign g w q)
+operated_within line h remainder sign ds next f g w p q =
+    cond_has (IsWithin h) (is_divisor g) _ _
+    (cond_has (IsWithin h) (is_unit g.constant) _ _ (record { within = w; over = over_constant next (pos 0) })
+    (cond_has (IsWithin h) (is_constant f) _ _ (record { within = w; over = over_constant next (int_rem f.constant g.constant) })
+    (record {
+      within = quotient_within line h ds next f g.constant w p;
+      over = over_minus (suc next) f (scaled g.constant (variable_form next)) (over_more next (suc next) f (omega arith) p)
+          (over_scaled (suc next) g.constant (variable_form next) (over_variable (suc next) next (omega arith)));
+    })))
+    (unless_within line h ds next sign g w q)
+
+choice_within : (line h : ℕ) (c : Tested) (f g : Numbered) → Within h c.prelude c.next → ConditionOver c.next c.condition
+    → NumberWithin c.next f → NumberWithin f.next g → IsWithin h (choice line c f g)
+choice_within line h c f g w o p q =
+    let to_f = condition_over_more c.next f.next c.condition p.within.grows o in
+    let to_g = condition_over_more f.next g.next c.condition q.within.grows to_f in
+    let l = selects_within line g.next c.condition f.form g.form to_g (over_more f.next g.next f.form q.within.grows p.over) q.over in
+    record {
+      within = within_then h c.next (suc g.next) c.prelude _ w
+          (within_then c.next f.next (suc g.next) (all_under c.condition f.prelude) _
+          (within_under c.next f.next c.condition f.prelude o p.within)
+          (within_then f.next g.next (suc g.next) (all_under (core.negation c.condition) g.prelude) _
+          (within_under f.next g.next (core.negation c.condition) g.prelude to_f q.within) l));
+      over = over_variable (suc g.next) g.next (omega arith);
+    }
+
+-- ---- expressions
+mutual
+  -- what an expression over the first n variables is in the core has these and the hidden ones that it takes
+  pub elaborated_within : (line : ℕ) (e : Expression) (n h : ℕ) → n ≤ h → IsTrue (is_over n e) → IsWithin h (elaborated line e h)
+  elaborated_within line (number v at) n h s o = record { within = within_none h; over = over_constant h (pos v) }
+  elaborated_within line (variable i at) n h s o = let l = ltb-true i n o in
+      record { within = within_none h; over = over_variable h i (omega (arith, l, s)) }
+  elaborated_within line (unknown at) n h s o = record { within = within_none h; over = tt }
+  elaborated_within line (call es at) n h s o = record { within = evaluated_within line es n h s o; over = tt }
+  elaborated_within line (element size bracket e at) n h s o =
+      let i = numbered line (elaborated line e h) in
+      let k = numbered_within line h (elaborated line e h) (elaborated_within line e n h s o) in
+      let d = checked line Index bracket (is_index size i.form) in
+      let zero = constant_form (pos 0) in
+      let last = constant_form (pos size -ℤ pos 1) in
+      record {
+        within = within_then h i.next i.next i.prelude (d ∷ []) k.within (check_within i.next d (
+          over_minus i.next zero i.form (over_constant i.next (pos 0)) k.over,
+          over_minus i.next i.form last k.over (over_constant i.next (pos size -ℤ pos 1)),
+        ));
+        over = tt;
+      }
+  elaborated_within line (grouped at e) n h s o = elaborated_within line e n h s o
+  elaborated_within line (negative at e) n h s o =
+      let a = numbered line (elaborated line e h) in
+      let k = numbered_within line h (elaborated line e h) (elaborated_within line e n h s o) in
+      record { within = k.within; over = over_scaled a.next (negsuc 0) a.form k.over }
+  elaborated_within line (positive at e) n h s o =
+      let k = numbered_within line h (elaborated line e h) (elaborated_within line e n h s o) in
+      record { within = k.within; over = k.over }
+  elaborated_within line (inverse at e) n h s o =
+      let k = elaborated_within line e n h s o in
+      record { within = k.within; over = condition_over (elaborated line e h).next (elaborated line e h).result k.over }
+  elaborated_within line (joined op sign e f) n h s o =
+      let p = and_parts (is_over n e) (is_over n f) o in
+      let a = numbered line (elaborated line e h) in
+      let k = numbered_within line h (elaborated line e h) (elaborated_within line e n h s p.0) in
+      let b = numbered line (elaborated line f a.next) in
+      let m = numbered_within line a.next (elaborated line f a.next)
+      (elaborated_within line f n a.next (omega (arith, s, k.within.grows)) p.1) in
+      operated_within line h op sign (a.prelude ++ b.prelude) b.next a.form b.form
+      (within_then h a.next b.next a.prelude b.prelude k.within m.within) (over_more a.next b.next a.form m.within.grows k.over) m.over
+  elaborated_within line (compared rel sign e f) n h s o =
+      let p = and_parts (is_over n e) (is_over n f) o in
+      let a = numbered line (elaborated line e h) in
+      let k = numbered_within line h (elaborated line e h) (elaborated_within line e n h s p.0) in
+      let b = numbered line (elaborated line f a.next) in
+      let m = numbered_within line a.next (elaborated line f a.next)
+      (elaborated_within line f n a.next (omega (arith, s, k.within.grows)) p.1) in
+      record {
+        within = within_then h a.next b.next a.prelude b.prelude k.within m.within;
+        over = over_minus b.next a.form b.form (over_more a.next b.next a.form m.within.grows k.over) m.over;
+      }
+  elaborated_within line (both c d) n h s o =
+      let p = and_parts (is_over n c) (is_over n d) o in
+      let a = tested (elaborated line c h) in
+      let k = elaborated_within line c n h s p.0 in
+      let b = tested (elaborated line d a.next) in
+      let m = elaborated_within line d n a.next (omega (arith, s, k.within.grows)) p.1 in
+      let u = condition_over a.next (elaborated line c h).result k.over in
+      let v = condition_over b.next (elaborated line d a.next).result m.over in
+      record {
+        within = within_then h a.next b.next a.prelude (all_under a.condition b.prelude) k.within
+            (within_under a.next b.next a.condition b.prelude u m.within);
+        over = (condition_over_more a.next b.next a.condition m.within.grows u, v);
+      }
+  elaborated_within line (either c d) n h s o =
+      let p = and_parts (is_over n c) (is_over n d) o in
+      let a = tested (elaborated line c h) in
+      let k = elaborated_within line c n h s p.0 in
+      let b = tested (elaborated line d a.next) in
+      let m = elaborated_within line d n a.next (omega (arith, s, k.within.grows)) p.1 in
+      let u = condition_over a.next (elaborated line c h).result k.over in
+      let v = condition_over b.next (elaborated line d a.next).result m.over in
+      record {
+        within = within_then h a.next b.next a.prelude (all_under (core.negation a.condition) b.prelude) k.within
+            (within_under a.next b.next (core.negation a.condition) b.prelude u m.within);
+        over = (condition_over_more a.next b.next a.condition m.within.grows u, v);
+      }
+  elaborated_within line (chosen sign c e f) n h s o =
+      let p = and_parts (is_over n c) (is_over n e && is_over n f) o in
+      let q = and_parts (is_over n e) (is_over n f) p.1 in
+      let a = elaborated line c h in
+      let k = elaborated_within line c n h s p.0 in
+      let b = elaborated line e a.next in
+      let x = numbered line b in
+      let after : n ≤ a.next = omega (arith, s, k.within.grows) in
+      let m = numbered_within line a.next b (elaborated_within line e n a.next after q.0) in
+      let d = elaborated line f x.next in
+      let l = numbered_within line x.next d (elaborated_within line f n x.next (omega (arith, after, m.within.grows)) q.1) in
+      choice_within line h (tested a) x (numbered line d) k.within (condition_over a.next a.result k.over) m l
+
+  -- so has the prelude of arguments
+  pub evaluated_within : (line : ℕ) (es : Expressions) (n h : ℕ) → n ≤ h → IsTrue (are_over n es)
+      → Within h (evaluated line es h).prelude (evaluated line es h).next
+  evaluated_within line none n h s o = within_none h
+  evaluated_within line (more e es) n h s o =
+      let p = and_parts (is_over n e) (are_over n es) o in
+      let a = elaborated line e h in
+      let k = elaborated_within line e n h s p.0 in
+      let b = evaluated line es a.next in
+      within_then h a.next b.next a.prelude b.prelude k.within
+      (evaluated_within line es n a.next (omega (arith, s, k.within.grows)) p.1)

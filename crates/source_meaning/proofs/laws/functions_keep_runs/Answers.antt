@@ -1,0 +1,15 @@
+use Rattle.source_core.proofs.runs.Runs.{runs-kept}
+use Rattle.source_core.proofs.runs.Checks.{checks-kept}
+use Rattle.std.proofs.Common.{length}
+use Rattle.source_meaning.specs.Walk.{walk}
+use Rattle.source_meaning.proofs.results.Values.{value_of}
+use Rattle.source_meaning.proofs.walk.Reads.{Reads, walk_reads}
+use Rattle.source_meaning.proofs.laws.functions_keep_runs.Goals as goal
+
+pub returns-clause-runs : goal.returns-clause-runs
+returns-clause-runs c = λ line f names body e.
+    runs-kept (length names) body (value_of (Reads f) (walk line f) (names, body) (walk_reads line f) e).good.0
+
+pub returns-clause-checks : goal.returns-clause-checks
+returns-clause-checks c = λ line f names body e.
+    checks-kept (length names) body (value_of (Reads f) (walk line f) (names, body) (walk_reads line f) e).good.0
