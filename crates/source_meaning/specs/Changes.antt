@@ -13,15 +13,6 @@ use Rattle.source_meaning.specs.Names.{State, variable_of, array_of}
 use Rattle.source_meaning.specs.Limits.{limited, counted}
 use Rattle.source_meaning.specs.Expressions.{read, ranged, behind, behind_number}
 
--- the operation of an assignment that has one
-abbrev pub joined_by : g.Change → (sign : ℕ) → (old right : Expression) → Expression
-joined_by g.replaces sign old right = right
-joined_by g.adds sign old right = joined plus sign old right
-joined_by g.subtracts sign old right = joined minus sign old right
-joined_by g.multiplies sign old right = joined times sign old right
-joined_by g.divides sign old right = joined over sign old right
-joined_by g.remains sign old right = joined remainder sign old right
-
 -- a place with 1 more or less
 abbrev pub stepped : g.Direction → (sign : ℕ) → Expression → Expression
 stepped g.up sign old = joined plus sign old (number 1 sign)
@@ -72,6 +63,7 @@ module _ (n line : ℕ) where
   affected st i at (assigns c sign e) = right_side st c sign (variable i at) e >>= λ x. Ok (sets i x line)
   affected st i at (steps d sign) = ranged line sign n (stepped d sign (variable i at)) >>= λ x. Ok (sets i x line)
 
+  -- what is done to an element, whose old value this is
   abbrev pub evaluated_by : State → (old : Expression) → Effect → Result Change FunctionFault
   evaluated_by st old (assigns c sign e) = written st c sign old e >>= λ es. Ok (evaluates es line)
   evaluated_by st old (steps d sign) = ranged line sign n (stepped d sign old) >>= λ x. Ok (evaluates (more x none) line)
@@ -80,6 +72,7 @@ module _ (n line : ℕ) where
   abbrev pub read_element : State → List ℕ → (at bracket : ℕ) → Expr → Result Expression FunctionFault
   read_element st x at bracket e = array_of x at st >>= λ size. read line st e n >>= λ i. ranged line bracket n (element size bracket i at)
 
+  -- what is done to a place
   abbrev pub changed : State → Place → Effect → Result Change FunctionFault
   changed st (place x a no_index) f = variable_of x a st >>= λ i. affected st i a f
   changed st (place x a (index b e c)) f = read_element st x a b e >>= λ old. evaluated_by st old f
@@ -87,10 +80,6 @@ module _ (n line : ℕ) where
 -- the place of a change's first token
 abbrev pub first_place : Place → ℕ
 first_place (place x a i) = a
-
-abbrev pub first_token : Update → ℕ
-first_token (update p f) = first_place p
-first_token (step_before d a p) = a
 
 module _ (line : ℕ → ℕ) (n : ℕ) where
   -- a change, its limits told last

@@ -29,6 +29,7 @@ first_of (tree.prefixed p a e) = a
 first_of (tree.joined e o a f) = first_of e
 first_of (tree.chosen c a e b f) = first_of c
 
+-- how two numbers are compared
 abbrev pub rel_of : Relation → Rel
 rel_of g.equal = rel.Eq
 rel_of g.unequal = rel.Ne
@@ -51,6 +52,7 @@ module _ (line : ℕ) where
   abbrev pub behind : Expression → ℕ → ℕ
   behind e h = (elaborated line e h).next
 
+  -- likewise as a number
   abbrev pub behind_number : Expression → ℕ → ℕ
   behind_number e h = (numbered line (elaborated line e h)).next
 
@@ -81,6 +83,7 @@ module _ (line : ℕ) where
   side true first h e = as_condition first h e
   side false first h e = Ok e
 
+  -- the hidden variable behind a side
   abbrev pub behind_side : (condition : Bool) → Expression → ℕ → ℕ
   behind_side true e h = behind e h
   behind_side false e h = behind_number e h
@@ -117,6 +120,7 @@ module _ (line : ℕ) where
     read_arguments st no_arguments h = Ok none
     read_arguments st (arguments e es) h = read st e h >>= λ x. read_more st es (behind x h) >>= λ xs. Ok (more x xs)
 
+    -- the arguments behind the first
     pub read_more : State → MoreArguments → ℕ → Result Expressions FunctionFault
     read_more st last_argument h = Ok none
     read_more st (next_argument a e es) h = read st e h >>= λ x. read_more st es (behind x h) >>= λ xs. Ok (more x xs)

@@ -15,20 +15,27 @@ pub data Thing : Type 0 where
   variable : (number : ℕ) → Thing
   array : (size : ℕ) → Thing
 
--- a name that was declared, and whether it is known
+-- a name that was declared
 pub record Named : Type 0 where
+  -- its text
   pub name : List ℕ
+  -- what it is
   pub thing : Thing
+  -- whether it is known here
   pub is_known : Bool
 
--- what has been met: the names so far, the last one first, the number of variables among them, the labels, and how many statements the
--- program has
+-- what has been met
 pub record State : Type 0 where
+  -- the names so far, the last one first
   pub names : List Named
+  -- how many of them are variables
   pub variables : ℕ
+  -- the labels
   pub labels : List (List ℕ)
+  -- how many statements the program has
   pub count : ℕ
 
+-- nothing has been met
 abbrev pub start_state : State
 start_state = record { names = []; variables = 0; labels = []; count = 0 }
 
@@ -41,6 +48,7 @@ declared x (n ∷ ns) = if bytes_eq x n.name then Some n else declared x ns
 abbrev pub known_if : Named → Option Thing
 known_if n = if n.is_known then Some n.thing else None
 
+-- what a name is that is known
 abbrev pub known : List ℕ → List Named → Option Thing
 known x ns = elim (declared x ns) [ None ↦ None | Some n ↦ known_if n ]
 
@@ -61,9 +69,11 @@ abbrev pub as_called : {A : Type 0} → (at : ℕ) → Option Thing → A → Re
 as_called at None x = Ok x
 as_called at (Some thing) x = Err (WrongKind at)
 
+-- the variable of a name
 abbrev pub variable_of : List ℕ → (at : ℕ) → State → Result ℕ FunctionFault
 variable_of x at st = as_variable at (known x st.names)
 
+-- the size of the array of a name
 abbrev pub array_of : List ℕ → (at : ℕ) → State → Result ℕ FunctionFault
 array_of x at st = as_array at (known x st.names)
 

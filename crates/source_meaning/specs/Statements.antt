@@ -32,6 +32,7 @@ abbrev pub followed_by : Statements → Statements → Statements
 followed_by nil rest = rest
 followed_by (cons s ss) rest = cons s (followed_by ss rest)
 
+-- one statement
 abbrev pub one : Statement → Statements
 one s = cons s nil
 
@@ -44,10 +45,11 @@ as_statements (g ∷ gs) = cons (changes g) (as_statements gs)
 abbrev pub always : (at : ℕ) → Expression
 always at = compared Le at (number 0 at) (number 0 at)
 
--- calls that end the run, and those that are a place not to be reached
+-- calls that end the run
 abbrev pub is_end : List ℕ → Bool
 is_end x = bytes_eq x (codes "abort") || bytes_eq x (codes "exit")
 
+-- calls that are a place not to be reached
 abbrev pub is_error : List ℕ → Bool
 is_error x = bytes_eq x (codes "reach_error") || bytes_eq x (codes "__VERIFIER_error")
 
@@ -60,10 +62,12 @@ new_label x at st = if list_any (λ y. bytes_eq x y) st.labels then Err (NameTwi
 abbrev pub jumped : (inside : Bool) → (at : ℕ) → State → Result State FunctionFault
 jumped inside at st = provided inside (OutsideLoop at) st >>= λ st. counted at 1 st
 
+-- a `break` or a `continue`
 abbrev pub jump_of : Jump → (line : ℕ) → Statement
 jump_of g.breaks line = jump breaks line
 jump_of g.continues line = jump continues line
 
+-- an assumption or an assertion
 abbrev pub demand_of : Demand → Expression → (at line : ℕ) → Statement
 demand_of g.assumes e at line = assumes e line
 demand_of g.asserts e at line = asserts e at line
@@ -94,11 +98,13 @@ module _ (line : ℕ → ℕ) (n : ℕ) where
       >>= λ now. counted at (length (change_deeds n g)) now >>= λ now. Ok (now, one (changes g)))
   read_declarator st (declarator x at (sized b size c d)) = with_array x at size c st >>= λ now. Ok (now, nil)
 
+  -- the names that are declared behind the first
   abbrev pub read_more_declarators : State → MoreDeclarators → Result (State × Statements) FunctionFault
   read_more_declarators st last_declarator = Ok (st, nil)
   read_more_declarators st (next_declarator a x xs) =
       read_declarator st x >>= λ r. read_more_declarators r.0 xs >>= λ q. Ok (q.0, followed_by r.1 q.1)
 
+  -- names that are declared
   abbrev pub read_declarators : State → Declarators → Result (State × Statements) FunctionFault
   read_declarators st (tree.declares x xs) =
       read_declarator st x >>= λ r. read_more_declarators r.0 xs >>= λ q. Ok (q.0, followed_by r.1 q.1)
@@ -109,6 +115,7 @@ module _ (line : ℕ → ℕ) (n : ℕ) where
   read_more_updates st (next_update a u us) =
       read_update line n st u >>= λ r. read_more_updates r.0 us >>= λ q. Ok (q.0, r.1 ∷ q.1)
 
+  -- changes with a comma between them, or none
   abbrev pub read_updates : State → Updates → Result (State × List Change) FunctionFault
   read_updates st no_updates = Ok (st, [])
   read_updates st (some_updates u us) =
@@ -168,11 +175,13 @@ module _ (line : ℕ → ℕ) (n : ℕ) where
         >>= λ now. Ok (now, followed_by r.1 after))
     read_core inside st (updates u c) = read_update line n st u >>= λ r. Ok (r.0, one (changes r.1))
 
+    -- a statement with its labels
     pub read_sub : (inside : Bool) → State → Sub → Result (State × Statements) FunctionFault
     read_sub inside st (labelled x at b s) = new_label x at st >>= λ now. read_sub inside now s
         >>= λ r. Ok (r.0, cons (label x (line at)) r.1)
     read_sub inside st (plain c) = read_core inside st c
 
+    -- the statements of a block
     pub read_items : (inside : Bool) → State → Items → Result (State × Statements) FunctionFault
     read_items inside st no_items = Ok (st, nil)
     read_items inside st (tree.label x at b is) = new_label x at st >>= λ now. read_items inside now is

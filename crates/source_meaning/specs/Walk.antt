@@ -22,21 +22,26 @@ declared_by bare = 1
 declared_by (given a e) = 1
 declared_by (sized a size b c) = 0
 
+-- by a name that is declared
 abbrev pub declared_one : Declarator → ℕ
 declared_one (declarator x a i) = declared_by i
 
+-- by those behind the first
 abbrev pub declared_more : MoreDeclarators → ℕ
 declared_more last_declarator = 0
 declared_more (next_declarator a x xs) = declared_one x + declared_more xs
 
+-- by names that are declared together
 abbrev pub declared_in : Declarators → ℕ
 declared_in (tree.declares x xs) = declared_one x + declared_more xs
 
+-- by the first part of a `for`'s head
 abbrev pub declared_before : ForFirst → ℕ
 declared_before (declared_first a xs) = declared_in xs
 declared_before (updated_first us) = 0
 
 abbrev mutual
+  -- by a statement
   pub declared_core : Core → ℕ
   declared_core (empty a) = 0
   declared_core (block a is b) = declared_items is
@@ -51,20 +56,24 @@ abbrev mutual
   declared_core (calls x a b es c d) = 0
   declared_core (updates u c) = 0
 
+  -- by a statement with its labels
   pub declared_sub : Sub → ℕ
   declared_sub (labelled x a b s) = declared_sub s
   declared_sub (plain c) = declared_core c
 
+  -- by the statements of a block
   pub declared_items : Items → ℕ
   declared_items no_items = 0
   declared_items (tree.label x a b is) = declared_items is
   declared_items (tree.declaration a xs b is) = declared_in xs + declared_items is
   declared_items (item c is) = declared_core c + declared_items is
 
+-- by the parameters behind the first
 abbrev pub declared_after : MoreParameters → ℕ
 declared_after last_parameter = 0
 declared_after (next_parameter a b x c ps) = suc (declared_after ps)
 
+-- by parameters
 abbrev pub declared_parameters : Parameters → ℕ
 declared_parameters no_parameters = 0
 declared_parameters (void_parameters a) = 0
@@ -85,11 +94,13 @@ module _ (line : ℕ → ℕ) where
   read_parameter st x at = with_variable x at st >>= λ now. counted at 1 now
       >>= λ now. Ok (now, cons (declares st.variables (line at)) nil)
 
+  -- the parameters behind the first
   abbrev pub read_more_parameters : State → MoreParameters → Result (State × Statements) FunctionFault
   read_more_parameters st last_parameter = Ok (st, nil)
   read_more_parameters st (next_parameter a b x at ps) = read_parameter st x at >>= λ r. read_more_parameters r.0 ps
       >>= λ q. Ok (q.0, followed_by r.1 q.1)
 
+  -- the parameters
   abbrev pub read_parameters : State → Parameters → Result (State × Statements) FunctionFault
   read_parameters st no_parameters = Ok (st, nil)
   read_parameters st (void_parameters a) = Ok (st, nil)

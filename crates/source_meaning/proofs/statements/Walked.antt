@@ -1,12 +1,7 @@
 -- What comes of each kind of statement that is read.
-use Rattle.std.proofs.Common.{◌≡◌, ◌≤◌, ◌+◌, ℕ, suc, Bool, true, false, IsTrue, List, [], ◌∷◌, length, Result, Ok}
-use Rattle.std.proofs.Common.{refl, arith, cond}
-use Rattle.std.specs.Prelude.{nat_lt}
-use Rattle.std.specs.List.{list_all}
-use Rattle.std.proofs.lemmas.Bool.{lt-ltb, and_from}
-use Rattle.std.proofs.lemmas.List.{length-append}
+use Rattle.std.proofs.Common.{◌+◌, ℕ, Bool, true, IsTrue, List, length, Result, Ok}
+use Rattle.std.proofs.Common.{refl, arith}
 use Rattle.lang_tree.specs.Tree.{breaks, continues, returns, nodes_in}
-use Rattle.lang_tree.specs.declared.limits.TheConstants.{MOST_HIDDEN}
 use Rattle.source_grammar.specs.Tokens as g
 use Rattle.source_grammar.specs.Tokens.{Jump, Demand}
 use Rattle.source_grammar.specs.Grammar.{Expr, Arguments, Optional, absent, present, Update, update, step_before, Place, Effect, steps}
@@ -17,42 +12,31 @@ use Rattle.source_grammar.specs.Grammar.{declared_first, updated_first, Core, Su
 use Rattle.source_grammar.specs.Grammar.{repeat_after}
 use Rattle.source_grammar.specs.Grammar.{repeat_for, jumps, demands, calls, updates, labelled, plain, no_items, item}
 use Rattle.source_grammar.specs.Grammar as tree
-use Rattle.source_tree.specs.Expressions.{Expression, Expressions, none, more}
-use Rattle.source_tree.specs.Statements.{Change, sets, evaluates, while_loop, for_loop, do_loop, Statement, Statements, declares}
-use Rattle.source_tree.specs.Statements.{changes, never, branch, loop, jump, label, nil, cons}
-use Rattle.source_core.specs.Elaborated.{elaborated, evaluated}
-use Rattle.source_core.specs.Fits.{deeds_fit, fits, tested_fits}
-use Rattle.source_core.specs.Laws.{is_over, are_over}
-use Rattle.source_core.specs.RunLaws.{is_change_over}
-use Rattle.source_core.specs.Core.{change_deeds, changes_deeds, condition_of, core_of, core_in}
+use Rattle.source_tree.specs.Expressions.{Expression}
+use Rattle.source_tree.specs.Statements.{Change, while_loop, for_loop, do_loop, Statements}
+use Rattle.source_tree.specs.Statements.{branch, loop, jump, label, nil, cons}
+use Rattle.source_core.specs.Core.{changes_deeds, core_of}
 use Rattle.source_meaning.specs.declared.fault.FunctionFault.{FunctionFault}
 use Rattle.source_meaning.specs.Results.{◌>>=◌}
-use Rattle.source_meaning.specs.Names.{State, closed, known, as_called, with_variable, with_array}
-use Rattle.source_meaning.specs.Limits.{is_small_deed, counted}
-use Rattle.source_meaning.specs.Expressions.{read, read_arguments, as_condition, first_of}
-use Rattle.source_meaning.specs.Changes.{behind_change, few, changed, first_place, read_update}
-use Rattle.source_meaning.specs.Statements.{followed_by, one, as_statements, is_end, is_error, new_label, jumped, jump_of, demand_of}
-use Rattle.source_meaning.specs.Statements.{call_of, read_condition, prelude_of, read_declarator, read_more_declarators, read_declarators}
-use Rattle.source_meaning.specs.Statements.{read_more_updates, read_updates, read_first, read_test, read_evaluated, read_returned}
+use Rattle.source_meaning.specs.Names.{State, closed}
+use Rattle.source_meaning.specs.Limits.{counted}
+use Rattle.source_meaning.specs.Changes.{read_update}
+use Rattle.source_meaning.specs.Statements.{followed_by, one, new_label, jumped, jump_of, demand_of}
+use Rattle.source_meaning.specs.Statements.{read_condition, prelude_of, read_declarators}
+use Rattle.source_meaning.specs.Statements.{read_updates, read_first, read_test, read_returned}
 use Rattle.source_meaning.specs.Statements.{read_core}
 use Rattle.source_meaning.specs.Statements.{read_sub, read_items}
-use Rattle.source_meaning.specs.Walk.{declared_one, declared_more, declared_in, declared_before, declared_core, declared_sub}
+use Rattle.source_meaning.specs.Walk.{declared_in, declared_before, declared_core, declared_sub}
 use Rattle.source_meaning.specs.Walk.{declared_items}
-use Rattle.source_meaning.proofs.results.Values.{OnValue, on_bind, on_both, on_given}
-use Rattle.source_meaning.proofs.names.Sound.{Sound, Declares, Counts, variable_sound, array_sound, closed_sound, counted_sound}
+use Rattle.source_meaning.proofs.results.Values.{OnValue, on_bind}
+use Rattle.source_meaning.proofs.names.Sound.{Sound, Counts, closed_sound, counted_sound}
 use Rattle.source_meaning.proofs.names.Sound.{label_sound}
 use Rattle.source_meaning.proofs.names.Sound.{jumped_sound}
-use Rattle.source_meaning.proofs.limits.Limited.{limited_has}
-use Rattle.source_meaning.proofs.limits.Deeds.{condition_limited, change_limited}
-use Rattle.source_meaning.proofs.expressions.Fits.{condition_in_range, read_fits, arguments_fit}
-use Rattle.source_meaning.proofs.changes.Fits.{taken_fits, one_evaluated, changed_fits}
-use Rattle.source_meaning.proofs.expressions.Over.{anything, condition_has, read_over, arguments_over}
-use Rattle.source_meaning.proofs.changes.Over.{changed_over}
-use Rattle.source_meaning.proofs.statements.Good.{nodes, nodes_cons, nodes_then, nodes_one, nodes_change, nodes_changes, nodes_branch}
-use Rattle.source_meaning.proofs.statements.Good.{GoodCondition, GoodChange, GoodChanges, GoodStatement, Good, good_nil}
-use Rattle.source_meaning.proofs.statements.Good.{good_cons, good_one, good_then, good_declares, good_change, no_changes, more_changes}
-use Rattle.source_meaning.proofs.statements.Good.{good_changes, good_branch, good_while, good_do, good_for, good_always, good_assumes}
-use Rattle.source_meaning.proofs.statements.Good.{good_asserts, good_never, good_returns, good_breaks, good_continues, good_label}
+use Rattle.source_meaning.proofs.statements.Good.{nodes, nodes_cons, nodes_branch}
+use Rattle.source_meaning.proofs.statements.Good.{GoodCondition, GoodStatement}
+use Rattle.source_meaning.proofs.statements.Good.{good_cons}
+use Rattle.source_meaning.proofs.statements.Good.{good_branch, good_while, good_do, good_for, good_assumes}
+use Rattle.source_meaning.proofs.statements.Good.{good_asserts, good_returns, good_breaks, good_continues, good_label}
 use Rattle.source_meaning.proofs.statements.Grows.{Grows, Turns, AllTurn, Tests, condition_good, test_good, update_turns, updates_turn}
 use Rattle.source_meaning.proofs.statements.Grows.{grows_change, grows_none, grows_one, grows_then, same_declared, declarators_grow}
 use Rattle.source_meaning.proofs.statements.Grows.{first_grows}
