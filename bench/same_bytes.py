@@ -45,10 +45,10 @@ def texts():
     return found
 
 
-def answer(top, words):
-    """Standard output, standard error and status; None where it takes too long."""
+def answer(top, words, seconds=SECONDS):
+    """Standard output, standard error and status; None where it takes longer than so many seconds."""
     try:
-        ran = subprocess.run([f"{top}/{words[0]}", *words[1:]], capture_output=True, timeout=SECONDS, check=False)
+        ran = subprocess.run([f"{top}/{words[0]}", *words[1:]], capture_output=True, timeout=seconds, check=False)
     except subprocess.TimeoutExpired:
         return None
     said = re.sub(rb"[^\n]*not proved on this machine[^\n]*\n", b"", ran.stderr)
@@ -76,9 +76,10 @@ def main():
             with open(file, "wb") as it:
                 it.write(text)
             tasks += [(other, [file if word == "FILE" else word for word in line]) for line in LINES]
+        # Each program is made once before the others run: cut off, it would be made by all of them at a time.
         for program in ("tmpl", "tmpl_acsl"):
             for top in (TOP, other):
-                answer(top, [program])
+                answer(top, [program], None)
         with ThreadPoolExecutor(os.cpu_count()) as pool:
             done = list(pool.map(compared, tasks))
         for words, _ in done:
