@@ -4,6 +4,8 @@ pub mod Edges
 pub mod Places
 pub mod Gaps
 pub mod Placed
+pub mod Directives
+pub mod Lines
 pub mod Steps
 pub mod Whole
 pub mod Stay

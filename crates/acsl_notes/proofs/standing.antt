@@ -2,3 +2,4 @@ pub mod Gaps
 pub mod Places
 pub mod Plain
 pub mod Said
+pub mod Slashes

@@ -46,7 +46,8 @@ pub data Demand : Type 0 where
   assumes : Demand
   asserts : Demand
 
--- What a token is. The words that stand for one thing are one kind; `other_word` is a reserved word that stands nowhere.
+-- What a token is. The words that stand for one thing are one kind; `other_word` is a reserved word or a
+-- sign that stands nowhere.
 pub data Kind : Type 0 where
   a_name : List ℕ → Kind
   a_number : ℕ → Kind

@@ -33,6 +33,7 @@ sign_kind lex_sign.TheVariants.EqualEqual = g.infix_sign (g.compare_op g.equal)
 sign_kind lex_sign.TheVariants.BangEqual = g.infix_sign (g.compare_op g.unequal)
 sign_kind lex_sign.TheVariants.AndAnd = g.infix_sign g.and_op
 sign_kind lex_sign.TheVariants.OrOr = g.infix_sign g.or_op
+sign_kind _ = g.other_word
 
 -- what a reserved word is to the grammar
 abbrev pub word_kind : lex_word.Word → Kind

@@ -86,7 +86,7 @@ pub enum Symbol {
     Return,
     Demand(Demand),
     Nondet,
-    /// A reserved word that stands nowhere in a program.
+    /// A reserved word or a sign that stands nowhere in a program.
     Other,
     End,
 }
@@ -119,6 +119,7 @@ fn sign_symbol(sign: Sign) -> Symbol
         Sign::BangEqual => Symbol::Infix(Op::Compare(Relation::Unequal)),
         Sign::AndAnd => Symbol::Infix(Op::And),
         Sign::OrOr => Symbol::Infix(Op::Or),
+        _ => Symbol::Other,
     }
 }
 

@@ -17,6 +17,10 @@ is_digit b = nat_le 48 b && nat_le b 57
 abbrev pub is_word_byte : ℕ → Bool
 is_word_byte b = is_letter b || is_digit b
 
+-- space, tab and carriage return: what may stand between the `#` of a directive and its word
+abbrev pub is_space : ℕ → Bool
+is_space b = (b == 32) || (b == 9) || (b == 13)
+
 -- what stands on the line of a line comment
 abbrev pub is_on_line : ℕ → Bool
 is_on_line b = not (b == 10)

@@ -5,33 +5,56 @@ use Rattle.std.specs.Str.Parse.{digits_value}
 use Rattle.lang_tokens.specs.declared.token.Token.{Token}
 use Rattle.lang_tokens.specs.declared.fault.LexFault.{LexFault}
 use Rattle.lang_tokens.specs.declared.fault.LexFault.TheVariants.{BadByte, OpenComment, LongNumber, LongName, BadNumber, NoMemory}
-use Rattle.lang_tokens.specs.Bytes.{is_blank, is_on_line}
+use Rattle.lang_tokens.specs.declared.before.Before.{Before}
+use Rattle.lang_tokens.specs.declared.before.Before.TheVariants.{Blanks}
+use Rattle.lang_tokens.specs.Bytes.{is_on_line}
+use Rattle.lang_tokens.specs.Directives.{starts_comment, is_star_joint}
 use Rattle.lang_tokens.specs.Lexemes.{IsLexeme, is_word, is_numeral, is_padded, longest_word, greatest_literal}
-use Rattle.lang_tokens.specs.Reading.{IsLongest, EndsInBackslash, starts_with_letter, ReadsUpTo}
+use Rattle.lang_tokens.specs.Reading.{IsLongest, IsClosed, EndsInBackslash, starts_with_letter, is_blank_at, is_outside, behind_all}
+use Rattle.lang_tokens.specs.Reading.{ReadsUpTo}
 
--- There is a byte, and no blank, comment or token starts with it.
-pub record NothingStarts (rest : List ℕ) : Type 0 where
+-- There is a byte, and behind what stands before it in its line no blank, comment or token starts with it.
+pub record NothingStarts (before : Before) (rest : List ℕ) : Type 0 where
   pub first : ℕ
   pub more : List ℕ
   pub split : first ∷ more ≡ rest
-  pub no_blank : IsFalse (is_blank first)
-  pub no_line_comment : (after : List ℕ) → 47 ∷ 47 ∷ after ≡ rest → ⊥
-  pub no_block_comment : (after : List ℕ) → 47 ∷ 42 ∷ after ≡ rest → ⊥
+  pub no_blank : IsFalse (is_blank_at before (first ∷ more))
+  pub no_comment : IsFalse (starts_comment (first ∷ more))
   pub no_token : (bytes after : List ℕ) → bytes ++ after ≡ rest → IsLexeme bytes → ⊥
 
--- A line comment ends in a backslash at this place of its body, and a line feed follows: C joins its line with the next.
-pub record IsJoined (rest : List ℕ) (backslash : ℕ) : Type 0 where
+-- A comment of `//` ends in a backslash at this place of its body, and a line feed follows: C joins its line with the next.
+pub record IsJoinedLine (rest : List ℕ) (backslash : ℕ) : Type 0 where
   pub body : List ℕ
   pub more : List ℕ
   pub split : 47 ∷ 47 ∷ (body ++ 10 ∷ more) ≡ rest
   pub on_line : IsTrue (list_all is_on_line body)
   pub ends : EndsInBackslash body backslash
 
--- A comment starts with `/*`, and no `*/` follows.
+-- no `*/` stands in these bytes
+abbrev pub IsUnclosed : List ℕ → Type 0
+IsUnclosed more = (body after : List ℕ) → body ++ 42 ∷ 47 ∷ after ≡ more → ⊥
+
+-- The body of a comment whose `/*` these bytes follow: up to the first `*/`, or all of them where there is none.
+pub data IsBody (more body : List ℕ) : Type 0 where
+  closed : (rest : List ℕ) → body ++ 42 ∷ 47 ∷ rest ≡ more → IsClosed body rest → IsBody more body
+  unclosed : body ≡ more → IsUnclosed more → IsBody more body
+
+-- A comment of `/*` has a backslash at this place of its body, with a `*` right before it, where C joins its line with the next; it is the
+-- first one there.
+pub record IsJoinedBlock (rest : List ℕ) (backslash : ℕ) : Type 0 where
+  pub more : List ℕ
+  pub split : 47 ∷ 42 ∷ more ≡ rest
+  pub body : List ℕ
+  pub is_body : IsBody more body
+  pub joins : IsTrue (is_star_joint (42 ∷ body) backslash)
+  pub first : (other : ℕ) → other < backslash → IsFalse (is_star_joint (42 ∷ body) other)
+
+-- A comment starts with `/*`, no `*/` follows, and C joins no lines behind a `*`.
 pub record IsOpen (rest : List ℕ) : Type 0 where
   pub more : List ℕ
   pub split : 47 ∷ 42 ∷ more ≡ rest
-  pub unclosed : (body after : List ℕ) → body ++ 42 ∷ 47 ∷ after ≡ more → ⊥
+  pub unclosed : IsUnclosed more
+  pub unjoined : (place : ℕ) → IsFalse (is_star_joint (42 ∷ more) place)
 
 -- a numeral with a needless 0, or with a letter or `_` at its end
 abbrev pub is_bad : List ℕ → List ℕ → Bool
@@ -65,19 +88,23 @@ pub record IsLongName (rest : List ℕ) : Type 0 where
   pub word : IsTrue (is_word bytes)
   pub long : longest_word < length bytes
 
--- A byte is bad where nothing starts with it, or where it is the backslash that a line comment ends in.
-abbrev pub IsBadByte : ℕ → ℕ → List ℕ → Type 0
-IsBadByte at place rest =
-    ((at ≡ place) × NothingStarts rest) ⊎ ((backslash : ℕ) × (at ≡ place + 2 + backslash) × IsJoined rest backslash)
+-- A comment has a backslash at this place behind its first two bytes that makes it another one to C.
+abbrev pub IsJoined : List ℕ → ℕ → Type 0
+IsJoined rest backslash = IsJoinedLine rest backslash ⊎ IsJoinedBlock rest backslash
 
--- The fault stands at this place, where the text goes on with this rest.
-abbrev pub Stands : LexFault → ℕ → List ℕ → Type 0
-Stands (BadByte at) place rest = IsBadByte at place rest
-Stands (OpenComment at) place rest = (at ≡ place) × IsOpen rest
-Stands (LongNumber at) place rest = (at ≡ place) × IsLongNumber rest
-Stands (LongName at) place rest = (at ≡ place) × IsLongName rest
-Stands (BadNumber at) place rest = (at ≡ place) × IsBadNumber rest
-Stands NoMemory place rest = ⊥
+-- A byte is bad where nothing starts with it, or where it is such a backslash of a comment.
+abbrev pub IsBadByte : ℕ → Before → ℕ → List ℕ → Type 0
+IsBadByte at before place rest =
+    ((at ≡ place) × NothingStarts before rest) ⊎ ((backslash : ℕ) × (at ≡ place + 2 + backslash) × IsJoined rest backslash)
+
+-- The fault stands at this place, behind what stands before it in its line, where the text goes on with this rest.
+abbrev pub Stands : LexFault → Before → ℕ → List ℕ → Type 0
+Stands (BadByte at) before place rest = IsBadByte at before place rest
+Stands (OpenComment at) before place rest = (at ≡ place) × IsOpen rest
+Stands (LongNumber at) before place rest = (at ≡ place) × IsTrue (is_outside before) × IsLongNumber rest
+Stands (LongName at) before place rest = (at ≡ place) × IsTrue (is_outside before) × IsLongName rest
+Stands (BadNumber at) before place rest = (at ≡ place) × IsTrue (is_outside before) × IsBadNumber rest
+Stands NoMemory before place rest = ⊥
 
 -- The fault of a text: the text reads up to its place, and it stands there.
 pub record HasFault (text : List ℕ) (fault : LexFault) : Type 0 where
@@ -85,4 +112,4 @@ pub record HasFault (text : List ℕ) (fault : LexFault) : Type 0 where
   pub tokens : List Token
   pub rest : List ℕ
   pub reads : ReadsUpTo text place tokens rest
-  pub stands : Stands fault place rest
+  pub stands : Stands fault (behind_all Blanks reads.pieces) place rest

@@ -2,8 +2,10 @@ pub mod Bytes
 pub mod Words
 pub mod Signs
 pub mod Lexemes
+pub mod Directives
 pub mod Reading
 pub mod Faults
 pub mod TokenLists
 pub mod Lines
 pub mod Steps
+pub mod LineLaw

@@ -1,11 +1,17 @@
 -- A text as blanks, comments and tokens.
-use Rattle.std.specs.Prelude.{◌≡◌, ◌≤◌, ◌<◌, ◌+◌, ◌++◌, ℕ, Bool, false, true, ◌==◌, IsTrue, IsFalse, List, [], ◌∷◌, length, slice_index}
+use Rattle.std.specs.Prelude.{◌≡◌, ◌≤◌, ◌<◌, ◌+◌, ◌++◌, ℕ, Bool, false, true, not, ◌||◌, ◌==◌, cond, IsTrue, IsFalse, List, [], ◌∷◌, length}
+use Rattle.std.specs.Prelude.{slice_index}
 use Rattle.std.specs.List.{list_all}
 use Rattle.lang_tokens.specs.declared.token.Kind.{Kind}
 use Rattle.lang_tokens.specs.declared.token.Kind.TheVariants as kind
 use Rattle.lang_tokens.specs.declared.token.Token.{Token}
+use Rattle.lang_tokens.specs.declared.sign.Sign.{Sign}
+use Rattle.lang_tokens.specs.declared.sign.Sign.TheVariants.{Slash}
+use Rattle.lang_tokens.specs.declared.before.Before.{Before}
+use Rattle.lang_tokens.specs.declared.before.Before.TheVariants.{Blanks, Others, Directive}
 use Rattle.lang_tokens.specs.Bytes.{is_blank, is_letter, is_on_line, is_line_blank}
 use Rattle.lang_tokens.specs.Lexemes.{IsLexeme, IsToken}
+use Rattle.lang_tokens.specs.Directives.{starts_comment, goes_on_as_comment, is_joint, is_star_joint, is_directive}
 
 -- a piece of a text
 pub data Piece : Type 0 where
@@ -26,6 +32,41 @@ abbrev pub spelling : List Piece → List ℕ
 spelling [] = []
 spelling (piece ∷ pieces) = piece_bytes piece ++ spelling pieces
 
+-- what stands before what follows a blank of this byte: a line feed begins a line, and a `#` is a blank only as part of a directive
+abbrev pub behind_blank : Before → ℕ → Before
+behind_blank before b = cond (b == 10) Blanks (cond (b == 35) Directive before)
+
+-- what stands before what follows a comment: a directive goes on behind it
+abbrev pub behind_comment : Before → Before
+behind_comment Directive = Directive
+behind_comment before = Others
+
+-- what stands in its line before what follows a piece, from what stands before the piece
+abbrev pub behind : Before → Piece → Before
+behind before (blank b) = behind_blank before b
+behind before (line_comment body) = behind_comment before
+behind before (block_comment body) = behind_comment before
+behind before (token kind bytes) = Others
+
+-- the same behind several pieces
+abbrev pub behind_all : Before → List Piece → Before
+behind_all before [] = before
+behind_all before (piece ∷ pieces) = behind_all (behind before piece) pieces
+
+-- no directive goes on here
+abbrev pub is_outside : Before → Bool
+is_outside Blanks = true
+is_outside Others = true
+is_outside Directive = false
+
+-- The first of these bytes is a blank: outside of directives one of the four blanks, or the `#` of a directive with nothing but blanks
+-- before it in its line; in a directive any byte at which no comment starts and where C joins no lines.
+abbrev pub is_blank_at : Before → List ℕ → Bool
+is_blank_at before [] = false
+is_blank_at Blanks (b ∷ bs) = is_blank b || is_directive (b ∷ bs)
+is_blank_at Others (b ∷ bs) = is_blank b
+is_blank_at Directive (b ∷ bs) = not (starts_comment (b ∷ bs) || is_joint (b ∷ bs))
+
 -- The bytes are a lexeme before this rest, and no longer one starts where they do.
 pub record IsLongest (bytes rest : List ℕ) : Type 0 where
   pub lexeme : IsLexeme bytes
@@ -34,6 +75,10 @@ pub record IsLongest (bytes rest : List ℕ) : Type 0 where
 -- The body of a comment ends where this rest begins: at the first `*/` that follows.
 abbrev pub IsClosed : List ℕ → List ℕ → Type 0
 IsClosed body rest = (other after : List ℕ) → other ++ 42 ∷ 47 ∷ after ≡ body ++ 42 ∷ 47 ∷ rest → length body ≤ length other
+
+-- C joins no lines where a `*` of the comment of this body stands: what it joins could end the comment earlier.
+abbrev pub IsApartFromJoints : List ℕ → Type 0
+IsApartFromJoints body = (place : ℕ) → IsFalse (is_star_joint (42 ∷ body) place)
 
 -- no byte, or a line feed at once
 abbrev pub ends_line : List ℕ → Bool
@@ -54,28 +99,34 @@ abbrev pub starts_with_letter : List ℕ → Bool
 starts_with_letter [] = false
 starts_with_letter (b ∷ bs) = is_letter b
 
--- Nothing that would be part of a number follows it.
+-- A sign is no part of what starts a comment.
+abbrev pub IsSignApart : Sign → List ℕ → Type 0
+IsSignApart Slash rest = IsFalse (goes_on_as_comment rest)
+IsSignApart sign rest = Unit {0}
+
+-- Nothing follows it that would be part of a number, or would make a `/` the start of a comment.
 abbrev pub IsApart : Kind → List ℕ → Type 0
 IsApart (kind.Number value) rest = IsFalse (starts_with_letter rest)
+IsApart (kind.Sign sign) rest = IsSignApart sign rest
 IsApart kind rest = Unit {0}
 
--- The bytes are a token of this kind, the longest lexeme at their place, and nothing that belongs to a number follows.
+-- The bytes are a token of this kind, the longest lexeme at their place, and apart from what follows.
 pub record IsWholeToken (kind : Kind) (bytes rest : List ℕ) : Type 0 where
   pub is_token : IsToken kind bytes
   pub longest : IsLongest bytes rest
   pub apart : IsApart kind rest
 
--- The piece is one where this rest of the text follows it.
-abbrev pub Fits : Piece → List ℕ → Type 0
-Fits (blank b) rest = IsTrue (is_blank b)
-Fits (line_comment body) rest = IsTrue (list_all is_on_line body) × IsTrue (ends_line rest) × IsUnjoined body rest
-Fits (block_comment body) rest = IsClosed body rest
-Fits (token kind bytes) rest = IsWholeToken kind bytes rest
+-- The piece is one behind what stands before it in its line, where this rest of the text follows it.
+abbrev pub Fits : Before → Piece → List ℕ → Type 0
+Fits before (blank b) rest = IsTrue (is_blank_at before (b ∷ rest))
+Fits before (line_comment body) rest = IsTrue (list_all is_on_line body) × IsTrue (ends_line rest) × IsUnjoined body rest
+Fits before (block_comment body) rest = IsClosed body rest × IsApartFromJoints body
+Fits before (token kind bytes) rest = IsTrue (is_outside before) × IsWholeToken kind bytes rest
 
--- Each of these pieces is one, where this rest follows the last.
-abbrev pub AllFit : List Piece → List ℕ → Type 0
-AllFit [] rest = Unit {0}
-AllFit (piece ∷ pieces) rest = Fits piece (spelling pieces ++ rest) × AllFit pieces rest
+-- Each of these pieces is one, behind what stands before the first in its line, and where this rest follows the last.
+abbrev pub AllFit : Before → List Piece → List ℕ → Type 0
+AllFit before [] rest = Unit {0}
+AllFit before (piece ∷ pieces) rest = Fits before piece (spelling pieces ++ rest) × AllFit (behind before piece) pieces rest
 
 -- the token of a piece that starts at this place
 abbrev pub piece_tokens : ℕ → Piece → List Token
@@ -91,7 +142,7 @@ tokens_from at (piece ∷ pieces) = piece_tokens at piece ++ tokens_from (at + l
 pub record ReadsUpTo (text : List ℕ) (at : ℕ) (tokens : List Token) (rest : List ℕ) : Type 0 where
   pub pieces : List Piece
   pub spelled : spelling pieces ++ rest ≡ text
-  pub fit : AllFit pieces rest
+  pub fit : AllFit Blanks pieces rest
   pub place : length (spelling pieces) ≡ at
   pub told : tokens_from 0 pieces ≡ tokens
 

@@ -5,7 +5,8 @@ use Rattle.lang_tokens.specs.declared.sign.Sign.TheVariants.{LeftParen, RightPar
 use Rattle.lang_tokens.specs.declared.sign.Sign.TheVariants.{PlusAssign}
 use Rattle.lang_tokens.specs.declared.sign.Sign.TheVariants.{MinusAssign, Increment, Decrement, Plus, Minus, Star, Bang, Less, LessEqual}
 use Rattle.lang_tokens.specs.declared.sign.Sign.TheVariants.{Greater, GreaterEqual}
-use Rattle.lang_tokens.specs.declared.sign.Sign.TheVariants.{EqualEqual, BangEqual, AndAnd, OrOr}
+use Rattle.lang_tokens.specs.declared.sign.Sign.TheVariants.{EqualEqual, BangEqual, AndAnd, OrOr, Slash, Percent, Question}
+use Rattle.lang_tokens.specs.declared.sign.Sign.TheVariants.{LeftBracket, RightBracket, StarAssign, SlashAssign, PercentAssign}
 
 -- the bytes of a sign
 abbrev pub sign_bytes : Sign → List ℕ
@@ -33,3 +34,11 @@ sign_bytes EqualEqual = codes "=="
 sign_bytes BangEqual = codes "!="
 sign_bytes AndAnd = codes "&&"
 sign_bytes OrOr = codes "||"
+sign_bytes Slash = codes "/"
+sign_bytes Percent = codes "%"
+sign_bytes Question = codes "?"
+sign_bytes LeftBracket = codes "["
+sign_bytes RightBracket = codes "]"
+sign_bytes StarAssign = codes "*="
+sign_bytes SlashAssign = codes "/="
+sign_bytes PercentAssign = codes "%="

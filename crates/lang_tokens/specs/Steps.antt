@@ -1,11 +1,15 @@
 -- What one step of the lexer finds at the head of the rest of a text.
-use Rattle.std.specs.Prelude.{◌≡◌, ◌≤◌, ◌<◌, ◌+◌, ◌++◌, ℕ, List, [], ◌∷◌, length, slice_index, Option, Some, None, Result, MatchResult}
+use Rattle.std.specs.Prelude.{◌≡◌, ◌≤◌, ◌<◌, ◌+◌, ◌++◌, ℕ, IsTrue, IsFalse, List, [], ◌∷◌, length, slice_index, Option, Some, None, Result}
+use Rattle.std.specs.Prelude.{MatchResult}
 use Rattle.lang_tokens.specs.declared.token.Kind.{Kind}
 use Rattle.lang_tokens.specs.declared.sign.Sign.{Sign}
 use Rattle.lang_tokens.specs.declared.fault.LexFault.{LexFault}
 use Rattle.lang_tokens.specs.declared.found.Found.{Found}
+use Rattle.lang_tokens.specs.declared.before.Before.{Before}
+use Rattle.lang_tokens.specs.Directives.{is_star_joint}
 use Rattle.lang_tokens.specs.Signs.{sign_bytes}
-use Rattle.lang_tokens.specs.Reading.{Piece, blank, line_comment, block_comment, token, piece_bytes, Fits, EndsInBackslash}
+use Rattle.lang_tokens.specs.Reading.{Piece, blank, line_comment, block_comment, token, piece_bytes, Fits, EndsInBackslash, behind}
+use Rattle.lang_tokens.specs.Reading.{is_outside}
 use Rattle.lang_tokens.specs.Faults.{Stands}
 
 -- the kind of a piece that is a token
@@ -15,18 +19,23 @@ piece_kind (blank b) = None
 piece_kind (line_comment body) = None
 piece_kind (block_comment body) = None
 
--- A piece of this kind and length stands first.
-pub record StandsFirst (rest : List ℕ) (found : Found) : Type 0 where
+-- A piece of this kind and length stands first, behind what stands before it in its line, and so much is known of the line behind it.
+pub record StandsFirst (before : Before) (rest : List ℕ) (found : Found) : Type 0 where
   pub piece : Piece
   pub after : List ℕ
   pub split : piece_bytes piece ++ after ≡ rest
-  pub fits : Fits piece after
+  pub fits : Fits before piece after
   pub length_is : length (piece_bytes piece) ≡ found.len
   pub kind_is : piece_kind piece ≡ found.kind
+  pub behind_is : behind before piece ≡ found.behind
 
 -- The piece that stands first is found, or the fault that stands there.
-abbrev pub Finds : List ℕ → ℕ → Result Found LexFault → Type 0
-Finds rest place result = MatchResult result (StandsFirst rest) (λ fault. Stands fault place rest)
+abbrev pub Finds : Before → List ℕ → ℕ → Result Found LexFault → Type 0
+Finds before rest place result = MatchResult result (StandsFirst before rest) (λ fault. Stands fault before place rest)
+
+-- The same wherever no directive goes on.
+abbrev pub FindsOutside : List ℕ → ℕ → Result Found LexFault → Type 0
+FindsOutside rest place result = (before : Before) → IsTrue (is_outside before) → Finds before rest place result
 
 -- `*/` stands at this place
 abbrev pub ClosesAt : List ℕ → ℕ → Type 0
@@ -36,6 +45,11 @@ ClosesAt text place = (slice_index text place ≡ 42) × (slice_index text (plac
 abbrev pub IsFirstClose : List ℕ → Option ℕ → Type 0
 IsFirstClose text None = (place : ℕ) → ClosesAt text place → ⊥
 IsFirstClose text (Some place) = ClosesAt text place × ((other : ℕ) → other < place → ClosesAt text other → ⊥)
+
+-- the first place at which a `*` stands with a `\` right behind it that joins lines, or none
+abbrev pub IsFirstJoint : List ℕ → Option ℕ → Type 0
+IsFirstJoint text None = (place : ℕ) → IsFalse (is_star_joint text place)
+IsFirstJoint text (Some place) = IsTrue (is_star_joint text place) × ((other : ℕ) → other < place → IsFalse (is_star_joint text other))
 
 -- the place of the backslash that a line ends in, or none
 abbrev pub IsLastBackslash : List ℕ → Option ℕ → Type 0

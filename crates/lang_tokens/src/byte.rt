@@ -1,13 +1,20 @@
 //! Classes of bytes.
 
 ghost use Rattle.std.specs.Prelude.{◌≡◌};
-ghost use Rattle.lang_tokens.specs.Bytes.{is_blank, is_line_blank, is_letter, is_digit, is_word_byte};
+ghost use Rattle.lang_tokens.specs.Bytes.{is_blank, is_space, is_line_blank, is_letter, is_digit, is_word_byte};
 
 /// Space, tab, carriage return and line feed.
 pub fn is_blank(byte: u8) -> bool
     ensures { result ≡ is_blank byte }
 {
     matches!(byte, b' ' | b'\t' | b'\r' | b'\n')
+}
+
+/// Space, tab and carriage return.
+pub fn is_space(byte: u8) -> bool
+    ensures { result ≡ is_space byte }
+{
+    matches!(byte, b' ' | b'\t' | b'\r')
 }
 
 /// Space, tab, carriage return, form feed and vertical tab.

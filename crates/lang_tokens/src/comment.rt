@@ -1,14 +1,17 @@
 //! Comments.
 
-ghost use Rattle.std.specs.Prelude.{◌≡◌, ◌≤◌, ◌<◌, ◌+◌, ◌∷◌, length, slice_index, IfSome};
+ghost use Rattle.std.specs.Prelude.{◌≡◌, ◌≤◌, ◌<◌, ◌+◌, ◌∷◌, length, slice_index, IfSome, IsTrue};
 ghost use Rattle.std.specs.List.{prefix_len};
 ghost use Rattle.base_limits.specs.declared.limits.TheConstants.{MOST_TEXT_BYTES};
 ghost use Rattle.lang_tokens.specs.Bytes.{is_on_line};
+ghost use Rattle.lang_tokens.specs.Directives.{starts_comment};
 ghost use Rattle.lang_tokens.specs.Steps.{IsFirstClose, IsLastBackslash, Finds};
 
+use crate::before::Before;
 use crate::byte::is_line_blank;
 use crate::fault::LexFault;
 use crate::found::Found;
+use crate::joint::first_joint;
 
 // How many bytes stand before the first line feed, or before the end.
 fn line_len(rest: &[u8]) -> usize
@@ -35,15 +38,16 @@ fn last_backslash(line: &[u8]) -> Option<usize>
 }
 
 // The line comment of this body, with what follows it; `at` is the place of its `//`.
-fn line_comment(body: &[u8], at: u32) -> Result<Found, LexFault>
+fn line_comment(body: &[u8], at: u32, before: Before) -> Result<Found, LexFault>
     requires { at + 2 + length body.now ≤ MOST_TEXT_BYTES }
-    ensures { Finds (47 ∷ 47 ∷ body.now) at result }
+    ensures { Finds before (47 ∷ 47 ∷ body.now) at result }
 {
     let len = line_len(body);
     if len == body.len() {
         return Ok(Found {
             kind: None,
             len: 2 + len,
+            behind: before.behind_comment(),
         });
     }
     match last_backslash(&body[..len]) {
@@ -53,13 +57,15 @@ fn line_comment(body: &[u8], at: u32) -> Result<Found, LexFault>
         None => Ok(Found {
             kind: None,
             len: 2 + len,
+            behind: before.behind_comment(),
         }),
     }
 }
 
 // Where the first `*/` stands.
 fn first_close(body: &[u8]) -> Option<usize>
-    ensures { IsFirstClose body.now result }
+    ensures place { IsFirstClose body.now result }
+    ensures within { IfSome result (λ place. place + 2 ≤ length body.now) }
 {
     for place in 1..body.len() {
         if body[place - 1] == b'*' && body[place] == b'/' {
@@ -69,22 +75,43 @@ fn first_close(body: &[u8]) -> Option<usize>
     None
 }
 
-/// What starts with the `/` that stands first; `at` is its place.
-pub fn comment(rest: &[u8], at: u32) -> Result<Found, LexFault>
-    requires some { 1 ≤ length rest.now }
+// The comment of the `/*` that stands first; `at` is its place.
+fn block_comment(rest: &[u8], at: u32, before: Before) -> Result<Found, LexFault>
+    requires some { 2 ≤ length rest.now }
     requires slash { slice_index rest.now 0 ≡ 47 }
+    requires star { slice_index rest.now 1 ≡ 42 }
     requires within { at + length rest.now ≤ MOST_TEXT_BYTES }
-    ensures { Finds rest.now at result }
+    ensures { Finds before rest.now at result }
 {
-    match rest {
-        [_, b'/', body @ ..] => line_comment(body, at),
-        [_, b'*', body @ ..] => match first_close(body) {
-            Some(place) => Ok(Found {
+    match first_close(&rest[2..]) {
+        Some(close) => match first_joint(&rest[1..close + 2]) {
+            Some(star) => Err(LexFault::BadByte {
+                at: at + 2 + star as u32,
+            }),
+            None => Ok(Found {
                 kind: None,
-                len: place + 4,
+                len: close + 4,
+                behind: before.behind_comment(),
+            }),
+        },
+        None => match first_joint(&rest[1..]) {
+            Some(star) => Err(LexFault::BadByte {
+                at: at + 2 + star as u32,
             }),
             None => Err(LexFault::OpenComment { at }),
         },
-        _ => Err(LexFault::BadByte { at }),
+    }
+}
+
+/// The comment that starts with the `/` that stands first; `at` is its place.
+pub fn comment(rest: &[u8], at: u32, before: Before) -> Result<Found, LexFault>
+    requires starts { IsTrue (starts_comment rest.now) }
+    requires within { at + length rest.now ≤ MOST_TEXT_BYTES }
+    ensures { Finds before rest.now at result }
+{
+    if rest[1] == b'/' {
+        line_comment(&rest[2..], at, before)
+    } else {
+        block_comment(rest, at, before)
     }
 }

@@ -6,7 +6,7 @@ use std::alloc::AllocFailed;
 /// (docs/FORMATS.md, "Tokens").
 #[derive(Clone, Copy, Debug, PartialEq, Eq)]
 pub enum LexFault {
-    /// No token, blank or comment starts at this byte.
+    /// No token, blank or comment starts at this byte, or C joins two lines at this `\` of a comment.
     BadByte { at: u32 },
     /// The comment that starts with this `/*` has no `*/`.
     OpenComment { at: u32 },

@@ -1,5 +1,6 @@
 //! What stands first in the rest of a text.
 
+use crate::before::Before;
 use crate::token::Kind;
 
 /// A blank, a comment or a token.
@@ -9,4 +10,6 @@ pub struct Found {
     pub kind: Option<Kind>,
     /// How many bytes it has.
     pub len: usize,
+    /// What stands in its line before what follows it.
+    pub behind: Before,
 }

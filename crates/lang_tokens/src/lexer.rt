@@ -9,6 +9,7 @@ ghost use Rattle.lang_tokens.specs.Reading.{Reads};
 ghost use Rattle.lang_tokens.specs.Faults.{HasFault};
 ghost use Rattle.lang_tokens.specs.TokenLists.{AreTokensOf};
 
+use crate::before::Before;
 use crate::fault::LexFault;
 use crate::piece::piece;
 use crate::token::{Kind, Token};
@@ -21,8 +22,9 @@ fn scan(alloc: Global, text: &[u8]) -> Result<Vec<Token>, LexFault>
 {
     let mut tokens = Vec::new(alloc);
     let mut at = 0;
+    let mut before = Before::Blanks;
     while at < text.len() {
-        let found = piece(&text[at..], at as u32)?;
+        let found = piece(&text[at..], at as u32, before)?;
         if let Some(kind) = found.kind {
             tokens.push(Token {
                 kind,
@@ -31,6 +33,7 @@ fn scan(alloc: Global, text: &[u8]) -> Result<Vec<Token>, LexFault>
             })?;
         }
         at += found.len;
+        before = found.behind;
     }
     tokens.push(Token {
         kind: Kind::End,

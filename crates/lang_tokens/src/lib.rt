@@ -1,10 +1,13 @@
 //! The tokens of a program's text.
 #![tactic(auto)]
 
+mod before;
 mod byte;
 mod comment;
+mod directive;
 mod fault;
 mod found;
+mod joint;
 mod laws;
 mod lexer;
 mod line;
@@ -18,7 +21,7 @@ mod word;
 mod words;
 
 pub use fault::LexFault;
-pub use laws::one_reading;
+pub use laws::{lines_are_bytes, one_reading};
 pub use lexer::lex;
 pub use line::line_of;
 pub use sign::Sign;

@@ -6,8 +6,9 @@ ghost use Rattle.std.specs.Str.Parse.{digits_value};
 ghost use Rattle.lang_tokens.specs.Bytes.{is_digit};
 ghost use Rattle.lang_tokens.specs.Lexemes.{is_padded, greatest_literal};
 ghost use Rattle.lang_tokens.specs.Reading.{starts_with_letter};
-ghost use Rattle.lang_tokens.specs.Steps.{Finds};
+ghost use Rattle.lang_tokens.specs.Steps.{FindsOutside};
 
+use crate::before::Before;
 use crate::byte::{is_digit, is_letter};
 use crate::fault::LexFault;
 use crate::found::Found;
@@ -58,7 +59,7 @@ fn literal_value(digits: &[u8]) -> Option<i64>
 pub fn number(rest: &[u8], at: u32) -> Result<Found, LexFault>
     requires some { 1 ≤ length rest.now }
     requires digit { IsTrue (is_digit (slice_index rest.now 0)) }
-    ensures { Finds rest.now at result }
+    ensures { FindsOutside rest.now at result }
 {
     let len = digits_len(rest);
     let digits = &rest[..len];
@@ -69,6 +70,7 @@ pub fn number(rest: &[u8], at: u32) -> Result<Found, LexFault>
         Some(value) => Ok(Found {
             kind: Some(Kind::Number(value)),
             len,
+            behind: Before::Others,
         }),
         None => Err(LexFault::LongNumber { at }),
     }

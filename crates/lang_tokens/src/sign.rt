@@ -54,6 +54,22 @@ pub enum Sign {
     AndAnd,
     /// `||`
     OrOr,
+    /// `/`, where it starts no comment
+    Slash,
+    /// `%`
+    Percent,
+    /// `?`
+    Question,
+    /// `[`
+    LeftBracket,
+    /// `]`
+    RightBracket,
+    /// `*=`
+    StarAssign,
+    /// `/=`
+    SlashAssign,
+    /// `%=`
+    PercentAssign,
 }
 
 impl Sign {
@@ -71,7 +87,10 @@ impl Sign {
             | Sign::EqualEqual
             | Sign::BangEqual
             | Sign::AndAnd
-            | Sign::OrOr => 2,
+            | Sign::OrOr
+            | Sign::StarAssign
+            | Sign::SlashAssign
+            | Sign::PercentAssign => 2,
             _ => 1,
         }
     }

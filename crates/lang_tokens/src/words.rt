@@ -3,8 +3,9 @@
 ghost use Rattle.std.specs.Prelude.{◌≡◌, ◌≤◌, length, slice_index, IsTrue};
 ghost use Rattle.std.specs.List.{prefix_len};
 ghost use Rattle.lang_tokens.specs.Bytes.{is_letter, is_word_byte};
-ghost use Rattle.lang_tokens.specs.Steps.{Finds};
+ghost use Rattle.lang_tokens.specs.Steps.{FindsOutside};
 
+use crate::before::Before;
 use crate::byte::is_word_byte;
 use crate::fault::LexFault;
 use crate::found::Found;
@@ -14,9 +15,10 @@ use crate::token::Kind;
 /// The most bytes that a word has.
 const LONGEST_WORD: usize = 32;
 
-// How many letters and digits stand first.
-fn word_len(rest: &[u8]) -> usize
-    ensures { result ≡ prefix_len is_word_byte rest.now }
+/// How many letters and digits stand first.
+pub fn word_len(rest: &[u8]) -> usize
+    ensures len { result ≡ prefix_len is_word_byte rest.now }
+    ensures within { result ≤ length rest.now }
 {
     rest.iter().take_while(|byte| is_word_byte(**byte)).count()
 }
@@ -25,7 +27,7 @@ fn word_len(rest: &[u8]) -> usize
 pub fn word(rest: &[u8], at: u32) -> Result<Found, LexFault>
     requires some { 1 ≤ length rest.now }
     requires letter { IsTrue (is_letter (slice_index rest.now 0)) }
-    ensures { Finds rest.now at result }
+    ensures { FindsOutside rest.now at result }
 {
     let len = word_len(rest);
     if len > LONGEST_WORD {
@@ -38,5 +40,6 @@ pub fn word(rest: &[u8], at: u32) -> Result<Found, LexFault>
     Ok(Found {
         kind: Some(kind),
         len,
+        behind: Before::Others,
     })
 }

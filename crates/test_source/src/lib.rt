@@ -7,3 +7,9 @@ mod grammar;
 mod items;
 #[cfg(test)]
 mod words;
+#[cfg(test)]
+mod limits;
+#[cfg(test)]
+mod rows;
+#[cfg(test)]
+mod written;

@@ -5,6 +5,8 @@
 #[cfg(test)]
 mod claims;
 #[cfg(test)]
+mod directives;
+#[cfg(test)]
 mod equations;
 #[cfg(test)]
 mod faults;

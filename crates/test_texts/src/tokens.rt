@@ -103,6 +103,14 @@ const ALONE: &[(&str, Kind)] = &[
     ("!=", Kind::Sign(Sign::BangEqual)),
     ("&&", Kind::Sign(Sign::AndAnd)),
     ("||", Kind::Sign(Sign::OrOr)),
+    ("/", Kind::Sign(Sign::Slash)),
+    ("%", Kind::Sign(Sign::Percent)),
+    ("?", Kind::Sign(Sign::Question)),
+    ("[", Kind::Sign(Sign::LeftBracket)),
+    ("]", Kind::Sign(Sign::RightBracket)),
+    ("*=", Kind::Sign(Sign::StarAssign)),
+    ("/=", Kind::Sign(Sign::SlashAssign)),
+    ("%=", Kind::Sign(Sign::PercentAssign)),
 ];
 
 #[test]
@@ -205,10 +213,10 @@ const TEXTS: &[(&[u8], &[Token])] = &[
     (b"a//\\", &[NAME]),
     (b"a// \\ \t", &[NAME]),
     (
-        b"/*\\\n*/a",
+        b"/* \\\n*/a",
         &[Token {
             kind: Kind::Name,
-            at: 6,
+            at: 7,
             len: 1,
         }],
     ),
@@ -281,8 +289,6 @@ impl Case for (&[u8], LexFault) {
 }
 
 const FAULTS: &[(&[u8], LexFault)] = &[
-    (b"x /", LexFault::BadByte { at: 2 }),
-    (b"1 / 2", LexFault::BadByte { at: 2 }),
     (b"&", LexFault::BadByte { at: 0 }),
     (b"a&&&b", LexFault::BadByte { at: 3 }),
     (b"a|b", LexFault::BadByte { at: 1 }),
@@ -309,7 +315,38 @@ const FAULTS: &[(&[u8], LexFault)] = &[
     (b"1_", LexFault::BadNumber { at: 0 }),
     (b"(1z", LexFault::BadNumber { at: 1 }),
     (b"99999999999999999999a", LexFault::BadNumber { at: 0 }),
-    (b"# 07", LexFault::BadByte { at: 0 }),
+    // A `#` that no directive starts with: another word, none, what stands between it and the word, and what stands before it.
+    (b"#define x", LexFault::BadByte { at: 0 }),
+    (b"#includes", LexFault::BadByte { at: 0 }),
+    (b"#include_ <a.h>", LexFault::BadByte { at: 0 }),
+    (b"#line9", LexFault::BadByte { at: 0 }),
+    (b"\n #lin", LexFault::BadByte { at: 2 }),
+    (b"#", LexFault::BadByte { at: 0 }),
+    (b"#\nline", LexFault::BadByte { at: 0 }),
+    (b"# \x0bline", LexFault::BadByte { at: 0 }),
+    (b"#/**/line", LexFault::BadByte { at: 0 }),
+    (b"#\\\nline", LexFault::BadByte { at: 0 }),
+    (b"x #line", LexFault::BadByte { at: 2 }),
+    (b"(#line", LexFault::BadByte { at: 1 }),
+    (b"/**/#line", LexFault::BadByte { at: 4 }),
+    (b"/*\n*/ #line", LexFault::BadByte { at: 6 }),
+    (b"\x0c#line", LexFault::BadByte { at: 0 }),
+    // Lines that C joins with the next one, in code, in a directive and in its comments.
+    (b"a \\ \t\x0b\x0c\r\nb", LexFault::BadByte { at: 2 }),
+    (b"\\", LexFault::BadByte { at: 0 }),
+    (b"#line \\\nx", LexFault::BadByte { at: 6 }),
+    (b"#line 1\\ \t\r\x0b\x0c\nx", LexFault::BadByte { at: 7 }),
+    (b"#line \\\\\n", LexFault::BadByte { at: 7 }),
+    (b"#line /*\n*/ \\\nx", LexFault::BadByte { at: 12 }),
+    (b"#line // \\\nx", LexFault::BadByte { at: 9 }),
+    (b"#line /* *\\\n*/", LexFault::BadByte { at: 10 }),
+    // And behind a `*` of a comment, whether it is open or not, also behind that of its `/*`.
+    (b"/* *\\\n/ */", LexFault::BadByte { at: 4 }),
+    (b"/***\\ \t\r\x0b\x0c\n/*/", LexFault::BadByte { at: 4 }),
+    (b"/*\\\n*/a", LexFault::BadByte { at: 2 }),
+    (b"x/* *\\\n *\\\n", LexFault::BadByte { at: 5 }),
+    (b"/* *\\", LexFault::OpenComment { at: 0 }),
+    (b"#line /* x\n", LexFault::OpenComment { at: 6 }),
     (b"07 #", LexFault::BadNumber { at: 0 }),
 ];
 

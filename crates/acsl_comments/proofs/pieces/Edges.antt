@@ -2,14 +2,18 @@
 use Rattle.std.proofs.Common.{◌≡◌, ◌≤◌, ◌<◌, ◌+◌, ◌⊎◌, inl, inr, ⊎_elim, ℕ, Bool, true, false, List, [], ◌∷◌, ◌++◌, length, refl, ap, sym}
 use Rattle.std.proofs.Common.{subst, arith, Contains}
 use Rattle.std.proofs.lemmas.Bool.{eqb-true}
-use Rattle.std.proofs.lemmas.List.Elements.{Contains-append_cases, Contains-push_cases}
+use Rattle.std.proofs.lemmas.List.Elements.{Contains-append_cases, Contains-push_cases, Contains-push, Contains-append_left}
+use Rattle.std.proofs.lemmas.List.Elements.{Contains-append_right}
 use Rattle.lang_tokens.specs.declared.token.Token.{Token}
 use Rattle.lang_tokens.specs.Lexemes.{IsLexeme}
 use Rattle.lang_tokens.specs.Reading.{Piece, blank, line_comment, block_comment, token, piece_bytes, spelling, AllFit, ends_line}
 use Rattle.lang_tokens.specs.Reading.{piece_tokens, tokens_from, end_at}
+use Rattle.lang_tokens.specs.declared.before.Before.{Before}
+use Rattle.lang_tokens.specs.declared.sign.Sign.TheVariants.{Slash}
+use Rattle.lang_tokens.specs.declared.token.Kind.TheVariants as kind
 use Rattle.lang_tokens.proofs.reading.Growth.{piece_some, lexeme_some}
 use Rattle.acsl_comments.specs.Places.{IsEdge}
-use Rattle.acsl_comments.proofs.pieces.Plain.{lexeme_plain, no_gap_in_plain}
+use Rattle.acsl_comments.proofs.pieces.Plain.{no_feed_first}
 
 -- the piece is a token
 abbrev pub is_token : Piece → Bool
@@ -43,7 +47,7 @@ piece_edge_behind at (line_comment body) place e = absurd e
 piece_edge_behind at (block_comment body) place e = absurd e
 
 -- tokens among pieces begin and end behind where the first piece starts
-edge_behind : (at : ℕ) (pieces : List Piece) (place : ℕ) → IsEdgeIn at pieces place → at ≤ place
+pub edge_behind : (at : ℕ) (pieces : List Piece) (place : ℕ) → IsEdgeIn at pieces place → at ≤ place
 edge_behind at [] place e = absurd e
 edge_behind at (piece ∷ pieces) place (inl e) = piece_edge_behind at piece place e
 edge_behind at (piece ∷ pieces) place (inr e) = omega (arith, edge_behind (at + length (piece_bytes piece)) pieces place e)
@@ -72,26 +76,57 @@ held_later ended at piece pieces place (inr (inr e)) later = inr e
 -- a token is no line feed
 token_no_end : (bytes more : List ℕ) → IsLexeme bytes → ends_line ((bytes ++ more) ++ []) ≡ true → ⊥
 token_no_end [] more lexeme h = absurd (omega (arith, lexeme_some [] lexeme))
-token_no_end (b ∷ bytes) more lexeme h =
-    let feed : b ≡ 10 = eqb-true b 10 h in
-    no_gap_in_plain [] bytes b (lexeme_plain (b ∷ bytes) lexeme) (rw feed refl)
+token_no_end (b ∷ bytes) more lexeme h = let feed : b ≡ 10 = eqb-true b 10 h in no_feed_first bytes (rw feed at lexeme)
 
 -- so no first piece is a token where a line ends
-piece_no_edge : (at : ℕ) (piece : Piece) (pieces : List Piece) → AllFit (piece ∷ pieces) []
+piece_no_edge : (before : Before) (at : ℕ) (piece : Piece) (pieces : List Piece) → AllFit before (piece ∷ pieces) []
     → ends_line (spelling (piece ∷ pieces) ++ []) ≡ true → IsPieceEdge at piece at → ⊥
-piece_no_edge at (token kind bytes) pieces fit h e = token_no_end bytes (spelling pieces) fit.0.longest.lexeme h
-piece_no_edge at (blank b) pieces fit h e = e
-piece_no_edge at (line_comment body) pieces fit h e = e
-piece_no_edge at (block_comment body) pieces fit h e = e
+piece_no_edge before at (token k bytes) pieces fit h e = token_no_end bytes (spelling pieces) fit.0.1.longest.lexeme h
+piece_no_edge before at (blank b) pieces fit h e = e
+piece_no_edge before at (line_comment body) pieces fit h e = e
+piece_no_edge before at (block_comment body) pieces fit h e = e
 
 -- no token begins where a line ends
-pub no_edge_at_line_end : (at : ℕ) (pieces : List Piece) → AllFit pieces [] → ends_line (spelling pieces ++ []) ≡ true
-    → MayHold false at pieces at → ⊥
-no_edge_at_line_end at pieces fit h (inl held) = let no : false ≡ true = held.0 in cc
-no_edge_at_line_end at [] fit h (inr e) = e
-no_edge_at_line_end at (piece ∷ pieces) fit h (inr (inl e)) = piece_no_edge at piece pieces fit h e
-no_edge_at_line_end at (piece ∷ pieces) fit h (inr (inr e)) =
-    omega (arith, edge_behind (at + length (piece_bytes piece)) pieces at e, piece_some piece (spelling pieces ++ []) fit.0)
+pub no_edge_at_line_end : (before : Before) (at : ℕ) (pieces : List Piece) → AllFit before pieces []
+    → ends_line (spelling pieces ++ []) ≡ true → MayHold false at pieces at → ⊥
+no_edge_at_line_end before at pieces fit h (inl held) = let no : false ≡ true = held.0 in cc
+no_edge_at_line_end before at [] fit h (inr e) = e
+no_edge_at_line_end before at (piece ∷ pieces) fit h (inr (inl e)) = piece_no_edge before at piece pieces fit h e
+no_edge_at_line_end before at (piece ∷ pieces) fit h (inr (inr e)) =
+    omega (arith, edge_behind (at + length (piece_bytes piece)) pieces at e, piece_some before piece (spelling pieces ++ []) fit.0)
+
+-- the piece that starts here is no `/` that ends at the place
+abbrev pub IsPieceClear : ℕ → Piece → ℕ → Type 0
+IsPieceClear at (token k bytes) place = k ≡ kind.Sign Slash → place ≡ at + length bytes → ⊥
+IsPieceClear at (blank b) place = Unit {0}
+IsPieceClear at (line_comment body) place = Unit {0}
+IsPieceClear at (block_comment body) place = Unit {0}
+
+-- none of the pieces, of which the first starts here, is such a `/`
+abbrev pub IsClearIn : ℕ → List Piece → ℕ → Type 0
+IsClearIn at [] place = Unit {0}
+IsClearIn at (piece ∷ pieces) place = IsPieceClear at piece place × IsClearIn (at + length (piece_bytes piece)) pieces place
+
+-- a place where no `/` of the tokens of a piece ends
+piece_clear : (at : ℕ) (piece : Piece) (place : ℕ) → ((t : Token) → Contains (piece_tokens at piece) t → t.kind ≡ kind.Sign Slash
+    → t.at + t.len ≡ place → ⊥) → IsPieceClear at piece place
+piece_clear at (token k bytes) place none =
+    let t : Token = record { kind = k; at = at; len = length bytes } in
+    λ slash e. none t (Contains-push [] t) slash (sym e)
+piece_clear at (blank b) place none = tt
+piece_clear at (line_comment body) place none = tt
+piece_clear at (block_comment body) place none = tt
+
+-- a place where no `/` of the tokens of pieces ends
+pub clear_in : (at : ℕ) (pieces : List Piece) (place : ℕ) → ((t : Token) → Contains (tokens_from at pieces) t → t.kind ≡ kind.Sign Slash
+    → t.at + t.len ≡ place → ⊥) → IsClearIn at pieces place
+clear_in at [] place none = tt
+clear_in at (piece ∷ pieces) place none =
+    let next = at + length (piece_bytes piece) in (
+      piece_clear at piece place (λ t listed. none t (Contains-append_left (piece_tokens at piece) (tokens_from next pieces) t listed)),
+      clear_in next pieces place
+          (λ t listed. none t (Contains-append_right (piece_tokens at piece) (tokens_from next pieces) t listed)),
+    )
 
 -- the one element of a list
 contained_one : (x t : Token) → Contains (x ∷ []) t → x ≡ t

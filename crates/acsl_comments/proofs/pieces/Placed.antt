@@ -5,7 +5,8 @@ use Rattle.std.proofs.lemmas.List.{append_assoc, length-append, map-append, take
 use Rattle.lang_tokens.specs.declared.token.Kind.{Kind}
 use Rattle.lang_tokens.specs.declared.token.Token.{Token}
 use Rattle.lang_tokens.specs.Reading.{Piece, blank, line_comment, block_comment, token, piece_bytes, spelling, AllFit, piece_tokens}
-use Rattle.lang_tokens.specs.Reading.{tokens_from}
+use Rattle.lang_tokens.specs.Reading.{tokens_from, behind, behind_all}
+use Rattle.lang_tokens.specs.declared.before.Before.{Before}
 use Rattle.lang_grammar.specs.Grammar as g
 use Rattle.lang_grammar.specs.View.{kind_of, token_of, tokens_of}
 
@@ -123,10 +124,10 @@ spelling-append (piece ∷ pieces) more = ap (λ (bs : List ℕ). piece_bytes pi
     ∙ sym (append_assoc (piece_bytes piece) (spelling pieces) (spelling more))
 
 -- pieces fit before others that fit
-pub fit-append : (pieces more : List Piece) (rest : List ℕ) → AllFit pieces (spelling more ++ rest) → AllFit more rest
-    → AllFit (pieces ++ more) rest
-fit-append [] more rest fit then = then
-fit-append (piece ∷ pieces) more rest fit then =
+pub fit-append : (before : Before) (pieces more : List Piece) (rest : List ℕ) → AllFit before pieces (spelling more ++ rest)
+    → AllFit (behind_all before pieces) more rest → AllFit before (pieces ++ more) rest
+fit-append before [] more rest fit then = then
+fit-append before (piece ∷ pieces) more rest fit then =
     let same : spelling (pieces ++ more) ++ rest ≡ spelling pieces ++ (spelling more ++ rest) =
     ap (λ (bs : List ℕ). bs ++ rest) (spelling-append pieces more) ∙ append_assoc (spelling pieces) (spelling more) rest in
-    (rw same fit.0, fit-append pieces more rest fit.1 then)
+    (rw same fit.0, fit-append (behind before piece) pieces more rest fit.1 then)

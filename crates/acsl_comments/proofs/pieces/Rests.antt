@@ -7,9 +7,13 @@ use Rattle.lang_tokens.specs.Bytes.{is_letter}
 use Rattle.lang_tokens.specs.declared.token.Kind.{Kind}
 use Rattle.lang_tokens.specs.declared.token.Kind.TheVariants as kind
 use Rattle.lang_tokens.specs.Lexemes.{IsLexeme}
-use Rattle.lang_tokens.specs.Reading.{IsLongest, IsClosed, IsApart, IsWholeToken, starts_with_letter}
+use Rattle.lang_tokens.specs.Reading.{IsLongest, IsClosed, IsApart, IsSignApart, IsWholeToken, starts_with_letter}
+use Rattle.lang_tokens.specs.Directives.{goes_on_as_comment}
+use Rattle.lang_tokens.specs.declared.sign.Sign.{Sign}
+use Rattle.lang_tokens.specs.declared.sign.Sign.TheVariants.{LeftParen, Slash}
+use Rattle.lang_tokens.proofs.reading.Growth.{lexeme_some}
 use Rattle.lang_tokens.proofs.lexemes.Heads.{heads}
-use Rattle.acsl_comments.proofs.pieces.Plain.{starts_gap, lexeme_plain, no_gap_in_plain, gap_no_letter}
+use Rattle.acsl_comments.proofs.pieces.Plain.{starts_gap, lexeme_gapless, no_gap_behind, gap_no_letter}
 
 -- the shorter of two fronts of a list is a front of the other one
 shorter_front : (xs ys zs vs : List ℕ) → xs ++ ys ≡ zs ++ vs → length xs ≤ length zs
@@ -44,7 +48,8 @@ module _ (bytes front before after : List ℕ) (longest : IsLongest bytes (front
   past other more [] e f gap lexeme long = omega (arith, ap length f, length-append (bytes ++ front) [])
   past other more (b ∷ between) e f gap lexeme long =
       let starts : starts_gap b ≡ true = rw (← e) at gap in
-      no_gap_in_plain (bytes ++ front) between b (rw (← f) at (lexeme_plain other lexeme)) starts
+      let some : 0 < length (bytes ++ front) = omega (arith, lexeme_some bytes longest.lexeme, length-append bytes front) in
+      no_gap_behind (bytes ++ front) between b some (rw (← f) at (lexeme_gapless other lexeme)) starts
 
   -- the longest lexeme stays the longest
   still_longest : (before ≡ after) ⊎ (heads starts_gap after ≡ true) → (other more : List ℕ) → other ++ more ≡ bytes ++ (front ++ after)
@@ -69,18 +74,25 @@ apart_after [] before after (inl same) h = rw (← same) h
 apart_after [] before [] (inr gap) h = refl
 apart_after [] before (b ∷ after) (inr gap) h = false_from_ne_true (is_letter b) (gap_no_letter b gap)
 
--- nothing that belongs to a number follows, if nothing did
-still_apart : (kind : Kind) (front before after : List ℕ) → (before ≡ after) ⊎ (heads starts_gap after ≡ true)
-    → IsApart kind (front ++ before) → IsApart kind (front ++ after)
-still_apart (kind.Number value) front before after on h = apart_after front before after on h
-still_apart (kind.Word word) front before after on h = tt
-still_apart kind.Name front before after on h = tt
-still_apart (kind.Sign sign) front before after on h = tt
-still_apart kind.End front before after on h = tt
+-- a sign stays apart, where nothing that makes it the start of a comment follows a `/`
+sign_apart : (sign : Sign) (now : List ℕ) → (sign ≡ Slash → goes_on_as_comment now ≡ false) → IsSignApart sign now
+sign_apart LeftParen now h = tt
+sign_apart Slash now h = h refl
+sign_apart _ now h = tt
+
+-- nothing follows that is not apart, if nothing did
+still_apart : (k : Kind) (front before after : List ℕ) → (before ≡ after) ⊎ (heads starts_gap after ≡ true)
+    → (k ≡ kind.Sign Slash → goes_on_as_comment (front ++ after) ≡ false) → IsApart k (front ++ before) → IsApart k (front ++ after)
+still_apart (kind.Number value) front before after on slash h = apart_after front before after on h
+still_apart (kind.Word word) front before after on slash h = tt
+still_apart kind.Name front before after on slash h = tt
+still_apart (kind.Sign sign) front before after on slash h = sign_apart sign (front ++ after) (λ e. slash (ap kind.Sign e))
+still_apart kind.End front before after on slash h = tt
 
 -- a whole token stays one
-pub still_token : (kind : Kind) (bytes rest now : List ℕ) → Meets rest now → IsWholeToken kind bytes rest → IsWholeToken kind bytes now
-still_token kind bytes rest now meets token =
+pub still_token : (k : Kind) (bytes rest now : List ℕ) → Meets rest now → (k ≡ kind.Sign Slash → goes_on_as_comment now ≡ false)
+    → IsWholeToken k bytes rest → IsWholeToken k bytes now
+still_token k bytes rest now meets slash token =
     let longest : IsLongest bytes (meets.front ++ meets.before) = rw meets.was token.longest in
     record {
       is_token = token.is_token;
@@ -89,7 +101,8 @@ still_token kind bytes rest now meets token =
         longest = λ other more e lexeme. still_longest bytes meets.front meets.before meets.after longest meets.on other more
             (rw meets.is e) lexeme;
       };
-      apart = subst (IsApart kind) meets.is (still_apart kind meets.front meets.before meets.after meets.on (rw meets.was token.apart));
+      apart = subst (IsApart k) meets.is (still_apart k meets.front meets.before meets.after meets.on
+          (subst (λ (bs : List ℕ). k ≡ kind.Sign Slash → goes_on_as_comment bs ≡ false) (sym meets.is) slash) (rw meets.was token.apart));
     }
 
 -- where a comment is closed doesn't depend on what follows

@@ -1,18 +1,20 @@
 -- The tokens of a text stay when comments are put in.
+use Rattle.std.proofs.Common.{Contains, inl}
 use Rattle.std.proofs.Common.{◌≡◌, inr, ℕ, false, List, [], ◌∷◌, ◌++◌, length, map, refl, ap, ap₂, sym, ◌∙◌, subst₂, arith}
 use Rattle.std.proofs.lemmas.List.{append-nil, map-append}
-use Rattle.std.proofs.lemmas.List.Elements.{recursion_from_All, All-weaker}
+use Rattle.std.proofs.lemmas.List.Elements.{recursion_from_All, All-weaker, Contains-append_left}
 use Rattle.std.specs.List.{AllByRecursion}
 use Rattle.lang_tokens.specs.declared.token.Token.{Token}
+use Rattle.lang_tokens.specs.declared.before.Before.TheVariants.{Blanks}
 use Rattle.lang_tokens.specs.Reading.{Piece, spelling, AllFit, tokens_from, end_at, Reads}
 use Rattle.lang_grammar.specs.Grammar as g
 use Rattle.lang_grammar.specs.View.{token_of, tokens_of}
 use Rattle.acsl_shift.specs.Moves.{move, moved}
 use Rattle.acsl_comments.specs.Law.{TokensStay, ReadsWith, token_moved_by}
-use Rattle.acsl_comments.specs.Places.{IsEdge, IsGap, MayStand}
+use Rattle.acsl_comments.specs.Places.{IsEdge, IsGap, IsBehindNoSlash, MayStand}
 use Rattle.acsl_comments.specs.Texts.{moved_by}
 use Rattle.acsl_comments.specs.declared.comment.Comment.{Comment}
-use Rattle.acsl_comments.proofs.pieces.Edges.{MayHold, edge_in}
+use Rattle.acsl_comments.proofs.pieces.Edges.{MayHold, edge_in, IsClearIn, clear_in}
 use Rattle.acsl_comments.proofs.pieces.Places.{length-with_comments}
 use Rattle.acsl_comments.proofs.pieces.Placed.{Placed, place_at, placed_from, lexed, parsed, tokens_lexed, tokens_parsed}
 use Rattle.acsl_comments.proofs.pieces.Steps.{Mixed}
@@ -47,7 +49,7 @@ all_tokens_parsed pieces =
     map-append (token_of text) (tokens_from 0 pieces) (end_at (length text) ∷ [])
     ∙ ap (λ (ts : List g.Token). ts ++ g.token g.the_end (length text) ∷ []) first
 
-module _ (pieces : List Piece) (comments : List Comment) (fit : AllFit pieces [])
+module _ (pieces : List Piece) (comments : List Comment) (fit : AllFit Blanks pieces [])
     (stand : MayStand (spelling pieces) (all_tokens pieces) comments) where
   -- each comment may stand among the pieces
   held : AllByRecursion (λ c. MayHold false 0 pieces c.place) comments
@@ -55,12 +57,23 @@ module _ (pieces : List Piece) (comments : List Comment) (fit : AllFit pieces []
       (All-weaker (λ c. IsEdge (all_tokens pieces) c.place) (λ c. MayHold false 0 pieces c.place)
       (λ c edge. inr (edge_in pieces (length (spelling pieces)) c.place edge)) comments stand.edges)
 
+  -- a token among the pieces is one of the text
+  listed : (t : Token) → Contains (tokens_from 0 pieces) t → Contains (all_tokens pieces) t
+  listed t h = Contains-append_left (tokens_from 0 pieces) (end_at (length (spelling pieces)) ∷ []) t h
+
+  -- none stands right behind a `/` of the pieces
+  apart : AllByRecursion (λ c. IsClearIn 0 pieces c.place) comments
+  apart = recursion_from_All (λ c. IsClearIn 0 pieces c.place) comments
+      (All-weaker (λ c. IsBehindNoSlash (all_tokens pieces) c.place) (λ c. IsClearIn 0 pieces c.place)
+      (λ c none. clear_in 0 pieces c.place (λ t h. none t (listed t h))) comments stand.apart)
+
   -- the pieces with the comments put in
-  mixed : Mixed 0 pieces comments
-  mixed = mixed_from false 0 (length (spelling pieces)) pieces fit (omega arith) comments (record {
+  mixed : Mixed Blanks 0 pieces comments
+  mixed = mixed_from false Blanks 0 (length (spelling pieces)) pieces (λ e. cc) fit (omega arith) Blanks comments (inl refl) (record {
     order = stand.order;
     held = held;
     gaps = recursion_from_All (λ c. IsGap c.bytes) comments stand.gaps;
+    apart = apart;
   })
 
   -- their tokens

@@ -1,15 +1,27 @@
 -- The pieces of a text with comments put in.
-use Rattle.std.proofs.Common.{◌≡◌, ◌≤◌, ◌<◌, ◌+◌, ◌-◌, ⊎_elim, ℕ, zero, suc, Bool, true, false, List, [], ◌∷◌, ◌++◌, length, map, take}
+use Rattle.std.proofs.Common.{◌≡◌, ◌≤◌, ◌<◌, ◌+◌, ◌-◌, ⊎_elim, ℕ, zero, suc, Bool, true, false, eqb, List, [], ◌∷◌, ◌++◌, length, map}
+use Rattle.std.proofs.Common.{take, inl, inr}
 use Rattle.std.proofs.Common.{refl, ap, ap₂, sym, ◌∙◌, subst, arith}
 use Rattle.std.proofs.lemmas.List.{append-nil, map-append}
-use Rattle.std.proofs.lemmas.Bool.{cases_lt}
+use Rattle.std.proofs.lemmas.Bool.{cases_lt, cases_Bool, eqb-true, and_parts, or_cases, or_right}
 use Rattle.std.specs.List.{AllByRecursion}
+use Rattle.lang_tokens.specs.Bytes.{is_blank}
+use Rattle.lang_tokens.specs.Directives.{goes_on_as_comment, is_directive}
+use Rattle.lang_tokens.specs.declared.before.Before.{Before}
+use Rattle.lang_tokens.specs.declared.before.Before.TheVariants.{Blanks, Others, Directive}
+use Rattle.lang_tokens.specs.declared.sign.Sign.TheVariants.{Slash}
+use Rattle.lang_tokens.specs.declared.token.Kind.{Kind}
+use Rattle.lang_tokens.specs.declared.token.Kind.TheVariants as kind
 use Rattle.lang_tokens.specs.Reading.{Piece, blank, line_comment, block_comment, token, piece_bytes, spelling, AllFit, Fits, ends_line}
+use Rattle.lang_tokens.specs.Reading.{is_outside, is_blank_at, behind_blank, behind_comment, behind, behind_all, IsApart, IsWholeToken}
+use Rattle.lang_tokens.proofs.reading.Outside.{plain_blank}
 use Rattle.acsl_comments.specs.Places.{Ascend, IsGap}
 use Rattle.acsl_comments.specs.Texts.{moved_by, with_comments}
 use Rattle.acsl_comments.specs.declared.comment.Comment.{Comment}
 use Rattle.acsl_comments.proofs.pieces.Rests.{still_token, still_closed}
-use Rattle.acsl_comments.proofs.pieces.Edges.{is_token, MayHold, no_edge_at_line_end}
+use Rattle.acsl_comments.proofs.pieces.Directives.{blank_agrees, still_directive, directive_agrees}
+use Rattle.acsl_comments.proofs.pieces.Edges.{is_token, IsEdgeIn, IsPieceClear, IsClearIn, MayHold, no_edge_at_line_end}
+use Rattle.acsl_comments.proofs.pieces.Lines.{Serves, serves_outside}
 use Rattle.acsl_comments.proofs.pieces.Places.{places, ascend_within, moved_before, moved_behind, with_after}
 use Rattle.acsl_comments.proofs.pieces.Gaps.{meets_comments}
 use Rattle.acsl_comments.proofs.pieces.Placed.{Placed, place_at, piece_placed, placed_from, none_placed, placed-append, spelling-append}
@@ -19,14 +31,15 @@ use Rattle.acsl_comments.proofs.pieces.Placed.{fit-append}
 abbrev pub IsMove : ℕ → ℕ → List Comment → (ℕ → ℕ) → Type 0
 IsMove at more comments to = (place : ℕ) → at ≤ place → to place ≡ more + moved_by comments place
 
--- pieces with comments put in: they spell what is written, fit, and have the same tokens at the places where these stand then
-pub record Mixed (at : ℕ) (pieces : List Piece) (comments : List Comment) : Type 0 where
+-- pieces with comments put in: they spell what is written, fit behind what stands then before them in their line, and have the same tokens
+-- at the places where these stand then
+pub record Mixed (before : Before) (at : ℕ) (pieces : List Piece) (comments : List Comment) : Type 0 where
   -- the pieces with the comments among them
   pub now : List Piece
   -- they spell the text with the comments put in
   pub spelled : spelling now ≡ with_comments at (spelling pieces) comments
   -- they fit up to the end of the text
-  pub fit : AllFit now []
+  pub fit : AllFit before now []
   -- their tokens are the old ones at the places where these stand then
   pub told : (more : ℕ) (to : ℕ → ℕ) → IsMove at more comments to → placed_from (more + at) now ≡ map (place_at to) (placed_from at pieces)
 
@@ -38,18 +51,20 @@ pub record MayStandIn (ended : Bool) (at to : ℕ) (pieces : List Piece) (commen
   pub held : AllByRecursion (λ c. MayHold ended at pieces c.place) comments
   -- each is made of blanks and comments alone
   pub gaps : AllByRecursion (λ c. IsGap c.bytes) comments
+  -- none stands right behind a `/`
+  pub apart : AllByRecursion (λ c. IsClearIn at pieces c.place) comments
 
 -- no pieces and no comments
-pub mixed_end : (at : ℕ) → Mixed at [] []
-mixed_end at = record { now = []; spelled = refl; fit = tt; told = λ more to move. refl }
+pub mixed_end : (before : Before) (at : ℕ) → Mixed before at [] []
+mixed_end before at = record { now = []; spelled = refl; fit = tt; told = λ more to move. refl }
 
 -- a comment right where the pieces start
-pub mixed_gap : (at : ℕ) (pieces : List Piece) (c : Comment) (cs : List Comment) → c.place ≡ at → IsGap c.bytes → Mixed at pieces cs
-    → Mixed at pieces (c ∷ cs)
-mixed_gap at pieces c cs here gap mixed = record {
+pub mixed_gap : (before : Before) (at : ℕ) (pieces : List Piece) (c : Comment) (cs : List Comment) (gap : IsGap c.bytes) → c.place ≡ at
+    → is_outside before ≡ true → Mixed (behind_all before gap.pieces) at pieces cs → Mixed before at pieces (c ∷ cs)
+mixed_gap before at pieces c cs gap here out mixed = record {
   now = gap.pieces ++ mixed.now;
   spelled = spelled;
-  fit = fit-append gap.pieces mixed.now [] (gap.fit (spelling mixed.now ++ [])) mixed.fit;
+  fit = fit-append before gap.pieces mixed.now [] (gap.fit before out (spelling mixed.now ++ [])) mixed.fit;
   told = told;
 }
   where
@@ -92,33 +107,124 @@ line_still_last at to rest (c ∷ cs) order e none h =
     absurd (none.0 (omega (arith, order.0, ascend_within c.place to (places cs) order.1, ap length h)))
 
 -- no comment stands right behind a line comment
-none_held : (at : ℕ) (pieces : List Piece) (comments : List Comment) → AllFit pieces [] → ends_line (spelling pieces ++ []) ≡ true
-    → AllByRecursion (λ c. MayHold false at pieces c.place) comments → AllByRecursion (λ c. c.place ≡ at → ⊥) comments
-none_held at pieces [] fit h held = tt
-none_held at pieces (c ∷ cs) fit h held = (
-  λ e. no_edge_at_line_end at pieces fit h (subst (MayHold false at pieces) e held.0),
-  none_held at pieces cs fit h held.1,
+none_held : (before : Before) (at : ℕ) (pieces : List Piece) (comments : List Comment) → AllFit before pieces []
+    → ends_line (spelling pieces ++ []) ≡ true → AllByRecursion (λ c. MayHold false at pieces c.place) comments
+    → AllByRecursion (λ c. c.place ≡ at → ⊥) comments
+none_held before at pieces [] fit h held = tt
+none_held before at pieces (c ∷ cs) fit h held = (
+  λ e. no_edge_at_line_end before at pieces fit h (subst (MayHold false at pieces) e held.0),
+  none_held before at pieces cs fit h held.1,
 )
 
+goes_more : (n b : ℕ) (rest more : List ℕ) → 0 < n → goes_on_as_comment (b ∷ rest) ≡ false
+    → goes_on_as_comment (take n (b ∷ rest) ++ more) ≡ false
+goes_more zero b rest more some h = absurd (omega arith)
+goes_more (suc n) b rest more some h = h
+
+-- nothing makes a `/` the start of a comment, where no comment stands right behind it and nothing did so
+slash_apart : (at to : ℕ) (rest : List ℕ) (comments : List Comment) → Ascend at to (places comments) → at + length rest ≡ to
+    → AllByRecursion (λ c. c.place ≡ at → ⊥) comments → goes_on_as_comment rest ≡ false
+    → goes_on_as_comment (with_comments at rest comments) ≡ false
+slash_apart at to rest [] order e none h = h
+slash_apart at to [] (c ∷ cs) order e none h = absurd (none.0 (omega (arith, order.0, ascend_within c.place to (places cs) order.1)))
+slash_apart at to (b ∷ rest) (c ∷ cs) order e none h =
+    let later : 0 < c.place - at = ⊎_elim (λ (l : at < c.place). omega arith)
+    (λ (l : c.place ≤ at). absurd (none.0 (omega (arith, order.0)))) (cases_lt at c.place) in
+    goes_more (c.place - at) b rest _ later h
+
+-- no comment stands right behind a `/`
+none_behind : (at : ℕ) (k : Kind) (bytes : List ℕ) (comments : List Comment) → k ≡ kind.Sign Slash
+    → AllByRecursion (λ c. IsPieceClear at (token k bytes) c.place) comments
+    → AllByRecursion (λ c. c.place ≡ at + length bytes → ⊥) comments
+none_behind at k bytes [] slash clear = tt
+none_behind at k bytes (c ∷ cs) slash clear = (clear.0 slash, none_behind at k bytes cs slash clear.1)
+
+-- a `/` is no start of a comment where it is a whole token
+whole_slash : (k : Kind) (bytes rest : List ℕ) → k ≡ kind.Sign Slash → IsWholeToken k bytes rest → goes_on_as_comment rest ≡ false
+whole_slash k bytes rest slash t = let apart : IsApart (kind.Sign Slash) rest = subst (λ (x : Kind). IsApart x rest) slash t.apart in apart
+
+-- each comment is at the edge of a token of the pieces, where none has ended before them
+edges_held : (at : ℕ) (pieces : List Piece) (comments : List Comment) → AllByRecursion (λ c. MayHold false at pieces c.place) comments
+    → AllByRecursion (λ c. IsEdgeIn at pieces c.place) comments
+edges_held at pieces [] held = tt
+edges_held at pieces (c ∷ cs) held = (
+  ⊎_elim
+      (λ none. let no_end : false ≡ true = none.0 in absurd cc)
+      (λ edge. edge)
+      held.0,
+  edges_held at pieces cs held.1,
+)
+
+-- whether a byte is a blank is told by what stands before it in its line and by what follows it up to a line feed
+module _ (at to b : ℕ) (pieces : List Piece) (comments : List Comment) (stand : MayStandIn false at to pieces comments)
+    (end : at + length (spelling pieces) ≡ to) where
+  -- in a directive it stays a blank
+  directive_blank : AllFit (behind_blank Directive b) pieces [] → is_blank_at Directive (b ∷ spelling pieces) ≡ true
+      → is_blank_at Directive (b ∷ with_comments at (spelling pieces) comments) ≡ true
+  directive_blank fit is = ⊎_elim
+      (λ (feed : eqb b 10 ≡ true). rw (eqb-true b 10 feed) refl)
+      (λ (no_feed : eqb b 10 ≡ false).
+      let on : AllFit Directive pieces [] = subst (λ (x : Before). AllFit x pieces []) (still_directive b no_feed) fit in
+      sym (blank_agrees Directive b (spelling pieces) (with_comments at (spelling pieces) comments)
+      (directive_agrees at to pieces comments on (edges_held at pieces comments stand.held) stand.order end)) ∙ is)
+      (cases_Bool (eqb b 10))
+
+  -- the `#` of a directive stays one
+  hash_blank : AllFit (behind_blank Blanks b) pieces [] → is_directive (b ∷ spelling pieces) ≡ true
+      → is_blank_at Blanks (b ∷ with_comments at (spelling pieces) comments) ≡ true
+  hash_blank fit is =
+      let hash : b ≡ 35 = eqb-true b 35 (and_parts _ _ is).0 in
+      let on : AllFit Directive pieces [] = subst (λ (x : ℕ). AllFit (behind_blank Blanks x) pieces []) hash fit in
+      sym (blank_agrees Blanks b (spelling pieces) (with_comments at (spelling pieces) comments)
+      (directive_agrees at to pieces comments on (edges_held at pieces comments stand.held) stand.order end))
+      ∙ or_right (is_blank b) (is_directive (b ∷ spelling pieces)) is
+
+  -- a blank stays one
+  still_blank : (was now : Before) → Serves was now (blank b ∷ pieces) → AllFit (behind_blank was b) pieces []
+      → is_blank_at was (b ∷ spelling pieces) ≡ true → is_blank_at now (b ∷ with_comments at (spelling pieces) comments) ≡ true
+  still_blank Directive now serves fit is = rw serves (directive_blank fit is)
+  still_blank Others now serves fit is = plain_blank now b (with_comments at (spelling pieces) comments) serves is
+  still_blank Blanks now (inl same) fit is = rw same (⊎_elim
+      (λ (plain : is_blank b ≡ true). plain_blank Blanks b (with_comments at (spelling pieces) comments) refl plain)
+      (λ (hash : is_directive (b ∷ spelling pieces) ≡ true). hash_blank fit hash)
+      (or_cases (is_blank b) (is_directive (b ∷ spelling pieces)) is))
+  still_blank Blanks now (inr h) fit is = let none : false ≡ true = h.1 in cc
+
 -- a piece still fits
-pub still_fits : (at to : ℕ) (piece : Piece) (pieces : List Piece) (comments : List Comment)
-    → MayStandIn (is_token piece) at to pieces comments → at + length (spelling pieces) ≡ to → AllFit pieces []
-    → Fits piece (spelling pieces ++ []) → Fits piece (with_comments at (spelling pieces) comments)
-still_fits at to (blank b) pieces comments stand e fit fits = fits
-still_fits at to (block_comment body) pieces comments stand e fit fits =
-    still_closed body (spelling pieces ++ []) (with_comments at (spelling pieces) comments) fits
-still_fits at to (token kind bytes) pieces comments stand e fit fits =
-    still_token kind bytes (spelling pieces) (with_comments at (spelling pieces) comments)
-    (meets_comments at (spelling pieces) comments stand.gaps) (rw (append-nil (spelling pieces)) at fits)
-still_fits at to (line_comment body) pieces comments stand e fit fits = (
-  fits.0,
-  line_still_ends at to (spelling pieces) comments stand.order e none (rw (append-nil (spelling pieces)) at fits.1),
-  λ place ends. line_still_last at to (spelling pieces) comments stand.order e none
-      (rw (append-nil (spelling pieces)) at (fits.2 place ends)),
+pub still_fits : (was now : Before) (at to : ℕ) (piece : Piece) (pieces : List Piece) (comments : List Comment)
+    → Serves was now (piece ∷ pieces) → MayStandIn (is_token piece) (at + length (piece_bytes piece)) to pieces comments
+    → AllByRecursion (λ c. IsPieceClear at piece c.place) comments → at + length (piece_bytes piece) + length (spelling pieces) ≡ to
+    → AllFit was (piece ∷ pieces) []
+    → Fits now piece (with_comments (at + length (piece_bytes piece)) (spelling pieces) comments)
+still_fits was now at to (blank b) pieces comments serves stand clear e fit =
+    still_blank (at + 1) to b pieces comments stand e was now serves fit.1
+    (subst (λ (bs : List ℕ). is_blank_at was (b ∷ bs) ≡ true) (append-nil (spelling pieces)) fit.0)
+still_fits was now at to (block_comment body) pieces comments serves stand clear e fit = (
+  still_closed body (spelling pieces ++ [])
+      (with_comments (at + length (piece_bytes (block_comment body))) (spelling pieces) comments) fit.0.0,
+  fit.0.1,
+)
+still_fits was now at to (token k bytes) pieces comments serves stand clear e fit =
+    let whole : IsWholeToken k bytes (spelling pieces) = subst (IsWholeToken k bytes) (append-nil (spelling pieces)) fit.0.1 in (
+      serves_outside was now (token k bytes ∷ pieces) fit.0.0 serves,
+      still_token k bytes (spelling pieces) (with_comments (at + length bytes) (spelling pieces) comments)
+          (meets_comments (at + length bytes) (spelling pieces) comments stand.gaps)
+          (λ slash. slash_apart (at + length bytes) to (spelling pieces) comments stand.order e
+          (none_behind at k bytes comments slash clear) (whole_slash k bytes (spelling pieces) slash whole))
+          whole,
+    )
+still_fits was now at to (line_comment body) pieces comments serves stand clear e fit = (
+  fit.0.0,
+  line_still_ends next to (spelling pieces) comments stand.order e none (rw (append-nil (spelling pieces)) at fit.0.1),
+  λ place ends. line_still_last next to (spelling pieces) comments stand.order e none
+      (rw (append-nil (spelling pieces)) at (fit.0.2 place ends)),
 )
   where
-    none : AllByRecursion (λ c. c.place ≡ at → ⊥) comments
-    none = none_held at pieces comments fit fits.1 stand.held
+    next : ℕ
+    next = at + length (piece_bytes (line_comment body))
+
+    none : AllByRecursion (λ c. c.place ≡ next → ⊥) comments
+    none = none_held (behind_comment was) next pieces comments fit.1 fit.0.1 stand.held
 
 -- the token of a piece at another place
 piece_moved : (at here : ℕ) (to : ℕ → ℕ) (piece : Piece) → to at ≡ here
@@ -129,11 +235,11 @@ piece_moved at here to (line_comment body) e = refl
 piece_moved at here to (block_comment body) e = refl
 
 -- a piece before all comments
-pub mixed_piece : (at to : ℕ) (piece : Piece) (pieces : List Piece) (comments : List Comment)
+pub mixed_piece : (before : Before) (at to : ℕ) (piece : Piece) (pieces : List Piece) (comments : List Comment)
     → Ascend (at + length (piece_bytes piece)) to (places comments) → 0 < length (piece_bytes piece)
-    → Fits piece (with_comments (at + length (piece_bytes piece)) (spelling pieces) comments)
-    → Mixed (at + length (piece_bytes piece)) pieces comments → Mixed at (piece ∷ pieces) comments
-mixed_piece at to piece pieces comments order some fits mixed = record {
+    → Fits before piece (with_comments (at + length (piece_bytes piece)) (spelling pieces) comments)
+    → Mixed (behind before piece) (at + length (piece_bytes piece)) pieces comments → Mixed before at (piece ∷ pieces) comments
+mixed_piece before at to piece pieces comments order some fits mixed = record {
   now = piece ∷ mixed.now;
   spelled = ap (λ (bs : List ℕ). piece_bytes piece ++ bs) mixed.spelled
       ∙ with_after at to (piece_bytes piece) (spelling pieces) comments order;

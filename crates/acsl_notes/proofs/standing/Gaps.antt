@@ -1,13 +1,21 @@
 -- Blanks and comments, one after another, are a gap.
 use Prim.Native.Nat.{zero-le, suc-le-suc}
-use Rattle.std.proofs.Common.{◌≡◌, ◌+◌, ℕ, true, List, [], ◌∷◌, ◌++◌, length, refl, ap, sym, ◌∙◌, arith, append_assoc, append-nil}
+use Rattle.std.proofs.Common.{◌≡◌, ◌+◌, ℕ, suc, zero, Bool, true, false, not, ◌||◌, ◌&&◌, eqb, List, [], ◌∷◌, ◌++◌, length, drop, get_or}
+use Rattle.std.proofs.Common.{refl, ap, sym, ◌∙◌, arith, append_assoc, append-nil, ⊎_elim}
 use Rattle.std.proofs.lemmas.List.{length-append}
-use Rattle.std.proofs.lemmas.Bool.{and_parts}
+use Rattle.std.proofs.lemmas.List.Folds.{list_all-append}
+use Rattle.std.proofs.lemmas.Bool.{and_parts, or_cases, not-true, eqb-true}
 use Rattle.std.specs.List.{list_all}
 use Rattle.lang_tokens.specs.Bytes.{is_blank}
-use Rattle.lang_tokens.specs.Reading.{Piece, blank, block_comment, piece_bytes, piece_tokens, spelling, tokens_from, AllFit, IsClosed}
-use Rattle.acsl_comments.specs.Places.{IsGap}
-use Rattle.acsl_notes.proofs.standing.Plain.{IsPlain, is_plain, plain_not}
+use Rattle.lang_tokens.specs.Directives.{is_joint}
+use Rattle.lang_tokens.specs.Reading.{Piece, blank, block_comment, piece_bytes, piece_tokens, spelling, tokens_from, IsClosed}
+use Rattle.lang_tokens.specs.Reading.{IsApartFromJoints}
+use Rattle.lang_tokens.specs.Reading.{behind_all}
+use Rattle.lang_tokens.proofs.reading.Outside.{plain_blank}
+use Rattle.acsl_comments.specs.Places.{IsGap, is_gap_piece}
+use Rattle.acsl_comments.proofs.pieces.Gaps.{gap_outside}
+use Rattle.acsl_comments.proofs.pieces.Placed.{fit-append}
+use Rattle.acsl_notes.proofs.standing.Plain.{IsPlain, is_tame, all_tame, starts_with_f, plain_not}
 
 -- the bytes of pieces behind pieces
 spelling-append : (ps qs : List Piece) → spelling (ps ++ qs) ≡ spelling ps ++ spelling qs
@@ -26,14 +34,6 @@ tokens-append at (p ∷ ps) qs =
     ∙ sym (append_assoc (piece_tokens at p) (tokens_from (at + length (piece_bytes p)) ps)
     (tokens_from (at + length (piece_bytes p ++ spelling ps)) qs))
 
--- pieces that fit before pieces that fit
-fit-append : (ps qs : List Piece) (rest : List ℕ) → AllFit ps (spelling qs ++ rest) → AllFit qs rest → AllFit (ps ++ qs) rest
-fit-append [] qs rest h k = k
-fit-append (p ∷ ps) qs rest h k =
-    let same : spelling ps ++ (spelling qs ++ rest) ≡ spelling (ps ++ qs) ++ rest =
-    sym (append_assoc (spelling ps) (spelling qs) rest) ∙ ap (λ bytes. bytes ++ rest) (sym (spelling-append ps qs)) in
-    (rw same at h.0, fit-append ps qs rest h.1 k)
-
 -- a gap behind a gap
 pub gap_append : (a b : List ℕ) → IsGap a → IsGap b → IsGap (a ++ b)
 gap_append a b g h = record {
@@ -42,16 +42,24 @@ gap_append a b g h = record {
   tokenless = λ at. tokens-append at g.pieces h.pieces ∙ ap (λ ts. ts ++ tokens_from (at + length (spelling g.pieces)) h.pieces)
       (g.tokenless at)
       ∙ h.tokenless (at + length (spelling g.pieces));
-  fit = λ rest. fit-append g.pieces h.pieces rest (g.fit (spelling h.pieces ++ rest)) (h.fit rest);
+  plain = list_all-append is_gap_piece g.pieces h.pieces ∙ rw (g.plain, h.plain) refl;
+  fit = λ before out rest. fit-append before g.pieces h.pieces rest (g.fit before out (spelling h.pieces ++ rest))
+      (h.fit (behind_all before g.pieces) (gap_outside before g.pieces out g.plain) rest);
 }
 
 -- no bytes are a gap
 pub gap_nil : IsGap []
-gap_nil = record { pieces = []; spelled = refl; tokenless = λ at. refl; fit = λ rest. tt }
+gap_nil = record { pieces = []; spelled = refl; tokenless = λ at. refl; plain = refl; fit = λ before out rest. tt }
 
 -- a blank is a gap
 pub gap_blank : (b : ℕ) → is_blank b ≡ true → IsGap (b ∷ [])
-gap_blank b h = record { pieces = blank b ∷ []; spelled = refl; tokenless = λ at. refl; fit = λ rest. (h, tt) }
+gap_blank b h = record {
+  pieces = blank b ∷ [];
+  spelled = refl;
+  tokenless = λ at. refl;
+  plain = rw h refl;
+  fit = λ before out rest. (plain_blank before b rest out h, tt);
+}
 
 -- blanks are a gap
 pub gap_blanks : (bs : List ℕ) → list_all is_blank bs ≡ true → IsGap bs
@@ -72,24 +80,55 @@ tails x y xs ys e = cc
 no_slash : (body behind after : List ℕ) → IsPlain body → 47 ∷ after ≡ body ++ 42 ∷ behind → ⊥
 no_slash [] behind after h e = absurd (omega (arith, heads 47 42 after behind e))
 no_slash (c ∷ body) behind after h e =
-    let plain : is_plain c ≡ true = (and_parts (is_plain c) (list_all is_plain body) h).0 in
-    plain_not c (heads 47 c after (body ++ 42 ∷ behind) e) plain
+    plain_not c body (heads 47 c after (body ++ 42 ∷ behind) e) (and_parts (is_tame c body) (all_tame body) h).0
 
 -- where `*/` could begin earlier, its `/` would stand in the body, or where the `*` behind the body is
 closed : (body rest : List ℕ) → IsPlain body → IsClosed body rest
 closed [] rest h other after e = zero-le
 closed (b ∷ body) rest h [] after e =
-    absurd (no_slash body (47 ∷ rest) after (and_parts (is_plain b) (list_all is_plain body) h).1
+    absurd (no_slash body (47 ∷ rest) after (and_parts (is_tame b body) (all_tame body) h).1
     (tails 42 b (47 ∷ after) (body ++ 42 ∷ 47 ∷ rest) e))
 closed (b ∷ body) rest h (o ∷ other) after e =
-    suc-le-suc (closed body rest (and_parts (is_plain b) (list_all is_plain body) h).1 other after
+    suc-le-suc (closed body rest (and_parts (is_tame b body) (all_tame body) h).1 other after
     (tails o b (other ++ 42 ∷ 47 ∷ after) (body ++ 42 ∷ 47 ∷ rest) e))
 
--- a comment whose body has no `/` is a gap
+-- nothing joins lines where a `\` stands before an `f` alone
+joint_tame : (b : ℕ) (bs : List ℕ) → is_tame b bs ≡ true → is_joint (b ∷ bs) ≡ false
+joint_tame b bs h = ⊎_elim
+    (λ (other : not (eqb b 92) ≡ true). rw (not-true (eqb b 92) other) refl)
+    (λ (more : starts_with_f bs ≡ true). by bs more)
+    (or_cases (not (eqb b 92)) (starts_with_f bs) (and_parts (not (eqb b 47)) (not (eqb b 92) || starts_with_f bs) h).1)
+  where
+    none : (t : Bool) → (t && false) ≡ false
+    none true = refl
+    none false = refl
+
+    by : (bs : List ℕ) → starts_with_f bs ≡ true → is_joint (b ∷ bs) ≡ false
+    by [] more = cc
+    by (c ∷ cs) more = let is : c ≡ 102 = eqb-true c 102 more in rw is (none (eqb b 92))
+
+-- so nothing does in such a body
+no_joint_in : (body : List ℕ) (n : ℕ) → IsPlain body → is_joint (drop n body) ≡ false
+no_joint_in [] zero h = refl
+no_joint_in [] (suc n) h = refl
+no_joint_in (b ∷ body) zero h = joint_tame b body (and_parts (is_tame b body) (all_tame body) h).0
+no_joint_in (b ∷ body) (suc n) h = no_joint_in body n (and_parts (is_tame b body) (all_tame body) h).1
+
+body_apart : (body : List ℕ) → IsPlain body → IsApartFromJoints body
+body_apart body h place =
+    let next : place + 1 ≡ suc place = omega arith in
+    rw (next, no_joint_in body place h) (none (eqb (get_or (42 ∷ body) place 0) 42))
+  where
+    none : (t : Bool) → (t && false) ≡ false
+    none true = refl
+    none false = refl
+
+-- a comment whose body has no `/`, and a `\` before an `f` alone, is a gap
 pub gap_comment : (body : List ℕ) → IsPlain body → IsGap (47 ∷ 42 ∷ (body ++ 42 ∷ 47 ∷ []))
 gap_comment body h = record {
   pieces = block_comment body ∷ [];
   spelled = append-nil (47 ∷ 42 ∷ (body ++ 42 ∷ 47 ∷ []));
   tokenless = λ at. refl;
-  fit = λ rest. (closed body rest h, tt);
+  plain = refl;
+  fit = λ before out rest. ((closed body rest h, body_apart body h), tt);
 }

@@ -15,6 +15,7 @@ use Rattle.acsl_notes.specs.Clauses.{Clause, clauses}
 use Rattle.acsl_notes.specs.Laws.{CommentsMayStand}
 use Rattle.acsl_notes.specs.Texts.{comment_unless_silent, comment_at, comments_from, indentation}
 use Rattle.acsl_notes.proofs.standing.Plain.{ArePlain, word_plain}
+use Rattle.acsl_notes.proofs.standing.Slashes.{no_slash}
 use Rattle.acsl_notes.proofs.standing.Said.{comment_gap, indented}
 
 -- ---- order
@@ -113,4 +114,5 @@ comments_stand stand text tokens p names points template v reads means words =
           (unless_edges text names template v tokens) 0 points (anchors_of p) s.edges;
       gaps = comments_all text names template v (λ a. Unit {0}) (λ c. IsGap c.bytes)
           (unless_gaps text names template v (words_plain names words)) 0 points (anchors_of p) (λ k d lt. tt);
+      apart = λ k d lt t listed slash end. no_slash text tokens p means t listed slash;
     }

@@ -1,28 +1,42 @@
--- Texts without the byte `/`, which is 47.
-use Rattle.std.proofs.Common.{◌≡◌, ◌==◌, ◌+◌, ◌/◌, ◌%◌, ℕ, suc, zero, ℤ, pos, negsuc, nat_abs, Bool, true, false, not, ◌&&◌, List, [], ◌∷◌}
+-- Texts without the byte `/`, which is 47, and with `\`, which is 92, before an `f` alone.
+use Rattle.std.proofs.Common.{◌≡◌, ◌==◌, ◌+◌, ◌/◌, ◌%◌, ℕ, suc, zero, ℤ, pos, negsuc, nat_abs, Bool, true, false, not, ◌&&◌, ◌||◌, ◌<◌}
+use Rattle.std.proofs.Common.{◌≤◌, List, [], ◌∷◌}
 use Rattle.std.proofs.Common.{◌++◌, length, refl, ap, sym, ◌∙◌, arith, ne_eqb, subst, decimal}
 use Rattle.std.specs.Prelude.{if◌then◌else◌, nat_le}
 use Rattle.std.specs.Fmt.{digits, digits_onto, digit_glyph, signed_decimal}
 use Rattle.std.specs.Bool.{nat_lt}
 use Rattle.std.specs.List.{list_all}
-use Rattle.std.proofs.lemmas.Bool.{and_parts, eqb-true}
-use Rattle.std.proofs.lemmas.List.Folds.{list_all-append}
+use Rattle.std.proofs.lemmas.Bool.{and_parts, eqb-true, ltb-true, ltb-false}
 use Rattle.lang_tree.specs.Word.{begins_word, is_word, is_word_byte}
 use Rattle.flow_systems.specs.Report.{first_sign, later_sign, later_terms, row_text, term_text}
 
--- the byte isn't `/`
+-- the byte is neither `/` nor `\`
 abbrev pub is_plain : ℕ → Bool
-is_plain b = not (b == 47)
+is_plain b = not (b == 47) && not (b == 92)
 
--- no plain byte is `/`
-pub plain_not : (b : ℕ) → 47 ≡ b → is_plain b ≡ true → ⊥
-plain_not b e h = let wrong : is_plain 47 ≡ true = subst (λ k. is_plain k ≡ true) (sym e) h in cc
+-- an `f` at once
+abbrev pub starts_with_f : List ℕ → Bool
+starts_with_f [] = false
+starts_with_f (b ∷ bs) = b == 102
 
--- no byte is `/`
+-- the byte isn't `/`, and it is no `\` but before an `f`
+abbrev pub is_tame : ℕ → List ℕ → Bool
+is_tame b bs = not (b == 47) && (not (b == 92) || starts_with_f bs)
+
+-- each byte is such
+abbrev pub all_tame : List ℕ → Bool
+all_tame [] = true
+all_tame (b ∷ bs) = is_tame b bs && all_tame bs
+
+-- no such byte is `/`
+pub plain_not : (b : ℕ) (bs : List ℕ) → 47 ≡ b → is_tame b bs ≡ true → ⊥
+plain_not b bs e h = let wrong : is_tame 47 bs ≡ true = subst (λ k. is_tame k bs ≡ true) (sym e) h in cc
+
+-- no byte is `/`, and each `\` stands before an `f`
 abbrev pub IsPlain : List ℕ → Type 0
-IsPlain bytes = list_all is_plain bytes ≡ true
+IsPlain bytes = all_tame bytes ≡ true
 
--- no text has a `/`
+-- each of these texts is such
 abbrev pub ArePlain : List (List ℕ) → Type 0
 ArePlain [] = Unit {0}
 ArePlain (text ∷ texts) = IsPlain text × ArePlain texts
@@ -33,13 +47,32 @@ both true true h k = refl
 both true false h k = k
 both false b h k = h
 
+-- what is so of a byte stays so where more may follow
+weaker : (a n : Bool) (s : Bool) → (a && n) ≡ true → (a && (n || s)) ≡ true
+weaker true true s h = refl
+weaker true false s h = cc
+weaker false n s h = cc
+
+-- a byte stays tame where more follows
+tame_more : (b : ℕ) (xs ys : List ℕ) → is_tame b xs ≡ true → is_tame b (xs ++ ys) ≡ true
+tame_more b (x ∷ xs) ys h = h
+tame_more b [] ys h = weaker (not (b == 47)) (not (b == 92)) (starts_with_f ys) (only (not (b == 47)) (not (b == 92)) h)
+  where
+    only : (a n : Bool) → (a && (n || false)) ≡ true → (a && n) ≡ true
+    only true true h = refl
+    only true false h = cc
+    only false n h = cc
+
 -- plain texts, one after the other
 pub plain_append : (xs ys : List ℕ) → IsPlain xs → IsPlain ys → IsPlain (xs ++ ys)
-plain_append xs ys h k = list_all-append is_plain xs ys ∙ both (list_all is_plain xs) (list_all is_plain ys) h k
+plain_append [] ys h k = k
+plain_append (x ∷ xs) ys h k =
+    let parts = and_parts (is_tame x xs) (all_tame xs) h in
+    both (is_tame x (xs ++ ys)) (all_tame (xs ++ ys)) (tame_more x xs ys parts.0) (plain_append xs ys parts.1 k)
 
 -- a plain byte before a plain text
 pub plain_cons : (b : ℕ) (bs : List ℕ) → is_plain b ≡ true → IsPlain bs → IsPlain (b ∷ bs)
-plain_cons b bs h k = both (is_plain b) (list_all is_plain bs) h k
+plain_cons b bs h k = both (is_tame b bs) (all_tame bs) (weaker (not (b == 47)) (not (b == 92)) (starts_with_f bs) h) k
 
 -- one of two plain texts
 pub plain_if : (choice : Bool) (xs ys : List ℕ) → IsPlain xs → IsPlain ys → IsPlain (if choice then xs else ys)
@@ -49,11 +82,17 @@ plain_if false xs ys h k = k
 -- ---- numbers
 -- a digit is plain
 glyph_plain : (d : ℕ) → is_plain (digit_glyph false d) ≡ true
-glyph_plain d = by (nat_lt d 10)
+glyph_plain d = by (nat_lt d 10) refl
   where
-    by : (b : Bool) → is_plain (if b then 48 + d else 87 + d) ≡ true
-    by true = ap not (ne_eqb (48 + d) 47 (λ e. omega arith))
-    by false = ap not (ne_eqb (87 + d) 47 (λ e. omega arith))
+    by : (b : Bool) → nat_lt d 10 ≡ b → is_plain (if b then 48 + d else 87 + d) ≡ true
+    by true e =
+        let low : d < 10 = ltb-true d 10 e in
+        both (not (48 + d == 47)) (not (48 + d == 92)) (ap not (ne_eqb (48 + d) 47 (λ f. omega arith)))
+        (ap not (ne_eqb (48 + d) 92 (λ f. omega arith)))
+    by false e =
+        let high : 10 ≤ d = ltb-false d 10 e in
+        both (not (87 + d == 47)) (not (87 + d == 92)) (ap not (ne_eqb (87 + d) 47 (λ f. omega arith)))
+        (ap not (ne_eqb (87 + d) 92 (λ f. omega arith)))
 
 -- digits before a plain text
 digits_plain : (k n : ℕ) (behind : List ℕ) → IsPlain behind → IsPlain (digits_onto k 10 false n behind)
@@ -79,11 +118,11 @@ signed_plain (negsuc n) = plain_cons 45 (decimal (suc n)) refl (decimal_plain (s
 -- ---- names
 -- letters and digits are plain
 byte_plain : (b : ℕ) → is_word_byte b ≡ true → is_plain b ≡ true
-byte_plain b h = by (b == 47) refl
+byte_plain b h = both (not (b == 47)) (not (b == 92)) (by 47 refl (b == 47) refl) (by 92 refl (b == 92) refl)
   where
-    by : (t : Bool) → (b == 47) ≡ t → not t ≡ true
-    by false e = refl
-    by true e = let wrong : is_word_byte 47 ≡ true = subst (λ k. is_word_byte k ≡ true) (eqb-true b 47 e) h in cc
+    by : (n : ℕ) → is_word_byte n ≡ false → (t : Bool) → (b == n) ≡ t → not t ≡ true
+    by n no_byte false e = refl
+    by n no_byte true e = let wrong : is_word_byte n ≡ true = subst (λ k. is_word_byte k ≡ true) (eqb-true b n e) h in cc
 
 -- texts of letters and digits are plain
 bytes_plain : (bs : List ℕ) → list_all is_word_byte bs ≡ true → IsPlain bs

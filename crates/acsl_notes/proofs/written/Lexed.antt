@@ -14,9 +14,11 @@ use Rattle.lang_tokens.specs.Bytes.{is_letter, is_digit, is_word_byte}
 use Rattle.lang_tokens.specs.Signs.{sign_bytes}
 use Rattle.lang_tokens.specs.Lexemes.{a_word, a_sign, is_word, is_numeral, is_padded, greatest_literal, IsName}
 use Rattle.lang_tokens.specs.Reading.{Piece, blank, token, spelling, AllFit, piece_tokens, piece_bytes, tokens_from, starts_with_letter}
-use Rattle.lang_tokens.specs.Reading.{IsLongest, IsWholeToken}
+use Rattle.lang_tokens.specs.Reading.{IsLongest, IsWholeToken, is_outside, behind_all}
+use Rattle.lang_tokens.specs.declared.before.Before.{Before}
 use Rattle.lang_tokens.proofs.lexemes.Heads.{heads}
 use Rattle.lang_tokens.proofs.lexemes.Longest.{word_starts, sign_starts}
+use Rattle.lang_tokens.proofs.reading.Outside.{plain_blank, blank_outside, behind-append}
 use Rattle.lang_grammar.specs.Grammar as g
 use Rattle.lang_grammar.specs.View.{kind_of, sign_kind, token_of, tokens_of}
 use Rattle.acsl_comments.proofs.pieces.Placed.{spelling-append, fit-append}
@@ -28,8 +30,10 @@ pub record Lexed (at : ℕ) (bytes : List ℕ) (tokens : List g.Token) (goes_on 
   pub pieces : List Piece
   -- the pieces are the bytes
   pub spelled : spelling pieces ≡ bytes
-  -- they are pieces where nothing follows that goes on
-  pub fit : (rest : List ℕ) → heads goes_on rest ≡ false → AllFit pieces rest
+  -- they are pieces where no directive goes on before them, and nothing follows that goes on
+  pub fit : (before : Before) → is_outside before ≡ true → (rest : List ℕ) → heads goes_on rest ≡ false → AllFit before pieces rest
+  -- no directive goes on behind them, where none does before them
+  pub outside : (before : Before) → is_outside before ≡ true → is_outside (behind_all before pieces) ≡ true
   -- their tokens in a text where they stand at the place
   pub told : (text front after : List ℕ) → front ++ (bytes ++ after) ≡ text → length front ≡ at
       → tokens_of text (tokens_from at pieces) ≡ tokens
@@ -54,8 +58,11 @@ pub beside : {at : ℕ} {bytes more : List ℕ} {tokens others : List g.Token} {
 beside {at} {bytes} {more} {tokens} {others} {p} {q} a b apart = record {
   pieces = a.pieces ++ b.pieces;
   spelled = spelling-append a.pieces b.pieces ∙ ap₂ (λ (x y : List ℕ). x ++ y) a.spelled b.spelled;
-  fit = λ rest none. fit-append a.pieces b.pieces rest
-      (a.fit (spelling b.pieces ++ rest) (ap (λ (x : List ℕ). heads p (x ++ rest)) b.spelled ∙ apart rest none)) (b.fit rest none);
+  fit = λ before out rest none. fit-append before a.pieces b.pieces rest
+      (a.fit before out (spelling b.pieces ++ rest) (ap (λ (x : List ℕ). heads p (x ++ rest)) b.spelled ∙ apart rest none))
+      (b.fit (behind_all before a.pieces) (a.outside before out) rest none);
+  outside = λ before out. ap is_outside (behind-append before a.pieces b.pieces)
+      ∙ b.outside (behind_all before a.pieces) (a.outside before out);
   told = both;
 }
   where
@@ -83,7 +90,8 @@ one : (at : ℕ) (k : Kind) (bytes : List ℕ) (p : ℕ → Bool) → ((rest : L
 one at k bytes p whole = record {
   pieces = token k bytes ∷ [];
   spelled = append-nil bytes;
-  fit = λ rest none. (whole rest none, tt);
+  fit = λ before out rest none. ((out, whole rest none), tt);
+  outside = λ before out. refl;
   told = λ text front after e f. ap (λ (x : List ℕ). g.token (kind_of x k) at ∷ [])
       (ap (λ (t : List ℕ). slice_range t at (at + length bytes)) (sym e) ∙ range_is front bytes after at (at + length bytes) f refl);
 }
@@ -99,7 +107,13 @@ nothing_heads (b ∷ bs) = refl
 
 -- a space
 pub a_space : (at : ℕ) → Lexed at (32 ∷ []) [] nothing
-a_space at = record { pieces = blank 32 ∷ []; spelled = refl; fit = λ rest none. (refl, tt); told = λ text front after e f. refl }
+a_space at = record {
+  pieces = blank 32 ∷ [];
+  spelled = refl;
+  fit = λ before out rest none. (plain_blank before 32 rest out refl, tt);
+  outside = λ before out. blank_outside before 32 out refl;
+  told = λ text front after e f. refl;
+}
 
 -- a sign
 pub a_mark : (at : ℕ) (s : Sign) → Lexed at (sign_bytes s) (g.token (sign_kind s) at ∷ []) is_second

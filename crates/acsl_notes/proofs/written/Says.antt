@@ -11,6 +11,7 @@ use Rattle.std.proofs.lemmas.List.Elements.{All-head, All-tail}
 use Rattle.lang_tokens.specs.declared.sign.Sign.TheVariants.{Star, LessEqual, EqualEqual}
 use Rattle.lang_tokens.specs.declared.token.Token as lex_token
 use Rattle.lang_tokens.specs.Bytes.{is_word_byte}
+use Rattle.lang_tokens.specs.declared.before.Before.TheVariants.{Blanks}
 use Rattle.lang_tokens.specs.Lexemes.{IsName, greatest_literal}
 use Rattle.lang_tokens.specs.Lines.{line_at}
 use Rattle.lang_tokens.specs.Reading.{Reads, spelling, tokens_from, end_at}
@@ -66,7 +67,7 @@ module _ {all : List (List ℕ)} {bytes : List ℕ} {q : ℕ → Bool} {v : Valu
     whole = record {
       pieces = e.lexed.pieces;
       spelled = append-nil (spelling e.lexed.pieces) ∙ e.lexed.spelled;
-      fit = e.lexed.fit [] last;
+      fit = e.lexed.fit Blanks refl [] last;
       place = ap length e.lexed.spelled;
       told = refl;
     };

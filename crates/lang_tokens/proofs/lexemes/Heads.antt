@@ -23,7 +23,7 @@ heads_front p (o ∷ other) after xs x e h = let same : o ≡ x = cc in sym (ap 
 
 -- a byte that only signs start with
 abbrev pub is_mark : ℕ → Bool
-is_mark b = not (is_letter b || is_digit b || is_blank b || eqb b 47)
+is_mark b = not (is_letter b || is_digit b || is_blank b || eqb b 35 || eqb b 92)
 
 -- a sign starts with a mark
 pub sign_heads : (sign : Sign) → heads is_mark (sign_bytes sign) ≡ true
@@ -57,13 +57,16 @@ pub record IsMark (b : ℕ) : Type 0 where
   pub no_digit : is_digit b ≡ false
   -- a mark is no blank
   pub no_blank : is_blank b ≡ false
-  -- a mark is no slash
-  pub no_slash : eqb b 47 ≡ false
+  -- a mark is no `#`
+  pub no_hash : eqb b 35 ≡ false
+  -- a mark is no `\`
+  pub no_backslash : eqb b 92 ≡ false
 
--- a byte that passes the test for marks is no letter, no digit, no blank and no slash
+-- a byte that passes the test for marks is no letter, no digit, no blank, no `#` and no `\`
 pub mark_is : (b : ℕ) → is_mark b ≡ true → IsMark b
 mark_is b h =
     let all = or_parts _ _ (not-true _ h) in
-    let three = or_parts _ _ all.0 in
+    let four = or_parts _ _ all.0 in
+    let three = or_parts _ _ four.0 in
     let two = or_parts _ _ three.0 in
-    record { no_letter = two.0; no_digit = two.1; no_blank = three.1; no_slash = all.1 }
+    record { no_letter = two.0; no_digit = two.1; no_blank = three.1; no_hash = four.1; no_backslash = all.1 }

@@ -9,7 +9,8 @@ use Rattle.lang_tokens.specs.declared.sign.Sign.TheVariants.{LeftParen, RightPar
 use Rattle.lang_tokens.specs.declared.sign.Sign.TheVariants.{PlusAssign}
 use Rattle.lang_tokens.specs.declared.sign.Sign.TheVariants.{MinusAssign, Increment, Decrement, Plus, Minus, Star, Bang, Less, LessEqual}
 use Rattle.lang_tokens.specs.declared.sign.Sign.TheVariants.{Greater, GreaterEqual}
-use Rattle.lang_tokens.specs.declared.sign.Sign.TheVariants.{EqualEqual, BangEqual, AndAnd, OrOr}
+use Rattle.lang_tokens.specs.declared.sign.Sign.TheVariants.{EqualEqual, BangEqual, AndAnd, OrOr, Slash, Percent, Question}
+use Rattle.lang_tokens.specs.declared.sign.Sign.TheVariants.{LeftBracket, RightBracket, StarAssign, SlashAssign, PercentAssign}
 use Rattle.lang_tokens.specs.declared.word.Word.{Word}
 use Rattle.lang_tokens.specs.declared.word.Word.TheVariants.{Auto, Break, Case, Char, Const, Continue, Default, Do, Double, Else, Enum}
 use Rattle.lang_tokens.specs.declared.word.Word.TheVariants.{Extern, Float, For, Goto}
@@ -36,7 +37,7 @@ word_of bytes = first_spelled word_bytes (Auto ∷ Break ∷ Case ∷ Char ∷ C
 abbrev sign_of : List ℕ → Option Sign
 sign_of bytes = first_spelled sign_bytes (LeftParen ∷ RightParen ∷ LeftBrace ∷ RightBrace ∷ Comma ∷ Semicolon ∷ Colon ∷ Assign ∷ PlusAssign
     ∷ MinusAssign ∷ Increment ∷ Decrement ∷ Plus ∷ Minus ∷ Star ∷ Bang ∷ Less ∷ LessEqual ∷ Greater ∷ GreaterEqual ∷ EqualEqual ∷ BangEqual
-    ∷ AndAnd ∷ OrOr ∷ []) bytes
+    ∷ AndAnd ∷ OrOr ∷ Slash ∷ Percent ∷ Question ∷ LeftBracket ∷ RightBracket ∷ StarAssign ∷ SlashAssign ∷ PercentAssign ∷ []) bytes
 
 word_back : (word : Word) → word_of (word_bytes word) ≡ Some word
 word_back Auto = refl

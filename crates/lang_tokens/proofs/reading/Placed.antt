@@ -5,7 +5,9 @@ use Rattle.std.proofs.lemmas.List.{take_at, drop_at, append_assoc, append-nil, l
 use Rattle.lang_tokens.specs.declared.token.Kind.{Kind}
 use Rattle.lang_tokens.specs.declared.token.Token.{Token}
 use Rattle.lang_tokens.specs.Lexemes.{IsToken}
-use Rattle.lang_tokens.specs.Reading.{Piece, token, piece_bytes, spelling, AllFit, IsWholeToken, tokens_from, Reads}
+use Rattle.lang_tokens.specs.declared.before.Before.{Before}
+use Rattle.lang_tokens.specs.declared.before.Before.TheVariants.{Blanks, Others}
+use Rattle.lang_tokens.specs.Reading.{Piece, token, piece_bytes, spelling, AllFit, IsWholeToken, tokens_from, Reads, behind}
 use Rattle.lang_tokens.specs.TokenLists.{IsTokenAfter, AreTokensAfter, AreTokensOf}
 use Rattle.lang_tokens.proofs.reading.Growth.{lexeme_some}
 
@@ -25,17 +27,17 @@ token_placed text front bytes after at low kind e f low_is t = record {
   is_token = rw (← e) (subst (IsToken kind) (sym (range_is front bytes after at (at + length bytes) f refl)) t.is_token);
 }
 
-placed_from : (text front : List ℕ) (pieces : List Piece) (at low : ℕ) → front ++ spelling pieces ≡ text → length front ≡ at → low ≤ at
-    → AllFit pieces [] → AreTokensAfter text low (tokens_from at pieces)
-placed_from text front [] at low e f low_is fit = tt
-placed_from text front (token kind bytes ∷ pieces) at low e f low_is fit = (
+placed_from : (text front : List ℕ) (before : Before) (pieces : List Piece) (at low : ℕ) → front ++ spelling pieces ≡ text
+    → length front ≡ at → low ≤ at → AllFit before pieces [] → AreTokensAfter text low (tokens_from at pieces)
+placed_from text front before [] at low e f low_is fit = tt
+placed_from text front before (token kind bytes ∷ pieces) at low e f low_is fit = (
   token_placed text front bytes (spelling pieces) at low kind e f low_is
-      (subst (IsWholeToken kind bytes) (append-nil (spelling pieces)) fit.0),
-  placed_from text (front ++ bytes) pieces (at + length bytes) (at + length bytes) (append_assoc front bytes (spelling pieces) ∙ e)
+      (subst (IsWholeToken kind bytes) (append-nil (spelling pieces)) fit.0.1),
+  placed_from text (front ++ bytes) Others pieces (at + length bytes) (at + length bytes) (append_assoc front bytes (spelling pieces) ∙ e)
       (omega (arith, length-append front bytes)) (omega arith) fit.1,
 )
-placed_from text front (piece ∷ pieces) at low e f low_is fit =
-    placed_from text (front ++ piece_bytes piece) pieces (at + length (piece_bytes piece)) low
+placed_from text front before (piece ∷ pieces) at low e f low_is fit =
+    placed_from text (front ++ piece_bytes piece) (behind before piece) pieces (at + length (piece_bytes piece)) low
     (append_assoc front (piece_bytes piece) (spelling pieces) ∙ e) (omega (arith, length-append front (piece_bytes piece)))
     (omega arith) fit.1
 
@@ -44,6 +46,6 @@ pub placed_tokens : (text : List ℕ) (tokens : List Token) → Reads text token
 placed_tokens text tokens reads = record {
   front = reads.front;
   ended = reads.told;
-  placed = subst (AreTokensAfter text 0) reads.whole.told (placed_from text [] reads.whole.pieces 0 0
+  placed = subst (AreTokensAfter text 0) reads.whole.told (placed_from text [] Blanks reads.whole.pieces 0 0
       (sym (append-nil (spelling reads.whole.pieces)) ∙ reads.whole.spelled) refl (omega arith) reads.whole.fit);
 }

@@ -4,10 +4,12 @@ use Rattle.std.proofs.lemmas.List.{take-append-drop, length-take-le}
 use Rattle.std.proofs.lemmas.List.Sums.{prefix_len-le-length}
 use Rattle.std.specs.List.{prefix_len}
 use Rattle.std.specs.Str.Parse.{digits_value}
-use Rattle.lang_tokens.specs.Bytes.{is_blank, is_letter, is_digit, is_word_byte}
+use Rattle.lang_tokens.specs.Bytes.{is_letter, is_digit, is_word_byte}
+use Rattle.lang_tokens.specs.declared.before.Before.{Before}
+use Rattle.lang_tokens.specs.declared.before.Before.TheVariants.{Others}
 use Rattle.lang_tokens.specs.declared.token.Kind.{Kind}
 use Rattle.lang_tokens.specs.Lexemes.{IsToken, is_word, is_numeral, longest_word, greatest_literal}
-use Rattle.lang_tokens.specs.Reading.{blank, token, IsLongest, IsApart}
+use Rattle.lang_tokens.specs.Reading.{blank, token, IsLongest, IsApart, is_outside, is_blank_at, behind_blank}
 use Rattle.lang_tokens.specs.Faults.{IsBadNumber, IsLongNumber, IsLongName, is_bad}
 use Rattle.lang_tokens.specs.Steps.{StandsFirst}
 use Rattle.lang_tokens.proofs.lexemes.Longest.{word_longest, word_run, numeral_longest, numeral_run}
@@ -41,16 +43,18 @@ numeral_front (b ∷ bs) len e some digit = rw e record {
   length_is = length-take-le _ (b ∷ bs) (prefix_len-le-length is_digit (b ∷ bs));
 }
 
--- a longest front that is a token stands first
-pub token_stands : {test : List ℕ → Bool} (rest : List ℕ) (len : ℕ) (kind : Kind) → IsLongestFront test rest len
-    → IsToken kind (take len rest) → IsApart kind (drop len rest) → StandsFirst rest (record { kind = Some kind; len = len })
-token_stands rest len kind front is_token apart = record {
+-- a longest front that is a token stands first, where no directive goes on
+pub token_stands : {test : List ℕ → Bool} (before : Before) (rest : List ℕ) (len : ℕ) (kind : Kind) → is_outside before ≡ true
+    → IsLongestFront test rest len → IsToken kind (take len rest) → IsApart kind (drop len rest)
+    → StandsFirst before rest (record { kind = Some kind; len = len; behind = Others })
+token_stands before rest len kind out front is_token apart = record {
   piece = token kind (take len rest);
   after = drop len rest;
   split = take-append-drop len rest;
-  fits = record { is_token = is_token; longest = front.longest; apart = apart };
+  fits = (out, record { is_token = is_token; longest = front.longest; apart = apart });
   length_is = front.length_is;
   kind_is = refl;
+  behind_is = refl;
 }
 
 -- a longest front that is a word of too many bytes is a long name
@@ -90,7 +94,15 @@ long_number rest len front good great = record {
 }
 
 -- a blank byte stands first as a blank
-pub blank_stands : (rest : List ℕ) → 1 ≤ length rest → is_blank (get_or rest 0 0) ≡ true
-    → StandsFirst rest (record { kind = None; len = 1 })
-blank_stands [] some is = absurd (omega arith)
-blank_stands (b ∷ bs) some is = record { piece = blank b; after = bs; split = refl; fits = is; length_is = refl; kind_is = refl }
+pub blank_stands : (before : Before) (rest : List ℕ) → is_blank_at before rest ≡ true
+    → StandsFirst before rest (record { kind = None; len = 1; behind = behind_blank before (get_or rest 0 0) })
+blank_stands before [] is = cc
+blank_stands before (b ∷ bs) is = record {
+  piece = blank b;
+  after = bs;
+  split = refl;
+  fits = is;
+  length_is = refl;
+  kind_is = refl;
+  behind_is = refl;
+}

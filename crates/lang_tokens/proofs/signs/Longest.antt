@@ -1,16 +1,19 @@
 -- The sign that stands first, from the first two bytes.
-use Rattle.std.proofs.Common.{◌≡◌, ◌≢◌, ◌≤◌, ℕ, suc, true, false, ltb, List, [], ◌∷◌, ◌++◌, length, get_or, refl, sym, ap, ◌∙◌, arith}
+use Rattle.std.proofs.Common.{◌≡◌, ◌≤◌, ℕ, suc, true, false, ltb, List, [], ◌∷◌, ◌++◌, length, get_or, refl, sym, ap, ◌∙◌, arith}
 use Rattle.std.proofs.Common.{Option, Some, None}
 use Rattle.std.proofs.Common.{Bor, is_some, IfSome}
 use Rattle.std.specs.Option.{option_copied}
 use Rattle.std.proofs.lemmas.Bool.{lt-ltb}
-use Rattle.lang_tokens.specs.Bytes.{is_blank, is_letter, is_digit}
+use Rattle.lang_tokens.specs.Bytes.{is_letter, is_digit}
+use Rattle.lang_tokens.specs.Directives.{starts_comment}
+use Rattle.lang_tokens.specs.declared.before.Before.{Before}
+use Rattle.lang_tokens.specs.declared.before.Before.TheVariants.{Others}
 use Rattle.lang_tokens.specs.declared.sign.Sign.{Sign}
-use Rattle.lang_tokens.specs.declared.sign.Sign.TheVariants.{LeftParen}
+use Rattle.lang_tokens.specs.declared.sign.Sign.TheVariants.{LeftParen, Slash}
 use Rattle.lang_tokens.specs.declared.token.Kind.TheVariants as kind
 use Rattle.lang_tokens.specs.Signs.{sign_bytes}
 use Rattle.lang_tokens.specs.Lexemes.{IsLexeme, a_sign}
-use Rattle.lang_tokens.specs.Reading.{token}
+use Rattle.lang_tokens.specs.Reading.{token, IsSignApart, is_outside, is_blank_at}
 use Rattle.lang_tokens.specs.Faults.{NothingStarts}
 use Rattle.lang_tokens.specs.Steps.{StandsFirst, StartWith, IsLongestSign}
 use Rattle.lang_tokens.proofs.lexemes.Heads.{heads, is_mark, sign_heads}
@@ -59,47 +62,59 @@ signs_only first bs other after no_letter no_digit e lexeme =
     let found = sign_starts other after bs first e lexeme no_letter no_digit in
     (found.0, found.1, start_from (sign_bytes found.0) after first bs (sign_heads found.0) (rw found.1 e))
 
-sign_from : (first : ℕ) (bs : List ℕ) (sign : Sign) (len : ℕ) → IsLongestSign first (second_of (first ∷ bs)) (Some sign)
+-- a sign is apart from what follows, where no comment starts with it
+sign_apart : (sign : Sign) (after : List ℕ) → starts_comment (sign_bytes sign ++ after) ≡ false → IsSignApart sign after
+sign_apart LeftParen after h = tt
+sign_apart Slash after h = h
+sign_apart _ after h = tt
+
+sign_from : (before : Before) (first : ℕ) (bs : List ℕ) (sign : Sign) (len : ℕ) → is_outside before ≡ true
+    → IsLongestSign first (second_of (first ∷ bs)) (Some sign) → starts_comment (first ∷ bs) ≡ false
     → is_letter first ≡ false → is_digit first ≡ false → len ≡ length (sign_bytes sign)
-    → StandsFirst (first ∷ bs) (record { kind = Some (kind.Sign sign); len = len })
-sign_from first bs sign len longest no_letter no_digit e =
+    → StandsFirst before (first ∷ bs) (record { kind = Some (kind.Sign sign); len = len; behind = Others })
+sign_from before first bs sign len out longest no_comment no_letter no_digit e =
     let found = start_split (sign_bytes sign) first bs longest.0 (sign_short sign) in
     record {
       piece = token (kind.Sign sign) (sign_bytes sign);
       after = found.0;
       split = found.1;
-      fits = record {
-        is_token = refl;
-        longest = record {
-          lexeme = a_sign sign refl;
-          longest = λ other after whole lexeme.
-              let t = signs_only first bs other after no_letter no_digit (whole ∙ found.1) lexeme in
-              rw (← t.1) (longest.1 t.0 t.2);
-        };
-        apart = tt;
-      };
+      fits = (
+        out,
+        record {
+          is_token = refl;
+          longest = record {
+            lexeme = a_sign sign refl;
+            longest = λ other after whole lexeme.
+                let t = signs_only first bs other after no_letter no_digit (whole ∙ found.1) lexeme in
+                rw (← t.1) (longest.1 t.0 t.2);
+          };
+          apart = sign_apart sign found.0 (rw found.1 no_comment);
+        },
+      );
       length_is = sym e;
       kind_is = refl;
+      behind_is = refl;
     }
 
--- the longest sign that starts with the first two bytes stands first
-pub sign_stands : (rest : List ℕ) (sign : Sign) (len : ℕ) → 1 ≤ length rest → is_letter (get_or rest 0 0) ≡ false
-    → is_digit (get_or rest 0 0) ≡ false → IsLongestSign (get_or rest 0 0) (second_of rest) (Some sign) → len ≡ length (sign_bytes sign)
-    → StandsFirst rest (record { kind = Some (kind.Sign sign); len = len })
-sign_stands [] sign len some no_letter no_digit longest e = absurd (omega arith)
-sign_stands (first ∷ bs) sign len some no_letter no_digit longest e = sign_from first bs sign len longest no_letter no_digit e
+-- the longest sign that starts with the first two bytes stands first, where no comment starts and no directive goes on
+pub sign_stands : (before : Before) (rest : List ℕ) (sign : Sign) (len : ℕ) → is_outside before ≡ true → 1 ≤ length rest
+    → starts_comment rest ≡ false → is_letter (get_or rest 0 0) ≡ false → is_digit (get_or rest 0 0) ≡ false
+    → IsLongestSign (get_or rest 0 0) (second_of rest) (Some sign) → len ≡ length (sign_bytes sign)
+    → StandsFirst before rest (record { kind = Some (kind.Sign sign); len = len; behind = Others })
+sign_stands before [] sign len out some no_comment no_letter no_digit longest e = absurd (omega arith)
+sign_stands before (first ∷ bs) sign len out some no_comment no_letter no_digit longest e =
+    sign_from before first bs sign len out longest no_comment no_letter no_digit e
 
 -- where no sign starts with the first two bytes, and nothing else does, nothing starts at all
-pub nothing_stands : (rest : List ℕ) → 1 ≤ length rest → is_blank (get_or rest 0 0) ≡ false → get_or rest 0 0 ≢ 47
+pub nothing_stands : (before : Before) (rest : List ℕ) → 1 ≤ length rest → is_blank_at before rest ≡ false → starts_comment rest ≡ false
     → is_letter (get_or rest 0 0) ≡ false → is_digit (get_or rest 0 0) ≡ false → IsLongestSign (get_or rest 0 0) (second_of rest) None
-    → NothingStarts rest
-nothing_stands [] some no_blank no_slash no_letter no_digit none = absurd (omega arith)
-nothing_stands (first ∷ bs) some no_blank no_slash no_letter no_digit none = record {
+    → NothingStarts before rest
+nothing_stands before [] some no_blank no_comment no_letter no_digit none = absurd (omega arith)
+nothing_stands before (first ∷ bs) some no_blank no_comment no_letter no_digit none = record {
   first = first;
   more = bs;
   split = refl;
   no_blank = no_blank;
-  no_line_comment = λ after e. let is : first ≡ 47 = cc in no_slash is;
-  no_block_comment = λ after e. let is : first ≡ 47 = cc in no_slash is;
+  no_comment = no_comment;
   no_token = λ bytes after e lexeme. let t = signs_only first bs bytes after no_letter no_digit e lexeme in none t.0 t.2;
 }

@@ -5,9 +5,7 @@ use Rattle.std.proofs.lemmas.Bool.{and_parts, eqb-true}
 use Rattle.std.proofs.lemmas.List.{append_assoc, append-nil, length-append, take_at}
 use Rattle.std.proofs.lemmas.List.Sums.{sum_by-append}
 use Rattle.lang_tokens.specs.declared.sign.Sign.{Sign}
-use Rattle.lang_tokens.specs.declared.sign.Sign.TheVariants.{LeftParen, RightParen, LeftBrace, RightBrace, Comma, Semicolon, Colon, Assign}
-use Rattle.lang_tokens.specs.declared.sign.Sign.TheVariants.{PlusAssign, MinusAssign, Increment, Decrement, Plus, Minus, Star, Bang, Less}
-use Rattle.lang_tokens.specs.declared.sign.Sign.TheVariants.{LessEqual, Greater, GreaterEqual, EqualEqual, BangEqual, AndAnd, OrOr}
+use Rattle.lang_tokens.specs.declared.sign.Sign.TheVariants.{LeftParen}
 use Rattle.lang_tokens.specs.Bytes.{is_letter, is_digit, is_word_byte}
 use Rattle.lang_tokens.specs.Words.{word_bytes}
 use Rattle.lang_tokens.specs.Signs.{sign_bytes}
@@ -66,29 +64,7 @@ no_feeds p (b ∷ bs) n h =
 
 sign_feeds : (s : Sign) → feeds (sign_bytes s) ≡ 0
 sign_feeds LeftParen = refl
-sign_feeds RightParen = refl
-sign_feeds LeftBrace = refl
-sign_feeds RightBrace = refl
-sign_feeds Comma = refl
-sign_feeds Semicolon = refl
-sign_feeds Colon = refl
-sign_feeds Assign = refl
-sign_feeds PlusAssign = refl
-sign_feeds MinusAssign = refl
-sign_feeds Increment = refl
-sign_feeds Decrement = refl
-sign_feeds Plus = refl
-sign_feeds Minus = refl
-sign_feeds Star = refl
-sign_feeds Bang = refl
-sign_feeds Less = refl
-sign_feeds LessEqual = refl
-sign_feeds Greater = refl
-sign_feeds GreaterEqual = refl
-sign_feeds EqualEqual = refl
-sign_feeds BangEqual = refl
-sign_feeds AndAnd = refl
-sign_feeds OrOr = refl
+sign_feeds _ = refl
 
 space_line : (b line : ℕ) (t : Bool) → eqb b 10 ≡ t → cond (eqb b 10) (line + 1) line ≡ line + feeds (b ∷ [])
 space_line b line true e = ap (λ (t : Bool). cond t (line + 1) line) e ∙ omega (arith, one_feed b true e)

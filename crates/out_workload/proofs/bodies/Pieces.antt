@@ -13,7 +13,9 @@ use Rattle.lang_tokens.specs.Words.{word_bytes}
 use Rattle.lang_tokens.specs.Signs.{sign_bytes}
 use Rattle.lang_tokens.specs.Lexemes.{is_numeral, is_padded, greatest_literal}
 use Rattle.lang_tokens.specs.Reading.{Piece, blank, token, piece_bytes, spelling, Fits, AllFit, starts_with_letter, piece_tokens}
-use Rattle.lang_tokens.specs.Reading.{tokens_from}
+use Rattle.lang_tokens.specs.Reading.{tokens_from, is_outside, behind}
+use Rattle.lang_tokens.specs.declared.before.Before.{Before}
+use Rattle.lang_tokens.proofs.reading.Outside.{plain_blank, blank_outside}
 use Rattle.lang_tokens.proofs.lexemes.Heads.{heads}
 use Rattle.lang_grammar.specs.Grammar as g
 use Rattle.lang_grammar.specs.View.{word_kind, sign_kind, token_of, tokens_of}
@@ -118,24 +120,38 @@ good_append (sign s ∷ ps) qs g h = good_append ps qs g h
 good_append (letter b ∷ ps) qs g h = (g.0, good_append ps qs g.1 h)
 good_append (number n bytes ∷ ps) qs g h = (g.0, good_append ps qs g.1 h)
 
-part_fits : (p : Part) (rest : List ℕ) → IsGood p → stands p rest ≡ true → Fits (piece_of p) rest
-part_fits (space b) rest g h = h
-part_fits (word w) rest g h = a_whole_word w rest (not-true (heads is_word_byte rest) h)
-part_fits (sign s) rest g h = a_whole_sign s rest (not-true (heads is_second rest) h)
-part_fits (letter b) rest g h = a_whole_letter b rest g (not-true (heads is_word_byte rest) h)
-part_fits (number n bytes) rest g h =
-    let both = and_parts (not (heads is_digit rest)) (not (starts_with_letter rest)) h in
-    a_whole_number n bytes rest g.digits g.plain g.value g.small (not-true (heads is_digit rest) both.0)
-    (not-true (starts_with_letter rest) both.1)
+part_fits : (before : Before) (p : Part) (rest : List ℕ) → is_outside before ≡ true → IsGood p → stands p rest ≡ true
+    → Fits before (piece_of p) rest
+part_fits before (space b) rest out g h = plain_blank before b rest out h
+part_fits before (word w) rest out g h = (out, a_whole_word w rest (not-true (heads is_word_byte rest) h))
+part_fits before (sign s) rest out g h = (out, a_whole_sign s rest (not-true (heads is_second rest) h))
+part_fits before (letter b) rest out g h = (out, a_whole_letter b rest g (not-true (heads is_word_byte rest) h))
+part_fits before (number n bytes) rest out g h =
+    let both = and_parts (not (heads is_digit rest)) (not (starts_with_letter rest)) h in (
+      out,
+      a_whole_number n bytes rest g.digits g.plain g.value g.small (not-true (heads is_digit rest) both.0)
+          (not-true (starts_with_letter rest) both.1),
+    )
 
--- good parts that stand before what follows them fit
-pub all_fit : (ps : List Part) (rest : List ℕ) → AllGood ps → all_stand ps rest ≡ true → AllFit (map piece_of ps) rest
-all_fit [] rest g h = tt
-all_fit (p ∷ ps) rest g h =
+-- no directive goes on behind a part
+part_outside : (before : Before) (p : Part) (rest : List ℕ) → is_outside before ≡ true → stands p rest ≡ true
+    → is_outside (behind before (piece_of p)) ≡ true
+part_outside before (space b) rest out h = blank_outside before b out h
+part_outside before (word w) rest out h = refl
+part_outside before (sign s) rest out h = refl
+part_outside before (letter b) rest out h = refl
+part_outside before (number n bytes) rest out h = refl
+
+-- good parts that stand before what follows them fit, where no directive goes on
+pub all_fit : (before : Before) (ps : List Part) (rest : List ℕ) → is_outside before ≡ true → AllGood ps → all_stand ps rest ≡ true
+    → AllFit before (map piece_of ps) rest
+all_fit before [] rest out g h = tt
+all_fit before (p ∷ ps) rest out g h =
     let both = and_parts (stands p (spelled ps ++ rest)) (all_stand ps rest) h in
     let good = good_parts p ps g in (
-      subst (λ (x : List ℕ). Fits (piece_of p) (x ++ rest)) (sym (spelled_is ps)) (part_fits p (spelled ps ++ rest) good.0 both.0),
-      all_fit ps rest good.1 both.1,
+      subst (λ (x : List ℕ). Fits before (piece_of p) (x ++ rest)) (sym (spelled_is ps))
+          (part_fits before p (spelled ps ++ rest) out good.0 both.0),
+      all_fit (behind before (piece_of p)) ps rest (part_outside before p (spelled ps ++ rest) out both.0) good.1 both.1,
     )
 
 and_true : (a b c : Bool) → a ≡ true → b ≡ c → (a && b) ≡ c

@@ -5,6 +5,7 @@ use Rattle.std.proofs.lemmas.List.{append_assoc, append-nil, length-append, map-
 use Rattle.base_limits.specs.declared.limits.TheConstants.{MOST_TEXT_BYTES}
 use Rattle.lang_tokens.specs.declared.token.Token as lex_token
 use Rattle.lang_tokens.specs.Lines.{line_at}
+use Rattle.lang_tokens.specs.declared.before.Before.TheVariants.{Blanks}
 use Rattle.lang_tokens.specs.Reading.{spelling, tokens_from, end_at, Reads, piece_bytes}
 use Rattle.lang_grammar.specs.Grammar as g
 use Rattle.lang_grammar.specs.View.{tokens_of, token_of, plain_token, word_kind, sign_kind}
@@ -46,7 +47,7 @@ text_reads text ls d e =
       whole = record {
         pieces = pieces;
         spelled = append-nil (spelling pieces) ∙ same;
-        fit = all_fit (text_parts ls) [] (text_good ls d) (text_stands ls d);
+        fit = all_fit Blanks (text_parts ls) [] refl (text_good ls d) (text_stands ls d);
         place = ap length same;
         told = refl;
       };

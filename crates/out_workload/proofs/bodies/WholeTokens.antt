@@ -1,13 +1,11 @@
 -- When bytes are a whole token before what follows them, by tests.
 use Rattle.std.proofs.Common.{◌≡◌, ◌≤◌, ℕ, pos, Bool, true, false, ◌||◌, eqb, List, [], ◌∷◌, ◌++◌, length, refl, sym, ap, ◌∙◌, subst, arith}
-use Rattle.std.proofs.lemmas.Bool.{and_parts, and_from, or_left}
+use Rattle.std.proofs.lemmas.Bool.{and_parts, and_from, or_left, or_parts}
 use Rattle.std.specs.List.{list_all}
 use Rattle.std.specs.Str.Parse.{digits_value}
 use Rattle.lang_tokens.specs.declared.token.Kind.TheVariants as kind
 use Rattle.lang_tokens.specs.declared.sign.Sign.{Sign}
-use Rattle.lang_tokens.specs.declared.sign.Sign.TheVariants.{LeftParen, RightParen, LeftBrace, RightBrace, Comma, Semicolon, Colon, Assign}
-use Rattle.lang_tokens.specs.declared.sign.Sign.TheVariants.{PlusAssign, MinusAssign, Increment, Decrement, Plus, Minus, Star, Bang, Less}
-use Rattle.lang_tokens.specs.declared.sign.Sign.TheVariants.{LessEqual, Greater, GreaterEqual, EqualEqual, BangEqual, AndAnd, OrOr}
+use Rattle.lang_tokens.specs.declared.sign.Sign.TheVariants.{LeftParen, Slash}
 use Rattle.lang_tokens.specs.declared.word.Word.{Word}
 use Rattle.lang_tokens.specs.declared.word.Word.TheVariants.{Auto, Break, Case, Char, Const, Continue, Default, Do, Double, Else, Enum}
 use Rattle.lang_tokens.specs.declared.word.Word.TheVariants.{Extern, Float, For, Goto, If, Inline, Int, Long, Register, Return, Short}
@@ -18,7 +16,8 @@ use Rattle.lang_tokens.specs.Bytes.{is_letter, is_digit, is_word_byte}
 use Rattle.lang_tokens.specs.Words.{word_bytes}
 use Rattle.lang_tokens.specs.Signs.{sign_bytes}
 use Rattle.lang_tokens.specs.Lexemes.{a_word, a_numeral, a_sign, is_word, is_numeral, is_padded, greatest_literal, IsName}
-use Rattle.lang_tokens.specs.Reading.{IsLongest, IsWholeToken, starts_with_letter}
+use Rattle.lang_tokens.specs.Directives.{goes_on_as_comment}
+use Rattle.lang_tokens.specs.Reading.{IsLongest, IsSignApart, IsWholeToken, starts_with_letter}
 use Rattle.lang_tokens.proofs.lexemes.Heads.{heads, is_mark, sign_heads, word_spelled, mark_is}
 use Rattle.lang_tokens.proofs.lexemes.Longest.{word_starts, numeral_starts, sign_starts}
 
@@ -59,9 +58,9 @@ numeral_whole (b ∷ bs) rest w h = record {
       (numeral_passes other (numeral_starts other after (bs ++ rest) b e lexeme (and_parts (is_digit b) (list_all is_digit bs) w).0)) e;
 }
 
--- a byte that the sign before it may take as its second
+-- a byte that the sign before it may take as its second, or that makes a `/` before it the start of a comment
 abbrev pub is_second : ℕ → Bool
-is_second b = eqb b 61 || eqb b 43 || eqb b 45 || eqb b 38 || eqb b 124
+is_second b = eqb b 61 || eqb b 43 || eqb b 45 || eqb b 38 || eqb b 124 || eqb b 42 || eqb b 47
 
 -- the bytes but the first
 abbrev behind : List ℕ → List ℕ
@@ -70,29 +69,21 @@ behind (b ∷ bs) = bs
 
 seconds : (sign : Sign) → list_all is_second (behind (sign_bytes sign)) ≡ true
 seconds LeftParen = refl
-seconds RightParen = refl
-seconds LeftBrace = refl
-seconds RightBrace = refl
-seconds Comma = refl
-seconds Semicolon = refl
-seconds Colon = refl
-seconds Assign = refl
-seconds PlusAssign = refl
-seconds MinusAssign = refl
-seconds Increment = refl
-seconds Decrement = refl
-seconds Plus = refl
-seconds Minus = refl
-seconds Star = refl
-seconds Bang = refl
-seconds Less = refl
-seconds LessEqual = refl
-seconds Greater = refl
-seconds GreaterEqual = refl
-seconds EqualEqual = refl
-seconds BangEqual = refl
-seconds AndAnd = refl
-seconds OrOr = refl
+seconds _ = refl
+
+-- where no such byte follows, nothing makes a `/` the start of a comment
+no_comment : (rest : List ℕ) → heads is_second rest ≡ false → goes_on_as_comment rest ≡ false
+no_comment [] h = refl
+no_comment (b ∷ rest) h =
+    let slash = or_parts (eqb b 61 || eqb b 43 || eqb b 45 || eqb b 38 || eqb b 124 || eqb b 42) (eqb b 47) h in
+    let star = or_parts (eqb b 61 || eqb b 43 || eqb b 45 || eqb b 38 || eqb b 124) (eqb b 42) slash.0 in
+    rw (slash.1, star.1) refl
+
+-- so a sign is apart from it
+sign_apart : (sign : Sign) (rest : List ℕ) → heads is_second rest ≡ false → IsSignApart sign rest
+sign_apart LeftParen rest h = tt
+sign_apart Slash rest h = no_comment rest h
+sign_apart _ rest h = tt
 
 sign_front : (b : ℕ) (bs rest other after : List ℕ) → heads is_second rest ≡ false → list_all is_second (behind other) ≡ true
     → other ++ after ≡ b ∷ (bs ++ rest) → length other ≤ length (b ∷ bs)
@@ -159,7 +150,11 @@ a_whole_word word rest h = record { is_token = refl; longest = word_whole (word_
 
 -- a sign is a whole token where no second byte of a sign follows
 pub a_whole_sign : (sign : Sign) (rest : List ℕ) → heads is_second rest ≡ false → IsWholeToken (kind.Sign sign) (sign_bytes sign) rest
-a_whole_sign sign rest h = record { is_token = refl; longest = sign_whole sign (sign_bytes sign) rest refl (sign_heads sign) h; apart = tt }
+a_whole_sign sign rest h = record {
+  is_token = refl;
+  longest = sign_whole sign (sign_bytes sign) rest refl (sign_heads sign) h;
+  apart = sign_apart sign rest h;
+}
 
 -- a letter is a whole token where no byte of a word follows
 pub a_whole_letter : (b : ℕ) (rest : List ℕ) → is_letter b ≡ true → heads is_word_byte rest ≡ false → IsWholeToken kind.Name (b ∷ []) rest

@@ -59,6 +59,30 @@ const ASSERTED_NOTES: &[u8] = b"int main() {
 /*@ assert -x <= 0; */
 }";
 
+// A directive keeps its line, and the one before it; a comment in it may end in a later line.
+const DIRECTIVES: &[u8] = b"#include <a.h> /* {
+*/ }
+int main() {
+    int x = 0;
+# 7
+    while (x < 2) x++;
+#pragma while
+}
+#line 9";
+
+const DIRECTIVES_NOTES: &[u8] = b"#include <a.h> /* {
+*/ }
+int main() {
+    int x = 0;
+# 7
+    /*@ loop invariant x <= 2;
+        loop invariant -x <= 0; */
+    while (x < 2) x++;
+#pragma while
+/*@ assert x == 2; */
+}
+#line 9";
+
 const LINES: &[(&str, &[u8], &[u8])] = &[
     ("p", ONE_LINE, ONE_LINE_NOTES),
     ("p", BLANKS, BLANKS_NOTES),
@@ -66,6 +90,7 @@ const LINES: &[(&str, &[u8], &[u8])] = &[
     ("p", RETURNS, RETURNS_NOTES),
     ("p", FRONT, FRONT_NOTES),
     ("p", ASSERTED, ASSERTED_NOTES),
+    ("p", DIRECTIVES, DIRECTIVES_NOTES),
 ];
 
 #[test]

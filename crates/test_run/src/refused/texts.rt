@@ -30,7 +30,12 @@ fn message_of(byte: u8) -> &'static [u8] {
         | b'*'
         | b'!'
         | b'<'
-        | b'>' => { b"program refused: unexpected token at line 1\n" }
+        | b'>'
+        | b'/'
+        | b'%'
+        | b'?'
+        | b'['
+        | b']' => { b"program refused: unexpected token at line 1\n" }
         _ => b"program refused: bad byte at line 1\n",
     }
 }

@@ -1,17 +1,19 @@
-use Rattle.std.proofs.Common.{refl, inr, arith}
+use Rattle.std.proofs.Common.{refl, inl, inr, arith}
 use Rattle.lang_tokens.proofs.comment.Ends.{last_line_comment, plain_line_comment, joined_line_comment}
 use Rattle.lang_tokens.proofs.comment.line_comment.Goals as goal
 
 pub returns-then-len-body : goal.returns-then-len-body
-returns-then-len-body c = last_line_comment c.args.body.now c.line_len-len.result c.line_len-len.ensures.len c.if-len-body.true
+returns-then-len-body c = rw c.behind_comment.ensures
+    (last_line_comment c.args.before c.args.body.now c.line_len-len.result c.line_len-len.ensures.len c.if-len-body.true)
 
 pub returns-in-Some : goal.returns-in-Some
 returns-in-Some c = inr (
   c.in-Some.place,
   refl,
-  joined_line_comment c.args.body.now c.line_len-len.result c.in-Some.place c.line_len-len.ensures.len
-      (omega (arith, c.line_len-len.ensures.within, c.if-len-body.false)) c.in-Some.ensures.place,
+  inl (joined_line_comment c.args.body.now c.line_len-len.result c.in-Some.place c.line_len-len.ensures.len
+      (omega (arith, c.line_len-len.ensures.within, c.if-len-body.false)) c.in-Some.ensures.place),
 )
 
 pub returns-in-None : goal.returns-in-None
-returns-in-None c = plain_line_comment c.args.body.now c.line_len-len.result c.line_len-len.ensures.len c.in-None.ensures.place
+returns-in-None c = rw c.behind_comment-in-None.ensures
+    (plain_line_comment c.args.before c.args.body.now c.line_len-len.result c.line_len-len.ensures.len c.in-None.ensures.place)

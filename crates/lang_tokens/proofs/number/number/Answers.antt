@@ -25,7 +25,7 @@ returns-then-is_padded c =
           (starts_with_letter (drop len rest)) (rw (take_rest rest len) at
           (sym w.starts_with_letter.ensures ∙ w.if-starts_with_letter.true))
     ] in
-    (refl, bad_number rest len (numeral_front rest len c.digits_len-len.ensures c.requires.some c.requires.digit) bad)
+    λ before out. (refl, out, bad_number rest len (numeral_front rest len c.digits_len-len.ensures c.requires.some c.requires.digit) bad)
 
 pub literal_value-requires : goal.literal_value-requires
 literal_value-requires c = rw c.digits_len-len.ensures (all_run is_digit c.args.rest.now)
@@ -37,7 +37,7 @@ returns-in-Some c =
     let front = numeral_front rest len c.digits_len-len.ensures c.requires.some c.requires.digit in
     let apart : starts_with_letter (drop len rest) ≡ false = rw (take_rest rest len) at
     (sym c.starts_with_letter.ensures ∙ c.if-starts_with_letter.false) in
-    token_stands rest len (kind.Number (to_z w64 (of_z w64 c.in-Some.value))) front
+    λ before out. token_stands before rest len (kind.Number (to_z w64 (of_z w64 c.in-Some.value))) out front
     (record {
       digits = front.passes;
       plain = sym c.is_padded.ensures ∙ c.if-is_padded.false;
@@ -54,4 +54,5 @@ returns-in-None c =
     (sym c.starts_with_letter.ensures ∙ c.if-starts_with_letter.false) in
     let good : is_bad (take len rest) (drop len rest) ≡ false = or_from (is_padded (take len rest)) (starts_with_letter (drop len rest))
     (sym c.is_padded.ensures ∙ c.if-is_padded.false) apart in
-    (refl, long_number rest len (numeral_front rest len c.digits_len-len.ensures c.requires.some c.requires.digit) good c.in-None.ensures)
+    let front = numeral_front rest len c.digits_len-len.ensures c.requires.some c.requires.digit in
+    λ before out. (refl, out, long_number rest len front good c.in-None.ensures)

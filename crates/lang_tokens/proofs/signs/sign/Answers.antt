@@ -6,15 +6,15 @@ pub returns-in-Some : goal.returns-in-Some
 returns-in-Some c =
     let second : c.copied.result ≡ second_of c.args.rest.now = c.copied.ensures
     ∙ second_read c.args.rest.now c.get.result c.get.ensures.lookup.0 c.get.ensures.lookup.1 in
-    sign_stands c.args.rest.now c.in-Some.sign c.width.result c.requires.some c.requires.no_letter c.requires.no_digit
-    (rw second at c.in-Some.ensures) c.width.ensures
+    λ before out no_blank. sign_stands before c.args.rest.now c.in-Some.sign c.width.result out c.requires.some c.requires.no_comment
+    c.requires.no_letter c.requires.no_digit (rw second at c.in-Some.ensures) c.width.ensures
 
 pub returns-in-None : goal.returns-in-None
 returns-in-None c =
     let second : c.copied.result ≡ second_of c.args.rest.now = c.copied.ensures
     ∙ second_read c.args.rest.now c.get.result c.get.ensures.lookup.0 c.get.ensures.lookup.1 in
-    inl (
+    λ before out no_blank. inl (
       refl,
-      nothing_stands c.args.rest.now c.requires.some c.requires.no_blank c.requires.no_slash c.requires.no_letter
+      nothing_stands before c.args.rest.now c.requires.some no_blank c.requires.no_comment c.requires.no_letter
           c.requires.no_digit (rw second at c.in-None.ensures),
     )

@@ -1,0 +1,4 @@
+pub mod Handed
+pub mod Parts
+pub mod Behind
+pub mod Divided

@@ -1,0 +1,5 @@
+pub mod Kept
+pub mod Answers
+pub mod Codes
+pub mod Stands
+pub mod Operations

@@ -1,0 +1,26 @@
+//! What expressions of C are in the core, as code: each operation on values that stand for expressions that were read
+//! (docs/MEANING.md, "Functions of C"; `specs/Stands.antt`).
+#![tactic(auto)]
+
+mod conditions;
+mod elements;
+mod ended;
+mod fault;
+mod forms;
+mod hidden;
+mod numbers;
+mod operation;
+mod prelude;
+mod site;
+mod truth;
+mod truths;
+mod value;
+
+pub use elements::{element, negative, positive};
+pub use fault::OperationFault;
+pub use operation::{Operation, operated};
+pub use prelude::Prelude;
+pub use site::Site;
+pub use truth::Truth;
+pub use truths::{both, chosen, compared, either, inverse};
+pub use value::{Evaluated, Number, Outcome, Tested, Value};

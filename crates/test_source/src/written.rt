@@ -1,0 +1,109 @@
+//! Values as texts. A form is its coefficients and its constant, as `[1 0 -2|5]`; a variable is its number, as `x2`.
+
+use lang_tree::{CheckKind, Cond, Deed, Form, Rel};
+use source_value::{Outcome, Value};
+use std::alloc::{AllocError, Global};
+
+fn sign(rel: Rel) -> &'static str {
+    match rel {
+        Rel::Eq => "==",
+        Rel::Ne => "!=",
+        Rel::Lt => "<",
+        Rel::Le => "<=",
+        Rel::Gt => ">",
+        Rel::Ge => ">=",
+    }
+}
+
+fn write_form(alloc: Global, text: &mut String, form: &Form) -> Result<(), AllocError> {
+    text.push_str("[")?;
+    let mut between = "";
+    for number in form.coeffs.as_slice() {
+        text.push_str(between)?;
+        text.push_str(format!(in alloc; "{number}")?.as_str())?;
+        between = " ";
+    }
+    let constant = form.constant;
+    text.push_str(format!(in alloc; "|{constant}]")?.as_str())
+}
+
+fn write_cond(alloc: Global, text: &mut String, cond: &Cond) -> Result<(), AllocError> {
+    match cond {
+        Cond::Free => text.push_str("*"),
+        Cond::Cmp(rel, form) => {
+            write_form(alloc, text, form)?;
+            text.push_str(" ")?;
+            text.push_str(sign(*rel))?;
+            text.push_str(" 0")
+        }
+        Cond::Not(inner) => {
+            text.push_str("!(")?;
+            write_cond(alloc, text, inner)?;
+            text.push_str(")")
+        }
+        Cond::Both(first, second) => {
+            text.push_str("(")?;
+            write_cond(alloc, text, first)?;
+            text.push_str(" && ")?;
+            write_cond(alloc, text, second)?;
+            text.push_str(")")
+        }
+        Cond::Either(first, second) => {
+            text.push_str("(")?;
+            write_cond(alloc, text, first)?;
+            text.push_str(" || ")?;
+            write_cond(alloc, text, second)?;
+            text.push_str(")")
+        }
+    }
+}
+
+fn write_deed(alloc: Global, text: &mut String, deed: &Deed) -> Result<(), AllocError> {
+    match deed {
+        Deed::Set { var, form, .. } => {
+            text.push_str(format!(in alloc; "x{var} := ")?.as_str())?;
+            write_form(alloc, text, form)
+        }
+        Deed::Havoc { var, .. } => text.push_str(format!(in alloc; "x{var} := *")?.as_str()),
+        Deed::Where { cond, .. } => {
+            text.push_str("where ")?;
+            write_cond(alloc, text, cond)
+        }
+        Deed::Check { check, cond, .. } => {
+            let at = check.at;
+            let kind = match check.kind {
+                CheckKind::Divisor => "divisor",
+                CheckKind::Index => "index",
+                _ => "other",
+            };
+            text.push_str(kind)?;
+            text.push_str(format!(in alloc; "@{at} ")?.as_str())?;
+            write_cond(alloc, text, cond)
+        }
+    }
+}
+
+/// The deeds of the value, what it is, and the next hidden variable; `lost` for what isn't kept.
+pub fn written(alloc: Global, value: Value) -> Result<String, AllocError> {
+    let mut text = String::new(alloc);
+    match value.prelude.into_deeds() {
+        Some(deeds) => {
+            for deed in deeds.as_slice() {
+                write_deed(alloc, &mut text, deed)?;
+                text.push_str("; ")?;
+            }
+        }
+        None => text.push_str("lost; ")?,
+    }
+    match value.result {
+        Outcome::Form(form) => write_form(alloc, &mut text, &form)?,
+        Outcome::Truth(truth) => match truth.into_cond() {
+            Some(cond) => write_cond(alloc, &mut text, &cond)?,
+            None => text.push_str("lost")?,
+        },
+        Outcome::Any => text.push_str("any")?,
+    }
+    let next = value.next;
+    text.push_str(format!(in alloc; "; {next}")?.as_str())?;
+    Ok(text)
+}
