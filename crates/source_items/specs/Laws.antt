@@ -9,3 +9,7 @@ abbrev pub OneDivision : Type 0
 OneDivision = (marks : List Mark)
     → ((es fs : Elements) → Holds marks es → Holds marks fs → es ≡ fs)
     × ((one other : Outcome) → Finds one marks → Finds other marks → one ≡ other)
+
+-- and one of these is true of them
+abbrev pub SomeDivision : Type 0
+SomeDivision = (marks : List Mark) → (outcome : Outcome) × Finds outcome marks

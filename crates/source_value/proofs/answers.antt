@@ -2,3 +2,6 @@ pub mod Handed
 pub mod Parts
 pub mod Behind
 pub mod Divided
+pub mod Selected
+pub mod Numbered
+pub mod Divisions

@@ -1,8 +1,8 @@
 -- A code of conditions, by which a proof tells them apart. It is no part of their meaning.
 use Rattle.std.specs.Prelude.{◌≡◌, List, [], ◌∷◌}
 use Rattle.std.proofs.Common.{ap}
-use base.Stored.{Coded, Gv}
-use Rattle.lang_tree.specs.Tree.{Condition, free, Deed, sets, havocs, wheres, checks}
+use base.Stored.{Coded}
+use Rattle.lang_tree.specs.Tree.{Condition, free, Deed, wheres}
 use Rattle.lang_tree.specs.Codes.{deeds_code, deeds_inj}
 
 -- a condition as a deed

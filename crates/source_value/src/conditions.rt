@@ -130,22 +130,18 @@ fn size_of(number: i64) -> i128
     number.unsigned_abs() as i128
 }
 
-/// The variable is the quotient of the form by the number, truncated towards 0.
-pub(crate) fn divides(
-    alloc: Global,
-    form: &Form,
-    divisor: i64,
-    quotient: u32,
-) -> Result<Cond, OperationFault>
-    ensures { Answers IsCondition condition_fits result (divides form.now divisor quotient) }
+// The form is at least 0, and so is what is left of it, which is less than the size.
+fn upper_half(alloc: Global, form: &Form, rest: &Form, size: i128) -> Result<Cond, OperationFault>
+    requires low { pos 0 ≤ℤ size }
+    requires high { size ≤ℤ pos 9223372036854775808 }
+    ensures { Answers IsCondition condition_fits result
+        (both (both (related Rel.Ge form.now (constant_form (pos 0))) (related Rel.Ge rest.now (constant_form (pos 0))))
+        (related Rel.Le rest.now (constant_form (size -ℤ pos 1)))) }
 {
-    let quotient = variable_form(alloc, quotient)?;
-    let rest = rest(alloc, form, divisor, &quotient)?;
-    let size = size_of(divisor);
-    let up = all_three(
+    all_three(
         alloc,
         form,
-        &rest,
+        rest,
         Bound {
             rel: Rel::Ge,
             number: 0,
@@ -158,11 +154,21 @@ pub(crate) fn divides(
             rel: Rel::Le,
             number: size - 1,
         },
-    )?;
-    let down = all_three(
+    )
+}
+
+// The form is below 0, and what is left of it is at most 0, and its opposite less than the size.
+fn lower_half(alloc: Global, form: &Form, rest: &Form, size: i128) -> Result<Cond, OperationFault>
+    requires low { pos 0 ≤ℤ size }
+    requires high { size ≤ℤ pos 9223372036854775808 }
+    ensures { Answers IsCondition condition_fits result
+        (both (both (related Rel.Le form.now (constant_form (negsuc 0))) (related Rel.Le rest.now (constant_form (pos 0))))
+        (related Rel.Ge rest.now (constant_form (pos 1 -ℤ size)))) }
+{
+    all_three(
         alloc,
         form,
-        &rest,
+        rest,
         Bound {
             rel: Rel::Le,
             number: -1,
@@ -175,7 +181,23 @@ pub(crate) fn divides(
             rel: Rel::Ge,
             number: 1 - size,
         },
-    )?;
+    )
+}
+
+/// The variable is the quotient of the form by the number, truncated towards 0.
+pub(crate) fn divides(
+    alloc: Global,
+    form: &Form,
+    divisor: i64,
+    quotient: u32,
+) -> Result<Cond, OperationFault>
+    ensures { Answers IsCondition condition_fits result (divides form.now divisor quotient) }
+{
+    let quotient = variable_form(alloc, quotient)?;
+    let rest = rest(alloc, form, divisor, &quotient)?;
+    let size = size_of(divisor);
+    let up = upper_half(alloc, form, &rest, size)?;
+    let down = lower_half(alloc, form, &rest, size)?;
     Ok(either(alloc, up, down)?)
 }
 

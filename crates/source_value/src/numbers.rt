@@ -1,6 +1,6 @@
 //! Numbers in their range, and lists of them.
 
-ghost use Rattle.std.specs.Prelude.{◌≡◌, ◌+ℤ◌, ◌*ℤ◌, ◌≤ℤ◌, ◌^◌, neg_ℤ, pos, negsuc, map, get_or, true, IfOk};
+ghost use Rattle.std.specs.Prelude.{◌≡◌, ◌≢◌, ◌+ℤ◌, ◌*ℤ◌, ◌≤ℤ◌, ◌^◌, neg_ℤ, pos, negsuc, int_div, int_rem, map, get_or, true, IfOk};
 ghost use Rattle.lang_tree.specs.Numbers.{is_number, are_numbers};
 ghost use Rattle.source_core.specs.Forms.{sums};
 ghost use Rattle.source_value.specs.Answers.{Answers, IsNumber};
@@ -40,6 +40,22 @@ pub(crate) fn multiple_added(left: i64, factor: i128, right: i64) -> Result<i64,
     ensures { Answers IsNumber is_number result (left +ℤ (factor *ℤ right)) }
 {
     ranged(left as i128 + product(factor, right))
+}
+
+/// The quotient of two numbers, truncated towards 0.
+pub(crate) fn quotient_of(number: i64, divisor: i64) -> i128
+    requires { divisor ≢ pos 0 }
+    ensures { result ≡ int_div number divisor }
+{
+    number as i128 / divisor as i128
+}
+
+/// What the quotient of two numbers leaves of the first, with the sign of that.
+pub(crate) fn remainder_of(number: i64, divisor: i64) -> i128
+    requires { divisor ≢ pos 0 }
+    ensures { result ≡ int_rem number divisor }
+{
+    number as i128 % divisor as i128
 }
 
 // The number at a place; none is 0.

@@ -15,6 +15,7 @@ use crate::forms::{
     constant_form, difference, is_constant, is_divisor, multiple, rest, sum, variable_form,
 };
 use crate::hidden::{behind, havocked, taken_where};
+use crate::numbers::{quotient_of, remainder_of};
 use crate::site::Site;
 use crate::truth::Truth;
 use crate::value::{Evaluated, Number, Outcome, Value};
@@ -121,7 +122,7 @@ fn quotient_by(
     if is_unit(divisor) {
         Ok(form_behind(before, multiple(alloc, divisor, &form)?))
     } else if is_constant(&form) {
-        let quotient = form.constant as i128 / divisor as i128;
+        let quotient = quotient_of(form.constant, divisor);
         Ok(form_behind(before, constant_form(alloc, quotient)?))
     } else {
         let hidden = variable_form(alloc, before.next)?;
@@ -145,7 +146,7 @@ fn remainder_by(
     if is_unit(divisor) {
         Ok(form_behind(before, constant_form(alloc, 0)?))
     } else if is_constant(&form) {
-        let remainder = form.constant as i128 % divisor as i128;
+        let remainder = remainder_of(form.constant, divisor);
         Ok(form_behind(before, constant_form(alloc, remainder)?))
     } else {
         let hidden = variable_form(alloc, before.next)?;

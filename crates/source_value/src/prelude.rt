@@ -107,7 +107,7 @@ fn deeds_under(
     deeds: Vec<Deed>,
 ) -> Result<Option<Vec<Deed>>, AllocError>
     ensures { IfOk result (λ all. (n h k : ℕ) (c : Tree) (ds : List DeedTree) → h ≤ k
-        → option_map (λ x. condition_of x.now) above ≡ kept_condition n h c → Some (deeds_of deeds.items) ≡ kept_deeds n k ds
+        → option_map (λ x. condition_of x.now) above.entry ≡ kept_condition n h c → Some (deeds_of deeds.items) ≡ kept_deeds n k ds
         → option_map (λ v. deeds_of v.items) all ≡ kept_deeds n k (all_under c ds)) }
 {
     match above {
@@ -153,6 +153,13 @@ impl Prelude {
         }
     }
 
+    /// The list of the deeds, if they are kept.
+    pub fn into_list(self) -> Option<Vec<Deed>>
+        ensures { option_map (λ v. deeds_of v.items) result ≡ self }
+    {
+        self.kept
+    }
+
     /// The deeds of one prelude and then those of another, read behind it.
     pub(crate) fn joined(self, more: Prelude) -> Result<Prelude, AllocError>
         ensures { IfOk result (λ all. (n h k : ℕ) (ds es : List DeedTree) → h ≤ k
@@ -173,8 +180,8 @@ impl Prelude {
             → self ≡ kept_deeds site.variables h ds
             → all ≡ kept_deeds site.variables next (ds ++ havocs var site.line ∷ [])) }
     {
-        match self.kept {
-            Some(mut deeds) if site.is_within(next) => {
+        match (self.kept, site.is_within(next)) {
+            (Some(mut deeds), true) => {
                 deeds.push(Deed::Havoc {
                     var,
                     line: site.line,

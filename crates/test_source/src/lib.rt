@@ -6,10 +6,10 @@ mod grammar;
 #[cfg(test)]
 mod items;
 #[cfg(test)]
-mod words;
-#[cfg(test)]
 mod limits;
 #[cfg(test)]
 mod rows;
+#[cfg(test)]
+mod words;
 #[cfg(test)]
 mod written;

@@ -1,7 +1,7 @@
 //! Values as texts. A form is its coefficients and its constant, as `[1 0 -2|5]`; a variable is its number, as `x2`.
 
 use lang_tree::{CheckKind, Cond, Deed, Form, Rel};
-use source_value::{Outcome, Value};
+use source_value::{Outcome, Prelude, Truth, Value};
 use std::alloc::{AllocError, Global};
 
 fn sign(rel: Rel) -> &'static str {
@@ -83,27 +83,46 @@ fn write_deed(alloc: Global, text: &mut String, deed: &Deed) -> Result<(), Alloc
     }
 }
 
+fn write_prelude(alloc: Global, text: &mut String, prelude: Prelude) -> Result<(), AllocError> {
+    match prelude.into_deeds() {
+        Some(deeds) => write_deeds(alloc, text, deeds.as_slice()),
+        None => text.push_str("lost; "),
+    }
+}
+
+fn write_deeds(alloc: Global, text: &mut String, deeds: &[Deed]) -> Result<(), AllocError> {
+    for deed in deeds {
+        write_deed(alloc, text, deed)?;
+        text.push_str("; ")?;
+    }
+    Ok(())
+}
+
+fn write_truth(alloc: Global, text: &mut String, truth: Truth) -> Result<(), AllocError> {
+    match truth.into_cond() {
+        Some(cond) => write_cond(alloc, text, &cond),
+        None => text.push_str("lost"),
+    }
+}
+
+fn write_outcome(alloc: Global, text: &mut String, outcome: Outcome) -> Result<(), AllocError> {
+    match outcome {
+        Outcome::Form(form) => write_form(alloc, text, &form),
+        Outcome::Truth(truth) => write_truth(alloc, text, truth),
+        Outcome::Any => text.push_str("any"),
+    }
+}
+
 /// The deeds of the value, what it is, and the next hidden variable; `lost` for what isn't kept.
 pub fn written(alloc: Global, value: Value) -> Result<String, AllocError> {
+    let Value {
+        prelude,
+        result,
+        next,
+    } = value;
     let mut text = String::new(alloc);
-    match value.prelude.into_deeds() {
-        Some(deeds) => {
-            for deed in deeds.as_slice() {
-                write_deed(alloc, &mut text, deed)?;
-                text.push_str("; ")?;
-            }
-        }
-        None => text.push_str("lost; ")?,
-    }
-    match value.result {
-        Outcome::Form(form) => write_form(alloc, &mut text, &form)?,
-        Outcome::Truth(truth) => match truth.into_cond() {
-            Some(cond) => write_cond(alloc, &mut text, &cond)?,
-            None => text.push_str("lost")?,
-        },
-        Outcome::Any => text.push_str("any")?,
-    }
-    let next = value.next;
+    write_prelude(alloc, &mut text, prelude)?;
+    write_outcome(alloc, &mut text, result)?;
     text.push_str(format!(in alloc; "; {next}")?.as_str())?;
     Ok(text)
 }

@@ -1,5 +1,5 @@
 -- Forms and truths of the code behind their preludes.
-use Rattle.std.proofs.Common.{◌≡◌, ◌∙◌, ℕ, List, true, ◌&&◌, refl, ap, sym}
+use Rattle.std.proofs.Common.{◌≡◌, ◌∙◌, ℕ, ap}
 use Rattle.std.proofs.lemmas.Bool.{and_from}
 use Rattle.lang_tree.specs.declared.form.Form.{Form}
 use Rattle.lang_tree.specs.Limits.{has_numbers}

@@ -1,5 +1,5 @@
 -- The two halves of the condition of a quotient.
-use Rattle.std.proofs.Common.{◌≡◌, ◌∙◌, ℕ, ℤ, pos, negsuc, Bool, false, ◌&&◌, refl, sym, ap, arith, nat_le, ◌+◌}
+use Rattle.std.proofs.Common.{◌≡◌, ◌∙◌, ℕ, ℤ, pos, negsuc, false, ◌&&◌, refl, ap, arith, nat_le, ◌+◌}
 use Rattle.std.specs.Prelude.{◌-ℤ◌, nat_abs}
 use Rattle.std.proofs.lemmas.Int.{ints}
 use Rattle.std.proofs.lemmas.Bool.{and_left, and_right}
@@ -10,7 +10,7 @@ use Rattle.lang_tree.specs.Tree.{Condition, both, either}
 use Rattle.lang_tree.specs.Limits.{has_numbers}
 use Rattle.source_core.specs.Forms.{constant_form, variable_form, minus, scaled}
 use Rattle.source_core.specs.Elaborated.{related, divides}
-use Rattle.source_core.specs.Fits.{is_comparable, condition_fits}
+use Rattle.source_core.specs.Fits.{condition_fits}
 use Rattle.source_value.proofs.forms.Made.{form_with, minus-constant}
 
 -- a form less 0 is itself

@@ -1,5 +1,5 @@
 -- Answers that are handed on, and choices of what is wanted.
-use Rattle.std.proofs.Common.{◌≡◌, ◌∙◌, Bool, true, false, cond, Result, Ok, Err, refl, sym, subst}
+use Rattle.std.proofs.Common.{◌≡◌, ◌∙◌, Bool, true, false, cond, Result, Ok, Err, sym, subst}
 use Rattle.std.specs.Result.{IsErrAnd}
 use Rattle.source_value.specs.declared.fault.OperationFault.{OperationFault}
 use Rattle.source_value.specs.declared.fault.OperationFault.TheVariants.{Big, NoMemory}
@@ -31,3 +31,7 @@ when_true P false x y e h = absurd cc
 pub when_false : {A : Type 0} (P : A → Type 0) (b : Bool) (x y : A) → b ≡ false → P y → P (cond b x y)
 when_false P true x y e h = absurd cc
 when_false P false x y e h = h
+
+-- an equation by way of another
+pub along : {A : Type 0} (x y z : A) → y ≡ z → x ≡ y → x ≡ z
+along x y z e f = f ∙ e

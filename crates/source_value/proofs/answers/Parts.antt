@@ -1,14 +1,12 @@
 -- Elaborated expressions are in range where their parts are.
-use Rattle.std.proofs.Common.{◌≡◌, ◌∙◌, ◌++◌, ◌+◌, List, [], ◌∷◌, Bool, true, false, ◌&&◌, refl, ap, sym}
-use Rattle.std.specs.List.{list_all}
+use Rattle.std.proofs.Common.{◌≡◌, ◌∙◌, ◌++◌, List, [], ◌∷◌, true, false, ◌&&◌, refl}
 use Rattle.std.proofs.lemmas.Bool.{and_from, and_left, and_right, and_parts}
 use Rattle.std.proofs.lemmas.List.Folds.{list_all-append}
 use Rattle.lang_tree.specs.declared.form.Form.{Form}
 use Rattle.lang_tree.specs.Limits.{has_numbers}
-use Rattle.lang_tree.specs.Tree.{Condition, negation, both, either, Deed, sets, havocs, wheres, checks}
+use Rattle.lang_tree.specs.Tree.{Condition, Deed, sets, havocs, wheres, checks}
 use Rattle.source_core.specs.Preludes.{under, all_under}
-use Rattle.source_core.specs.Elaborated.{Elaborated, Evaluated, Numbered, Tested, a_form, a_truth, form_behind}
-use Rattle.source_core.specs.Fits.{is_comparable, condition_fits, deed_fits, deeds_fit, fits}
+use Rattle.source_core.specs.Fits.{condition_fits, deed_fits, deeds_fit}
 
 -- deeds in a row are in range where both lists are
 pub deeds_fit_both : (xs ys : List Deed) → deeds_fit xs ≡ true → deeds_fit ys ≡ true → deeds_fit (xs ++ ys) ≡ true

@@ -1,11 +1,10 @@
 -- What is kept of deeds and conditions that are joined.
 use Rattle.std.proofs.Common.{◌≡◌, ◌∙◌, ◌++◌, ◌+◌, ◌≤◌, nat_le, ⊎_elim, true≢false, ℕ, List, [], ◌∷◌, Bool, true, false, ◌&&◌}
 use Rattle.std.proofs.Common.{refl, sym, ap, ap₂, arith}
-use Rattle.std.specs.Prelude.{Option, Some, None}
-use Rattle.std.specs.List.{list_all}
+use Rattle.std.specs.Prelude.{Some, None}
 use Rattle.std.proofs.lemmas.Bool.{and_from, and_left, and_right, and_parts, and_cases, leb-true, le-leb, lt-leb, leb-false}
 use Rattle.std.proofs.lemmas.List.Folds.{list_all-append}
-use Rattle.lang_tree.specs.Tree.{Condition, negation, both, either, leaf_count, Deed, sets, havocs, wheres, checks}
+use Rattle.lang_tree.specs.Tree.{Condition, negation, leaf_count, Deed, sets, havocs, wheres, checks}
 use Rattle.lang_tree.specs.DeedView.{deed_of, deeds_of}
 use Rattle.lang_tree.specs.declared.deed.Deed as code
 use Rattle.source_core.specs.Preludes.{under, all_under}

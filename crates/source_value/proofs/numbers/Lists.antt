@@ -1,9 +1,8 @@
 -- Lists of sums that are made number by number.
 use Rattle.std.proofs.Common.{◌≡◌, ◌∙◌, ◌++◌, ◌+◌, ◌≤◌, ◌<◌, ℕ, zero, suc, ℤ, pos, ◌+ℤ◌, ◌*ℤ◌, List, [], ◌∷◌, length, take, get_or, map}
-use Rattle.std.proofs.Common.{Bool, true, false, ◌&&◌, refl, sym, ap, subst, arith, max, replicate}
-use Rattle.std.specs.List.{list_all}
+use Rattle.std.proofs.Common.{true, false, refl, sym, ap, arith, max, replicate}
 use Rattle.std.proofs.lemmas.Int.{ints}
-use Rattle.std.proofs.lemmas.Bool.{and_from, and_left, and_right, and_parts}
+use Rattle.std.proofs.lemmas.Bool.{and_from, and_left, and_right}
 use Rattle.std.proofs.lemmas.List.{take_more}
 use Rattle.std.proofs.lemmas.List.Folds.{list_all-append}
 use Rattle.std.proofs.Math.IntN.{*ℤ-zero}

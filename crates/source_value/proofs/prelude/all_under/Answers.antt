@@ -1,4 +1,4 @@
-use Rattle.std.proofs.Common.{◌≡◌, ◌∙◌, ◌++◌, ◌∷◌, [], refl, sym, ap, true, length}
+use Rattle.std.proofs.Common.{◌≡◌, ◌∙◌, ◌∷◌, [], refl, sym, ap, true, length}
 use Rattle.std.proofs.lemmas.Bool.{and_from}
 use Rattle.std.proofs.lemmas.Iterator.Adapters.{YieldsList-from_vec}
 use Rattle.std.proofs.lemmas.Iterator.Consumers.{YieldsList-turn, YieldsList-end}
@@ -13,8 +13,8 @@ pub returns-then-not-has_small : goal.returns-then-not-has_small
 returns-then-not-has_small c =
     let g = c.into_iter-deed-iterator.ensures.into_iter_gives in
     let y = YieldsList-from_vec c.args.deeds.items g.0 (g.1 ∙ c.args.deeds.ok.0) in
-    let t = YieldsList-turn y c.loop-deed.yielded _ c.loop-deed.yielded_by _
-    _ c.in-Some.deed c.in-Some.is c.next.ensures.steps in
+    let t = YieldsList-turn y c.loop-deed.yielded _ c.loop-deed.yielded_by _ c.next.new.self
+    c.in-Some.deed c.in-Some.is c.next.ensures.steps in
     let above = condition_of c.args.above.now in
     let all = all_under above (deeds_of c.args.deeds.items) in
     none_kept (have_small all) all
@@ -37,8 +37,7 @@ pub returns : goal.returns
 returns c =
     let g = c.into_iter-deed-iterator.ensures.into_iter_gives in
     let y = YieldsList-from_vec c.args.deeds.items g.0 (g.1 ∙ c.args.deeds.ok.0) in
-    let e = YieldsList-end y c.loop-deed.yielded _ c.loop-deed.yielded_by _
-    _ c.in-None.is c.next.ensures.steps in
+    let e = YieldsList-end y c.loop-deed.yielded _ c.loop-deed.yielded_by _ c.next.new.self c.in-None.is c.next.ensures.steps in
     let above = condition_of c.args.above.now in
     let all = all_under above (deeds_of c.args.deeds.items) in
     let list = deeds_of c.loop-deed.list.items in

@@ -5,10 +5,10 @@ use Rattle.source_value.specs.Kept.{are_unchecked}
 use Rattle.source_value.proofs.kept.Kept.{checks_kept, checks_lost, unchecked_kept}
 use Rattle.source_value.proofs.prelude.deeds_under.Goals as goal
 
-pub returns-in-Some : goal.returns-in-Some
-returns-in-Some c = λ n h k x ds l e f.
+pub returns-in_ok-all_under-in-Some : goal.returns-in_ok-all_under-in-Some
+returns-in_ok-all_under-in-Some c = λ n h k x ds l e f.
     let s : Some (condition_of c.in-Some.above.now) ≡ option_map (λ y. condition_of y.now) c.args.above = search rules in
-    c.in_ok-all_under.ensures ∙ checks_kept n h k x (condition_of c.in-Some.above.now) (deeds_of c.args.deeds.items) ds (s ∙ e) f
+    c.in_ok-all_under-in-Some.ensures ∙ checks_kept n h k x (condition_of c.in-Some.above.now) (deeds_of c.args.deeds.items) ds (s ∙ e) f
 
 pub returns-then-are_unchecked : goal.returns-then-are_unchecked
 returns-then-are_unchecked c = λ n h k x ds l e f.

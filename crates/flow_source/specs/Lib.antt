@@ -1,0 +1,2 @@
+pub mod ByC
+pub mod Laws

@@ -1,0 +1,9 @@
+pub mod results
+pub mod limited
+pub mod lists
+pub mod values
+pub mod changed
+pub mod loops
+pub mod spelled
+pub mod kinds
+pub mod firsts

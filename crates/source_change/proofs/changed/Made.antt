@@ -1,0 +1,67 @@
+-- What the code makes of values.
+use Rattle.std.proofs.Common.{◌≡◌, ◌∙◌, ◌++◌, ◌≤◌, ℕ, Bool, true, false, List, [], Option, Some, None, Result, Ok, Err, refl, sym, ap}
+use Rattle.std.proofs.Common.{subst}
+use Rattle.std.specs.Prelude.{◌&&◌}
+use Rattle.std.proofs.lemmas.List.{append-nil}
+use Rattle.lang_tree.specs.Tree.{Deed}
+use Rattle.source_grammar.specs.Tokens as g
+use Rattle.source_tree.specs.Expressions.{Expression, none, more, joined, number}
+use Rattle.source_core.specs.Elaborated as core
+use Rattle.source_core.specs.Elaborated.{elaborated, evaluated}
+use Rattle.source_core.specs.Fits.{fits, deeds_fit, result_fits}
+use Rattle.source_meaning.specs.declared.fault.FunctionFault.TheVariants.{BigNumber}
+use Rattle.source_meaning.specs.Results.{provided}
+use Rattle.source_meaning.specs.Expressions.{ranged}
+use Rattle.source_meaning.specs.Changes.{stepped}
+use Rattle.source_value.specs.Kept.{kept_deeds}
+use Rattle.source_value.specs.Stands.{Stands, StandsEvaluated}
+use Rattle.source_value.specs.declared.value.Value.{Value}
+use Rattle.source_value.specs.declared.value.Evaluated.{Evaluated}
+use Rattle.source_reader.specs.Answers.{Answers}
+use Rattle.source_reader.specs.declared.stop.Stop.{Stop}
+use Rattle.source_reader.specs.declared.stop.Stop.TheVariants.{Fault}
+use Rattle.source_change.specs.declared.deeds.Changed.TheVariants as changed
+use Rattle.source_change.specs.Changed.{Aim, a_variable, an_element, var_of, change_to, StandsChange, step_by}
+use Rattle.source_change.proofs.limited.Limits.{both_true}
+use Rattle.source_change.proofs.limited.Told.{told}
+
+module _ (n line : ℕ) where
+  -- a number in its range
+  pub ranged_ok : (h sign : ℕ) (e : Expression) (v : Value) → Stands n v (elaborated line e h)
+      → Answers (λ (v : Value) x. Stands n v (elaborated line x h)) (Ok v) (ranged line sign h e)
+  ranged_ok h sign e v s = (e, ap (λ b. provided b (BigNumber sign) e) s.numbers, s)
+
+  -- and one that isn't
+  pub ranged_big : {A : Type 0} (Is : A → Expression → Type 0) (s : Stop) (h sign : ℕ) (e : Expression) → s ≡ Fault (BigNumber sign)
+      → fits (elaborated line e h) ≡ false → Answers Is (Err s) (ranged line sign h e)
+  ranged_big Is s h sign e k f = told Is s (BigNumber sign) (ranged line sign h e) k (ap (λ b. provided b (BigNumber sign) e) f)
+
+  -- a variable takes a value
+  pub to_some : (v : ℕ) (value : Value) (a : Aim) (e : Expression) → Some v ≡ var_of a → Stands n value (elaborated line e n)
+      → StandsChange n line (changed.Sets v value) (change_to a e line)
+  to_some v value (a_variable i at) e h s = let k : v ≡ i = cc in (k, refl, s)
+  to_some v value (an_element old) e h s = cc
+
+  -- an expression alone is evaluated
+  pub alone : (r : Evaluated) (value : Value) (e : Expression) → r.prelude ≡ value.prelude → r.next ≡ value.next
+      → Stands n value (elaborated line e n) → StandsEvaluated n r (evaluated line (more e none) n)
+  alone r value e p q s =
+      let x = elaborated line e n in
+      let f = both_true (deeds_fit x.prelude) (result_fits x.result) s.numbers in
+      record {
+        prelude = p ∙ s.prelude ∙ ap (kept_deeds n x.next) (sym (append-nil x.prelude));
+        next = q ∙ s.next;
+        numbers = ap deeds_fit (append-nil x.prelude) ∙ f.0;
+      }
+
+  -- what is written to an element is evaluated
+  pub to_none : (r : Evaluated) (value : Value) (a : Aim) (e : Expression) → None ≡ var_of a → r.prelude ≡ value.prelude
+      → r.next ≡ value.next
+      → Stands n value (elaborated line e n) → StandsChange n line (changed.Evaluates r) (change_to a e line)
+  to_none r value (a_variable i at) e h p q s = cc
+  to_none r value (an_element old) e h p q s = (refl, alone r value e p q s)
+
+-- a step is an operation with 1
+pub stepped_so : (d : g.Direction) (sign : ℕ) (old : Expression) → stepped d sign old ≡ joined (step_by d) sign old (number 1 sign)
+stepped_so g.up sign old = refl
+stepped_so g.down sign old = refl

@@ -1,0 +1,75 @@
+use Rattle.std.proofs.Common.{◌≡◌, ◌∙◌, ◌∷◌, [], ℕ, sym, ap₂, refl, subst, List, Result, Ok, Err}
+use Rattle.lang_tokens.specs.Lines.{line_at}
+use Rattle.source_grammar.specs.Grammar.{Expr}
+use Rattle.source_grammar.specs.Tokens.{Token}
+use Rattle.source_tree.specs.Expressions.{Expression}
+use Rattle.source_core.specs.Elaborated.{Tested, elaborated, tested}
+use Rattle.source_core.specs.Core.{condition_of}
+use Rattle.source_meaning.specs.declared.fault.FunctionFault.{FunctionFault}
+use Rattle.source_meaning.specs.Results.{◌>>=◌}
+use Rattle.source_meaning.specs.Names.{State}
+use Rattle.source_meaning.specs.Limits.{limited}
+use Rattle.source_meaning.specs.Expressions.{read, as_condition, first_of}
+use Rattle.source_meaning.specs.Statements.{read_condition}
+use Rattle.source_expression.specs.Joins as joins
+use Rattle.source_expression.specs.Sides.{IsTestedOf}
+use Rattle.source_value.specs.declared.value.Tested as code
+use Rattle.source_reader.specs.Answers.{Answers}
+use Rattle.source_reader.specs.Reading.{Reading, at_tokens}
+use Rattle.source_change.specs.Tests.{IsTest}
+use Rattle.source_change.specs.declared.conditions.Test.{Test}
+use Rattle.source_change.proofs.results.Answered.{err_then, ok_then}
+use Rattle.source_change.proofs.results.Binds.{bind_assoc}
+use Rattle.source_change.proofs.limited.Told.{as_limited}
+use Rattle.source_change.proofs.firsts.Going.{came_to}
+use Rattle.source_change.proofs.conditions.read_test.Goals as goal
+
+-- the limits of a condition in this line over v variables
+abbrev within : (at l v : ℕ) → Expression → Result Expression FunctionFault
+within at l v x = let t : Tested = tested (elaborated l x v) in limited v at t.next t.prelude (t.condition ∷ []) x
+
+-- a condition and then its limits
+so : (line : ℕ → ℕ) (n : ℕ) (st : State) (at : ℕ) (e : Expr) (l v : ℕ) → l ≡ line at → v ≡ n
+    → read_condition line n st at e ≡ (joins.read_condition l st e v >>= within at l v)
+so line n st at e l v p q =
+    sym (bind_assoc (read (line at) st e n) (λ x. as_condition (line at) (first_of e) n x) (within at (line at) n))
+    ∙ ap₂ (λ l v. joins.read_condition l st e v >>= within at l v) (sym p) (sym q)
+
+-- the test that was read
+abbrev Was : (n line : ℕ) → Reading → Reading → List Token → Test → Expression → Type 0
+Was n line old new rest t x = IsTest t (condition_of n line x) × (new ≡ at_tokens old rest)
+
+pub returns-in_err-tested-clause-reads : goal.returns-in_err-tested-clause-reads
+returns-in_err-tested-clause-reads c = λ e rest g a f.
+    let old : Reading = c.args.reader.now in
+    let l : ℕ = c.site-site.result.line in
+    let v : ℕ = c.site-site.result.variables in
+    let is = Was old.variables (line_at old.text c.args.at) old c.condition.new.reader rest in
+    let P : Result Expression FunctionFault → Type 0 = λ w. Answers is c.from_residual.result w in
+    subst P (sym (so (line_at old.text) old.variables c.args.known.now c.args.at e l v c.site-site.ensures.line
+    c.site-site.ensures.variables))
+    (err_then (λ (t : code.Tested) x. IsTestedOf c.site-site.result v t x ×
+    (c.condition.new.reader.ahead ≡ rest)) is c.from_residual.result c.in_err-tested.field-0.0
+    (joins.read_condition l c.args.known.now e v) (within c.args.at l v) c.from_residual.ensures.1
+    (c.in_err-tested.ensures.reads e rest g f a))
+
+pub returns-clause-reads : goal.returns-clause-reads
+returns-clause-reads c = λ e rest g a f.
+    let old : Reading = c.args.reader.now in
+    let new : Reading = c.condition.new.reader in
+    let l : ℕ = c.site-site.result.line in
+    let v : ℕ = c.site-site.result.variables in
+    let line : ℕ = line_at old.text c.args.at in
+    let is = Was old.variables line old new rest in
+    let P : Result Expression FunctionFault → Type 0 = λ w. Answers is c.limited_test.result w in
+    subst P (sym (so (line_at old.text) old.variables c.args.known.now c.args.at e l v c.site-site.ensures.line
+    c.site-site.ensures.variables))
+    (ok_then (λ (t : code.Tested) x. IsTestedOf c.site-site.result v t x ×
+    (new.ahead ≡ rest)) is c.in_ok-tested.tested c.limited_test.result
+    (joins.read_condition l c.args.known.now e v) (within c.args.at l v) (c.in_ok-tested.ensures.reads e rest g f a)
+    (λ x s. let t : Tested = tested (elaborated l x v) in
+    let same : t ≡ condition_of old.variables line x = ap₂ (λ l v. tested
+    (elaborated l x v)) c.site-site.ensures.line c.site-site.ensures.variables in
+    as_limited v c.args.at t.next t.prelude (t.condition ∷ []) IsTest is c.limited_test.result t x
+    (λ r i. let Q : Tested → Type 0 = λ u. IsTest r u in (subst Q same i, came_to old new rest c.in_ok-tested.ensures.goes s.1))
+    (c.limited_test.ensures t s.0)))

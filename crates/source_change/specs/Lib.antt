@@ -1,0 +1,5 @@
+pub mod Onto
+pub mod Tests
+pub mod Changed
+pub mod Nexts
+pub mod Stops

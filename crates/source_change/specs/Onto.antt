@@ -1,0 +1,56 @@
+-- How what is read is spelled before other tokens. (`proofs/onto`: it is the spelling of the grammar with them behind it.)
+use Rattle.std.specs.Prelude.{List, [], ◌∷◌, ◌++◌}
+use Rattle.source_grammar.specs.Tokens.{replaces, a_name, a_number, left_bracket, right_bracket, comma, change_sign, step_sign, Token}
+use Rattle.source_grammar.specs.Tokens.{token}
+use Rattle.source_grammar.specs.Grammar.{spell_expr, Index, no_index, index, Place, place, Effect, assigns, steps, Update, update}
+use Rattle.source_grammar.specs.Grammar.{step_before, MoreUpdates, last_update, next_update, Updates, no_updates, some_updates, Initialiser}
+use Rattle.source_grammar.specs.Grammar.{bare, given, sized, Declarator, declarator, MoreDeclarators, last_declarator, next_declarator}
+use Rattle.source_grammar.specs.Grammar.{Declarators, declares}
+
+-- an index, or none
+abbrev pub onto_index : Index → List Token → List Token
+onto_index no_index w = w
+onto_index (index a e b) w = token left_bracket a ∷ (spell_expr e ++ token right_bracket b ∷ w)
+
+-- a place
+abbrev pub onto_place : Place → List Token → List Token
+onto_place (place x a i) w = token (a_name x) a ∷ onto_index i w
+
+-- what is done to a place
+abbrev pub onto_effect : Effect → List Token → List Token
+onto_effect (assigns g a e) w = token (change_sign g) a ∷ (spell_expr e ++ w)
+onto_effect (steps g a) w = token (step_sign g) a ∷ w
+
+-- a change
+abbrev pub onto_update : Update → List Token → List Token
+onto_update (update p f) w = onto_place p (onto_effect f w)
+onto_update (step_before g a p) w = token (step_sign g) a ∷ onto_place p w
+
+-- the changes behind the first
+abbrev pub onto_more_updates : MoreUpdates → List Token → List Token
+onto_more_updates last_update w = w
+onto_more_updates (next_update a u us) w = token comma a ∷ onto_update u (onto_more_updates us w)
+
+-- changes
+abbrev pub onto_updates : Updates → List Token → List Token
+onto_updates no_updates w = w
+onto_updates (some_updates u us) w = onto_update u (onto_more_updates us w)
+
+-- what stands behind a name that is declared
+abbrev pub onto_initialiser : Initialiser → List Token → List Token
+onto_initialiser bare w = w
+onto_initialiser (given a e) w = token (change_sign replaces) a ∷ (spell_expr e ++ w)
+onto_initialiser (sized a n b c) w = token left_bracket a ∷ token (a_number n) b ∷ token right_bracket c ∷ w
+
+-- a name that is declared
+abbrev pub onto_declarator : Declarator → List Token → List Token
+onto_declarator (declarator x a i) w = token (a_name x) a ∷ onto_initialiser i w
+
+-- the names behind the first
+abbrev pub onto_more_declarators : MoreDeclarators → List Token → List Token
+onto_more_declarators last_declarator w = w
+onto_more_declarators (next_declarator a x xs) w = token comma a ∷ onto_declarator x (onto_more_declarators xs w)
+
+-- names that are declared
+abbrev pub onto_declarators : Declarators → List Token → List Token
+onto_declarators (declares x xs) w = onto_declarator x (onto_more_declarators xs w)

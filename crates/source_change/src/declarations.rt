@@ -1,0 +1,140 @@
+//! Names that are declared.
+
+ghost use Rattle.std.specs.Prelude.{◌≡◌, ◌<◌, ◌≤◌, ◌++◌, ◌∷◌, ℕ, List, length, OnOk};
+ghost use Rattle.lang_tokens.specs.Lines.{line_at};
+ghost use Rattle.source_grammar.specs.Tokens.{Token, token, change_sign, replaces};
+ghost use Rattle.source_grammar.specs.Grammar.{Expr, Groups, Initialiser, GoodInitialiser, bare, given, sized, Declarator, GoodDeclarator};
+ghost use Rattle.source_grammar.specs.Grammar.{declarator, MoreDeclarators, GoodMoreDeclarators, Declarators, GoodDeclarators, spell_expr};
+ghost use Rattle.source_grammar.proofs.grammar.Follow.{AfterPart, AfterList};
+ghost use Rattle.source_meaning.specs.Statements.{read_declarator, read_more_declarators, read_declarators};
+ghost use Rattle.source_reader.specs.Answers.{Answers};
+ghost use Rattle.source_reader.specs.Reading.{first_kind};
+ghost use Rattle.source_change.specs.Onto.{onto_initialiser, onto_declarator, onto_more_declarators, onto_declarators};
+ghost use Rattle.source_change.specs.Tests.{WasRead};
+
+use crate::deeds::{Changed, counted_change};
+use crate::names::{Named, take_name};
+use crate::nexts::{Next, coming, has_comma};
+use crate::pushed::push_deeds;
+use lang_tree::Stmt;
+use source_expression::expression;
+use source_names::Known;
+use source_reader::{Mark, Reader, Stop};
+
+// A name that is declared without a value.
+fn bare(reader: &Reader, known: &mut Known, first: &Named, out: &mut Vec<Stmt>) -> Result<(), Stop>
+    ensures { Answers (λ _ r. WasRead reader.now.variables reader.now.ahead reader.now reader.now known.new out.old.items out.new.items r)
+        result (read_declarator (line_at reader.now.text) reader.now.variables known.old (declarator first.now.name first.now.at bare)) }
+{
+    let var = known.variables();
+    known.add_variable(&first.name, first.at)?;
+    known.count(first.at, 1)?;
+    out.push(Stmt::Havoc {
+        var,
+        line: reader.line(first.at),
+    })?;
+    Ok(())
+}
+
+// A name that is declared with the value behind its `=`.
+fn given(
+    reader: &mut Reader,
+    known: &mut Known,
+    first: &Named,
+    out: &mut Vec<Stmt>,
+) -> Result<(), Stop>
+    ensures reads { (b : ℕ) (e : Expr) (rest : List Token) → Groups 0 e → reader.old.ahead ≡ token (change_sign replaces) b ∷
+        (spell_expr e ++ rest)
+        → AfterPart (first_kind rest)
+        → Answers (λ _ r. WasRead reader.old.variables rest reader.old reader.new known.new out.old.items out.new.items r)
+        result (read_declarator (line_at reader.old.text) reader.old.variables known.old (declarator first.now.name first.now.at
+        (given b e))) }
+    ensures shorter { OnOk result (length reader.new.ahead ≤ length reader.old.ahead) }
+{
+    reader.skip();
+    let site = reader.site(first.at);
+    let value = expression(reader, known, site, site.variables)?;
+    let var = known.variables();
+    known.add_variable(&first.name, first.at)?;
+    let changed = Changed::Sets { var, value };
+    let deeds = counted_change(reader.alloc(), known, site, first.at, changed)?;
+    push_deeds(out, deeds)?;
+    Ok(())
+}
+
+// The brackets of an array that is declared.
+fn sized(reader: &mut Reader, known: &mut Known, first: &Named) -> Result<(), Stop>
+    ensures reads { (b size c d : ℕ) (rest : List Token) → reader.old.ahead ≡ onto_initialiser (sized b size c d) rest
+        → (out : List Stmt) → Answers (λ _ r. WasRead reader.old.variables rest reader.old reader.new known.new out out r)
+        result (read_declarator (line_at reader.old.text) reader.old.variables known.old (declarator first.now.name first.now.at
+        (sized b size c d))) }
+    ensures shorter { OnOk result (length reader.new.ahead ≤ length reader.old.ahead) }
+{
+    reader.take(Mark::LeftBracket)?;
+    let place = reader.at();
+    let size = reader.number();
+    reader.skip();
+    reader.take(Mark::RightBracket)?;
+    known.add_array(&first.name, first.at, size, place)?;
+    Ok(())
+}
+
+// What stands behind a name that is declared.
+fn initialiser(
+    reader: &mut Reader,
+    known: &mut Known,
+    first: &Named,
+    out: &mut Vec<Stmt>,
+) -> Result<(), Stop>
+    ensures reads { (i : Initialiser) (rest : List Token) → GoodInitialiser i → reader.old.ahead ≡ onto_initialiser i rest
+        → AfterPart (first_kind rest)
+        → Answers (λ _ r. WasRead reader.old.variables rest reader.old reader.new known.new out.old.items out.new.items r)
+        result (read_declarator (line_at reader.old.text) reader.old.variables known.old (declarator first.now.name first.now.at i)) }
+    ensures shorter { OnOk result (length reader.new.ahead ≤ length reader.old.ahead) }
+{
+    match coming(reader) {
+        Next::Change(_) => given(reader, known, first, out),
+        Next::Bracket => sized(reader, known, first),
+        _ => bare(reader, known, first, out),
+    }
+}
+
+// A name that is declared.
+fn declarator(reader: &mut Reader, known: &mut Known, out: &mut Vec<Stmt>) -> Result<(), Stop>
+    ensures reads { (x : Declarator) (rest : List Token) → GoodDeclarator x → reader.old.ahead ≡ onto_declarator x rest
+        → AfterPart (first_kind rest)
+        → Answers (λ _ r. WasRead reader.old.variables rest reader.old reader.new known.new out.old.items out.new.items r)
+        result (read_declarator (line_at reader.old.text) reader.old.variables known.old x) }
+    ensures shorter { OnOk result (length reader.new.ahead < length reader.old.ahead) }
+{
+    let first = take_name(reader)?;
+    initialiser(reader, known, &first, out)
+}
+
+// The names behind the first, each with its comma.
+fn more_declarators(reader: &mut Reader, known: &mut Known, out: &mut Vec<Stmt>) -> Result<(), Stop>
+    ensures reads { (xs : MoreDeclarators) (rest : List Token) → GoodMoreDeclarators xs → reader.old.ahead ≡ onto_more_declarators xs rest
+        → AfterList (first_kind rest)
+        → Answers (λ _ r. WasRead reader.old.variables rest reader.old reader.new known.new out.old.items out.new.items r)
+        result (read_more_declarators (line_at reader.old.text) reader.old.variables known.old xs) }
+    ensures shorter { OnOk result (length reader.new.ahead ≤ length reader.old.ahead) }
+{
+    'names: while has_comma(reader) {
+        reader.skip();
+        declarator(reader, known, out)?;
+    }
+    Ok(())
+}
+
+/// Names that are declared with commas between them, the first next; their statements come behind those that are there
+/// (docs/MEANING.md, "Functions of C").
+pub fn declarators(reader: &mut Reader, known: &mut Known, out: &mut Vec<Stmt>) -> Result<(), Stop>
+    ensures reads { (xs : Declarators) (rest : List Token) → GoodDeclarators xs → reader.old.ahead ≡ onto_declarators xs rest
+        → AfterList (first_kind rest)
+        → Answers (λ _ r. WasRead reader.old.variables rest reader.old reader.new known.new out.old.items out.new.items r)
+        result (read_declarators (line_at reader.old.text) reader.old.variables known.old xs) }
+    ensures shorter { OnOk result (length reader.new.ahead < length reader.old.ahead) }
+{
+    declarator(reader, known, out)?;
+    more_declarators(reader, known, out)
+}

@@ -1,0 +1,11 @@
+pub mod Answering
+pub mod Grows
+pub mod Shapes
+pub mod Joined
+pub mod Listed
+pub mod Worked
+pub mod Leaves
+pub mod Parts
+pub mod Whole
+pub mod Behind
+pub mod Given

@@ -1,0 +1,5 @@
+pub mod Placed
+pub mod Signs
+pub mod Sides
+pub mod Readings
+pub mod Joins

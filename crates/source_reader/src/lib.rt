@@ -1,0 +1,11 @@
+//! The tokens of a function as expressions and statements are read from them, one by one
+//! (docs/MEANING.md, "Functions of C").
+#![tactic(auto)]
+
+mod mark;
+mod reader;
+mod stop;
+
+pub use mark::Mark;
+pub use reader::Reader;
+pub use stop::Stop;

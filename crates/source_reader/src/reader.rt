@@ -1,0 +1,194 @@
+//! A reader of tokens.
+
+ghost use Rattle.std.specs.Prelude.{◌≡◌, ◌≤◌, ℕ, List, ◌∷◌, length, Some, IsTrue, MatchResult};
+ghost use Rattle.base_limits.specs.declared.limits.TheConstants.{MOST_TEXT_BYTES};
+ghost use Rattle.lang_tokens.specs.Lines.{line_at};
+ghost use Rattle.lang_tree.specs.Word.{is_word};
+ghost use Rattle.source_grammar.specs.Tokens.{Token as Spelled, token, a_name};
+ghost use Rattle.source_grammar.specs.Symbols.{symbol_kind};
+ghost use Rattle.source_grammar.specs.View.{plain_kind};
+ghost use Rattle.source_tokens.specs.View.{bytes_of, kind_of, tokens_of};
+ghost use Rattle.source_tokens.specs.Texts.{IsTokenIn, AreTokensIn};
+ghost use Rattle.source_reader.specs.Marks.{mark_in};
+ghost use Rattle.source_reader.specs.Reading.{behind_first, first_kind, first_place, name_in, number_in, passed};
+ghost use Rattle.source_reader.specs.declared.stop.Stop.TheVariants.{Unlike};
+
+use crate::mark::{Mark, mark_in};
+use crate::stop::Stop;
+use lang_tokens::{Kind, Token, line_of};
+use source_grammar::Symbol;
+use source_tokens::symbol_of;
+use source_value::Site;
+use std::alloc::Global;
+use std::marker::Model;
+
+/// The tokens of a function that are still to come. Contracts see the text, these tokens as the grammar does, and the number of the
+/// function's variables (`specs/Reading.antt`).
+#[derive(Drop)]
+pub struct Reader<'a> {
+    alloc: Global,
+    text: &'a [u8],
+    rest: &'a [Token],
+    variables: u32,
+}
+
+impl<'a> Model for Reader<'a> {
+    ghost use Rattle.std.specs.Prelude.{◌≤◌, length};
+    ghost use Rattle.base_limits.specs.declared.limits.TheConstants.{MOST_TEXT_BYTES};
+    ghost use Rattle.source_tokens.specs.View.{tokens_of};
+    ghost use Rattle.source_tokens.specs.Texts.{AreTokensIn};
+    ghost use Rattle.source_reader.specs.Reading.{Reading};
+
+    ghost Value = { Reading };
+
+    ghost view = { λ r. record { text = r.text.now; ahead = tokens_of r.text.now r.rest.now; variables = r.variables } };
+
+    ghost invariant = { λ r. (length r.text.now ≤ MOST_TEXT_BYTES) × AreTokensIn r.text.now r.rest.now };
+}
+
+// The bytes of a name; none of another token.
+fn name_of<'a>(text: &'a [u8], token: &Token) -> &'a [u8]
+    requires { IsTokenIn text.now token.now }
+    ensures bytes { result.now ≡ name_in (kind_of (bytes_of text.now token.now) token.now.kind) }
+    ensures word { (x : List ℕ) → kind_of (bytes_of text.now token.now) token.now.kind ≡ a_name x → IsTrue (is_word x) }
+{
+    match token.kind {
+        Kind::Name => {
+            let from = token.at as usize;
+            &text[from..from + token.len as usize]
+        }
+        _ => &[],
+    }
+}
+
+// The value of a number; 0 of another token.
+fn value_of(token: &Token) -> u64
+    ensures { (bytes : List ℕ) → result ≡ number_in (kind_of bytes token.now.kind) }
+{
+    match token.kind {
+        Kind::Number(number) if number >= 0 => number as u64,
+        _ => 0,
+    }
+}
+
+impl<'a> Reader<'a> {
+    /// Before the first of these tokens of a text, which are those of a function with so many variables.
+    pub fn new(alloc: Global, text: &'a [u8], tokens: &'a [Token], variables: u32) -> Self
+        requires few { length text.now ≤ MOST_TEXT_BYTES }
+        requires placed { AreTokensIn text.now tokens.now }
+        ensures { result ≡ record { text = text.now; ahead = tokens_of text.now tokens.now; variables = variables } }
+    {
+        Reader {
+            alloc,
+            text,
+            rest: tokens,
+            variables,
+        }
+    }
+
+    /// Where memory comes from.
+    pub fn alloc(&self) -> Global {
+        self.alloc
+    }
+
+    /// How many variables the function has, which is the number of the first hidden one.
+    pub fn variables(&self) -> u32
+        ensures { result ≡ self.now.variables }
+    {
+        self.variables
+    }
+
+    /// The line of the byte at a place, counted from 1; `at` counts the bytes before it.
+    pub fn line(&self, at: u32) -> u32
+        ensures { result ≡ line_at self.now.text at }
+    {
+        line_of(self.text, at)
+    }
+
+    /// The statement whose first token is at this place.
+    pub fn site(&self, at: u32) -> Site
+        ensures variables { result.variables ≡ self.now.variables }
+        ensures line { result.line ≡ line_at self.now.text at }
+    {
+        Site {
+            variables: self.variables,
+            line: self.line(at),
+        }
+    }
+
+    /// What comes next, whatever its name or number; behind the last token nothing that stands in a function.
+    pub fn symbol(&self) -> Symbol
+        ensures { symbol_kind result ≡ plain_kind (first_kind self.now.ahead) }
+    {
+        match self.rest {
+            [] => Symbol::Other,
+            [first, ..] => symbol_of(first),
+        }
+    }
+
+    /// What comes behind that, likewise.
+    pub fn second(&self) -> Symbol
+        ensures { symbol_kind result ≡ plain_kind (first_kind (behind_first self.now.ahead)) }
+    {
+        match self.rest {
+            [_, second, ..] => symbol_of(second),
+            _ => Symbol::Other,
+        }
+    }
+
+    /// The place of what comes next: how many bytes stand before it. 0 behind the last token.
+    pub fn at(&self) -> u32
+        ensures { result ≡ first_place self.now.ahead }
+    {
+        match self.rest {
+            [] => 0,
+            [first, ..] => first.at,
+        }
+    }
+
+    /// The bytes of the name that comes next, which are a word of 1 to 32 bytes; none where no name does.
+    pub fn name(&self) -> &'a [u8]
+        ensures bytes { result.now ≡ name_in (first_kind self.now.ahead) }
+        ensures word { (x : List ℕ) (at : ℕ) (ts : List Spelled) → self.now.ahead ≡ token (a_name x) at ∷ ts → IsTrue (is_word x) }
+    {
+        match self.rest {
+            [] => &[],
+            [first, ..] => name_of(self.text, first),
+        }
+    }
+
+    /// The value of the number that comes next, at most 2^63 - 1; 0 where no number does.
+    pub fn number(&self) -> u64
+        ensures { result ≡ number_in (first_kind self.now.ahead) }
+    {
+        match self.rest {
+            [] => 0,
+            [first, ..] => value_of(first),
+        }
+    }
+
+    /// Passes what comes next.
+    pub fn skip(&mut self)
+        ensures { self.new ≡ passed self.old }
+    {
+        if let [_, rest @ ..] = self.rest {
+            self.rest = rest;
+        }
+    }
+
+    /// Passes this sign or word, which has to come next, and tells its place. Where something else comes next, the reader stays.
+    pub fn take(&mut self, mark: Mark) -> Result<u32, Stop>
+        ensures { MatchResult result
+            (λ at. (mark_in (first_kind self.old.ahead) ≡ Some mark) × (at ≡ first_place self.old.ahead) × (self.new ≡ passed self.old))
+            (λ stop. (mark_in (first_kind self.old.ahead) ≡ Some mark → ⊥) × (stop ≡ Unlike) × (self.new ≡ self.old)) }
+    {
+        match mark_in(self.symbol()) {
+            Some(found) if found == mark => {
+                let at = self.at();
+                self.skip();
+                Ok(at)
+            }
+            _ => Err(Stop::Unlike),
+        }
+    }
+}
