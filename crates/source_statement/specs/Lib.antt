@@ -1,0 +1,5 @@
+pub mod Onto
+pub mod Parts
+pub mod Whole
+pub mod Headed
+pub mod Starts
