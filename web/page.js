@@ -90,8 +90,8 @@ function workBreaks(error, broken) {
     else broken(`The program broke off: ${error.message}`);
 }
 
-/** Whether a text may have checks. */
-const mayHaveChecks = (program) => program.includes('assert');
+/** Whether a text may have checks: assertions, indexes, divisors, places that aren’t to be reached. */
+const mayHaveChecks = (program) => /assert|[[/%]|reach_error|__VERIFIER_error/.test(program);
 
 /** Runs the program over what is open: for the bounds, and behind these for the verdicts on checks. */
 async function run() {

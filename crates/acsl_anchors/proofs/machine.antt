@@ -1,4 +1,5 @@
 pub mod Skipped
 pub mod Scopes
 pub mod Found
-pub mod Programs
+pub mod Functions
+pub mod Parts

@@ -1,3 +1,5 @@
 pub mod Ranges
 pub mod Anchors
+pub mod Slashes
+pub mod Ends
 pub mod Tokens

@@ -1,5 +1,6 @@
 pub mod Binds
-pub mod Parts
+pub mod Names
 pub mod Points
+pub mod Parts
 pub mod Matches
-pub mod Programs
+pub mod Functions

@@ -1,9 +1,11 @@
--- The loops, the labels and the end of a program in the order of its text, and the variables that are known there.
+-- The loops, the labels and the end of a function in the order of its text, and the variables that are known there.
 use Rattle.std.specs.Prelude.{◌+◌, ◌++◌, ℕ, List, [], ◌∷◌}
-use Rattle.lang_grammar.specs.Grammar.{Declarators, declares, declares_more, ForFirst, no_first, declared_first, updated_first}
-use Rattle.lang_grammar.specs.Grammar.{Core, empty, block, if_alone, if_else, repeat, repeat_after, repeat_for, jumps, demands, updates}
-use Rattle.lang_grammar.specs.Grammar.{Sub, labelled, plain, Items, no_items, label, declaration, item}
-use Rattle.lang_grammar.specs.Grammar.{Return, no_return, returns, returns_minus, Program, program}
+use Rattle.source_grammar.specs.Grammar.{Initialiser, bare, given, sized, Declarator, declarator, MoreDeclarators, last_declarator}
+use Rattle.source_grammar.specs.Grammar.{next_declarator, Declarators, declares, ForFirst, declared_first, updated_first}
+use Rattle.source_grammar.specs.Grammar.{Core, empty, block, if_alone, if_else, repeat, repeat_after, repeat_for, jumps, returns, demands}
+use Rattle.source_grammar.specs.Grammar.{calls, updates, Sub, labelled, plain, Items, no_items, label, declaration, item}
+use Rattle.source_grammar.specs.Grammar.{MoreParameters, last_parameter, next_parameter, Parameters, no_parameters, void_parameters}
+use Rattle.source_grammar.specs.Grammar.{int_parameters, Function, function}
 
 -- what stands at an anchor
 pub data What : Type 0 where
@@ -28,16 +30,29 @@ pub record Scope : Type 0 where
 abbrev pub declared_one : Scope → Scope
 declared_one s = record { declared = s.declared + 1; known = s.known ++ s.declared ∷ [] }
 
+-- the scope after a name that is declared: an array is no variable
+abbrev pub scope_by : Initialiser → Scope → Scope
+scope_by bare s = declared_one s
+scope_by (given a e) s = declared_one s
+scope_by (sized a n b c) s = s
+
+-- the scope after a declarator
+abbrev pub scope_declarator : Declarator → Scope → Scope
+scope_declarator (declarator x a i) s = scope_by i s
+
+-- the scope after the declarators behind the first
+abbrev pub scope_more_declarators : MoreDeclarators → Scope → Scope
+scope_more_declarators last_declarator s = s
+scope_more_declarators (next_declarator a x xs) s = scope_more_declarators xs (scope_declarator x s)
+
 -- the scope after declarators
 abbrev pub scope_declarators : Declarators → Scope → Scope
-scope_declarators (declares x a) s = declared_one s
-scope_declarators (declares_more x a xs) s = scope_declarators xs (declared_one s)
+scope_declarators (declares x xs) s = scope_more_declarators xs (scope_declarator x s)
 
 -- the scope after the first part of a `for`'s head
 abbrev pub scope_first : ForFirst → Scope → Scope
-scope_first (no_first a) s = s
 scope_first (declared_first a xs) s = scope_declarators xs s
-scope_first (updated_first u a) s = s
+scope_first (updated_first us) s = s
 
 -- behind a block what was known before it is known
 abbrev pub closing : Scope → Scope → Scope
@@ -52,9 +67,11 @@ abbrev mutual
   scope_core (if_else a b e c first d second) s = scope_sub second (scope_sub first s)
   scope_core (repeat a b e c body) s = scope_sub body s
   scope_core (repeat_after a body b c e d i) s = scope_sub body s
-  scope_core (repeat_for a b f t l body) s = closing s (scope_sub body (scope_first f s))
+  scope_core (repeat_for a b f c t d us i body) s = closing s (scope_sub body (scope_first f s))
   scope_core (jumps j a b) s = s
+  scope_core (returns a t b) s = s
   scope_core (demands k a b e c d) s = s
+  scope_core (calls x a b es c d) s = s
   scope_core (updates u c) s = s
 
   -- the scope after a statement with its labels
@@ -66,7 +83,7 @@ abbrev mutual
   pub scope_items : Items → Scope → Scope
   scope_items no_items s = s
   scope_items (label x a b is) s = scope_items is s
-  scope_items (declaration a xs is) s = scope_items is (scope_declarators xs s)
+  scope_items (declaration a xs b is) s = scope_items is (scope_declarators xs s)
   scope_items (item c is) s = scope_items is (scope_core c s)
 
 -- the anchor of a loop stands before its first token
@@ -86,9 +103,11 @@ abbrev mutual
   anchors_core (if_else a b e c first d second) s = anchors_sub first s ++ anchors_sub second (scope_sub first s)
   anchors_core (repeat a b e c body) s = loop_at a s ∷ anchors_sub body s
   anchors_core (repeat_after a body b c e d i) s = loop_at a s ∷ anchors_sub body s
-  anchors_core (repeat_for a b f t l body) s = loop_at a (scope_first f s) ∷ anchors_sub body (scope_first f s)
+  anchors_core (repeat_for a b f c t d us i body) s = loop_at a (scope_first f s) ∷ anchors_sub body (scope_first f s)
   anchors_core (jumps j a b) s = []
+  anchors_core (returns a t b) s = []
   anchors_core (demands k a b e c d) s = []
+  anchors_core (calls x a b es c d) s = []
   anchors_core (updates u c) s = []
 
   -- the anchors in a statement with its labels
@@ -100,23 +119,48 @@ abbrev mutual
   pub anchors_items : Items → Scope → List Anchor
   anchors_items no_items s = []
   anchors_items (label x a b is) s = label_at x a b s ∷ anchors_items is s
-  anchors_items (declaration a xs is) s = anchors_items is (scope_declarators xs s)
+  anchors_items (declaration a xs b is) s = anchors_items is (scope_declarators xs s)
   anchors_items (item c is) s = anchors_core c s ++ anchors_items is (scope_core c s)
 
 -- nothing has been declared
 abbrev pub no_scope : Scope
 no_scope = record { declared = 0; known = [] }
 
--- the end stands before `return`, or before the last brace
-abbrev pub end_place : Return → (brace : ℕ) → ℕ
-end_place no_return brace = brace
-end_place (returns a n b c) brace = a
-end_place (returns_minus a b n c d) brace = a
+-- the scope after the parameters behind the first
+abbrev pub scope_more_parameters : MoreParameters → Scope → Scope
+scope_more_parameters last_parameter s = s
+scope_more_parameters (next_parameter a b x c ps) s = scope_more_parameters ps (declared_one s)
 
--- the anchor of the end of `main`
+-- the scope after parameters
+abbrev pub scope_parameters : Parameters → Scope → Scope
+scope_parameters no_parameters s = s
+scope_parameters (void_parameters a) s = s
+scope_parameters (int_parameters a x b ps) s = scope_more_parameters ps (declared_one s)
+
+-- the place of the end where a statement is the last one: that of a `return`, or of the brace
+abbrev pub core_end : Core → (brace : ℕ) → ℕ
+core_end (returns a t b) brace = a
+core_end _ brace = brace
+
+-- the place of the end behind this statement, where these follow
+abbrev pub end_behind : (last : ℕ) → Items → (brace : ℕ) → ℕ
+end_behind last no_items brace = last
+end_behind last (label x a b is) brace = end_behind brace is brace
+end_behind last (declaration a xs b is) brace = end_behind brace is brace
+end_behind last (item c is) brace = end_behind (core_end c brace) is brace
+
+-- the end stands before a `return` that is the last item of the body, or else before the brace
+abbrev pub end_place : Items → (brace : ℕ) → ℕ
+end_place is brace = end_behind brace is brace
+
+-- the anchor of the end of a function
 abbrev pub end_at : ℕ → Scope → Anchor
 end_at place s = record { what = the_end; first = place; place = place; known = s.known }
 
--- all anchors of a program, in the order of its text
-abbrev pub anchors_of : Program → List Anchor
-anchors_of (program a b c ps d e is r f g) = anchors_items is no_scope ++ end_at (end_place r f) (scope_items is no_scope) ∷ []
+-- the anchors of a body, in the order of its text
+abbrev pub anchors_in : Items → (brace : ℕ) → Scope → List Anchor
+anchors_in is brace s = anchors_items is s ++ end_at (end_place is brace) (scope_items is s) ∷ []
+
+-- all anchors of a function, in the order of its text
+abbrev pub anchors_of : Function → List Anchor
+anchors_of (function ss f a ps b c is d) = anchors_in is d (scope_parameters ps no_scope)

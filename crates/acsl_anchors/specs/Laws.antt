@@ -1,18 +1,22 @@
--- What anchors are to a program's points, to its text and to its names.
-use Rattle.std.specs.Prelude.{◌≡◌, ℕ, Bool, true, false, List, [], ◌∷◌, Ok, if◌then◌else◌, length, map}
+-- What anchors are to the points of a function's core, to its text and to its names.
+use Rattle.std.specs.Prelude.{◌≡◌, ◌++◌, ℕ, Bool, true, false, List, [], ◌∷◌, Ok, if◌then◌else◌, length, map, slice_range}
 use Rattle.std.specs.List.{All}
-use Rattle.lang_grammar.specs.Grammar.{ForFirst, Items, Program, Reads}
-use Rattle.lang_grammar.specs.View.{tokens_of}
 use Rattle.lang_tokens.specs.Reading as lex
 use Rattle.lang_tokens.specs.declared.token.Token as lex_token
 use Rattle.flow_edges.specs.Points.{points_of_program}
 use Rattle.flow_edges.specs.declared.point.Place.{Place}
 use Rattle.flow_edges.specs.declared.point.Place.TheVariants.{Entry, Loop, Label, Join, Assume, Exit}
 use Rattle.flow_edges.specs.declared.point.Point.{Point}
-use Rattle.lang_tree.specs.Tree.{Statements}
-use Rattle.lang_meaning.specs.Walk.{State, walk, walk_first, walk_items}
-use Rattle.acsl_comments.specs.Places.{Ascend, IsEdge}
-use Rattle.acsl_anchors.specs.Anchors.{Anchor, Scope, What, a_loop, a_label, anchors_of, scope_first, scope_items, the_end}
+use Rattle.source_grammar.specs.Grammar.{ForFirst, Items, Parameters, Function, Reads}
+use Rattle.source_tokens.specs.View.{tokens_of}
+use Rattle.source_tree.specs.Statements.{Statements}
+use Rattle.source_core.specs.Core.{core_in}
+use Rattle.source_meaning.specs.Names.{Named, Thing, State, variable, array}
+use Rattle.source_meaning.specs.Statements.{read_first, read_items}
+use Rattle.source_meaning.specs.Walk.{read_parameters, walk}
+use Rattle.acsl_comments.specs.Places.{Ascend, IsEdge, IsBehindNoSlash}
+use Rattle.acsl_anchors.specs.Anchors.{Anchor, Scope, What, a_loop, a_label, anchors_of, scope_first, scope_items, scope_parameters}
+use Rattle.acsl_anchors.specs.Anchors.{the_end}
 
 -- the point of an anchor, where each place has this line
 abbrev pub what_point : (ℕ → ℕ) → What → ℕ → Point
@@ -38,31 +42,48 @@ abbrev pub anchored : List Point → List Point
 anchored [] = []
 anchored (point ∷ points) = if is_anchored point.place then point ∷ anchored points else anchored points
 
--- The anchors of a program are its points that have one, in their order, each with what it is, its line and its name.
+-- The anchors of a function are the points of its core that have one, in their order, each with what it is, its line and its name.
 abbrev pub AnchorsArePoints : Type 0
-AnchorsArePoints = (line : ℕ → ℕ) (p : Program) (names : List (List ℕ)) (body : Statements) → walk line p ≡ Ok (names, body)
-    → map (point_of line) (anchors_of p) ≡ anchored (points_of_program body)
+AnchorsArePoints = (line : ℕ → ℕ) (f : Function) (names : List (List ℕ)) (body : Statements) → walk line f ≡ Ok (names, body)
+    → map (point_of line) (anchors_of f) ≡ anchored (points_of_program (core_in (length names) body))
 
--- they stand in the text in order, each where a token begins or ends
+-- they stand in the text in order, each where a token begins or ends, and none right behind a `/`
 pub record AnchorsStandIn (text : List ℕ) (tokens : List lex_token.Token) (anchors : List Anchor) : Type 0 where
   pub order : Ascend 0 (length text) (map (λ a. a.place) anchors)
   pub edges : All (λ a. IsEdge tokens a.place) anchors
+  pub apart : All (λ a. IsBehindNoSlash tokens a.place) anchors
 
--- The anchors of a program stand in its text.
+-- The anchors of a function stand in its text: its tokens are some of the text's, in which `front` are all but the end.
 abbrev pub AnchorsStand : Type 0
-AnchorsStand = (text : List ℕ) (tokens : List lex_token.Token) (p : Program) → lex.Reads text tokens → Reads (tokens_of text tokens) p
-    → AnchorsStandIn text tokens (anchors_of p)
+AnchorsStand = (text : List ℕ) (tokens front : List lex_token.Token) (first end : ℕ) (f : Function) → lex.Reads text tokens
+    → front ++ lex.end_at (length text) ∷ [] ≡ tokens → Reads (tokens_of text (slice_range front first end)) f
+    → AnchorsStandIn text tokens (anchors_of f)
+
+-- the number of a variable, if a name is one
+abbrev pub number_of : Thing → List ℕ
+number_of (variable i) = i ∷ []
+number_of (array size) = []
+
+-- the numbers of the variables that are known, in order of declaration
+abbrev pub known_in : List Named → List ℕ
+known_in [] = []
+known_in (n ∷ ns) = known_in ns ++ (if n.is_known then number_of n.thing else [])
 
 -- the scope of what has been met
 abbrev pub scope_of : State → Scope
-scope_of state = record { declared = length state.names; known = state.known }
+scope_of state = record { declared = state.variables; known = known_in state.names }
 
 -- What is known behind statements is what the language's rule on names says there.
 abbrev pub ScopesAreWalked : Type 0
-ScopesAreWalked = (line : ℕ → ℕ) (width : ℕ) (inside : Bool) (items : Items) (before behind : State) (body : Statements)
-    → walk_items line width inside items before ≡ Ok (behind, body) → scope_items items (scope_of before) ≡ scope_of behind
+ScopesAreWalked = (line : ℕ → ℕ) (n : ℕ) (inside : Bool) (items : Items) (before behind : State) (body : Statements)
+    → read_items line n inside before items ≡ Ok (behind, body) → scope_items items (scope_of before) ≡ scope_of behind
 
 -- So is what is known behind the first part of a `for`'s head, where the invariants of its loop are said.
 abbrev pub HeadsAreWalked : Type 0
-HeadsAreWalked = (line : ℕ → ℕ) (width : ℕ) (first : ForFirst) (before behind : State) (nodes : Statements)
-    → walk_first line width first before ≡ Ok (behind, nodes) → scope_first first (scope_of before) ≡ scope_of behind
+HeadsAreWalked = (line : ℕ → ℕ) (n : ℕ) (first : ForFirst) (before behind : State) (body : Statements)
+    → read_first line n before first ≡ Ok (behind, body) → scope_first first (scope_of before) ≡ scope_of behind
+
+-- So is what is known behind the parameters, before the statements of the body.
+abbrev pub ParametersAreWalked : Type 0
+ParametersAreWalked = (line : ℕ → ℕ) (parameters : Parameters) (before behind : State) (body : Statements)
+    → read_parameters line before parameters ≡ Ok (behind, body) → scope_parameters parameters (scope_of before) ≡ scope_of behind

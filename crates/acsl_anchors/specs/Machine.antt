@@ -1,6 +1,6 @@
--- A machine that finds the anchors of a text, token by token: a stack of what has still to come.
+-- A machine that finds the anchors of a function, token by token: a stack of what has still to come.
 use Rattle.std.specs.Prelude.{◌++◌, ◌+◌, ℕ, List, [], ◌∷◌, length, take}
-use Rattle.lang_grammar.specs.Grammar.{Token, token}
+use Rattle.source_grammar.specs.Tokens.{Token, token}
 use Rattle.acsl_anchors.specs.Anchors.{Scope, declared_one}
 use Rattle.acsl_anchors.specs.Parts.{part_of}
 use Rattle.acsl_anchors.specs.declared.part.Part.{Part}
@@ -22,17 +22,22 @@ use Rattle.acsl_anchors.specs.declared.goal.Entry.TheVariants as enters
 abbrev pub taken : Next → Entry
 taken n = enters.Takes effect.Nothing n place.Sub
 
--- a right brace at this place: it ends a block, or `main`
+-- a right brace at this place: it ends a block, or the body
 abbrev pub close_entry : Place → ℕ → Entry
 close_entry place.Sub a = taken next.Zero
 close_entry (place.Block n) a = taken (next.One (goal.Known n))
-close_entry place.Main a = enters.Takes (effect.End a) next.Zero place.Sub
+close_entry place.Body a = enters.Takes (effect.End a) next.Zero place.Sub
 
--- `return` at this place ends `main`
+-- a `return` at this place: it may be the last item of the body
 abbrev pub return_entry : Place → ℕ → Entry
 return_entry place.Sub a = enters.Takes effect.Nothing (next.One goal.Rest) place.Sub
 return_entry (place.Block n) a = enters.Takes effect.Nothing (next.One goal.Rest) (place.Block n)
-return_entry place.Main a = enters.Takes (effect.End a) next.Zero place.Sub
+return_entry place.Body a = enters.Takes effect.Nothing (next.Two goal.Rest (goal.Ending a)) place.Body
+
+-- behind a `return` of the body that begins at `start`
+abbrev pub ending_entry : (start : ℕ) → Part → Entry
+ending_entry f part.RightBrace = enters.Takes (effect.End f) next.Zero place.Sub
+ending_entry f _ = enters.Drops
 
 -- what a statement's first token leaves to come, where n variables are known
 abbrev pub statement_entry : Place → Part → (a n : ℕ) → Entry
@@ -40,7 +45,7 @@ statement_entry p part.Name a n = enters.Takes effect.Nothing (next.One (goal.Af
 statement_entry p part.Semicolon a n = enters.Takes effect.Nothing next.Zero p
 statement_entry p part.LeftBrace a n = enters.Takes effect.Nothing (next.One (goal.Statement (place.Block n))) p
 statement_entry p part.RightBrace a n = close_entry p a
-statement_entry p part.Int a n = enters.Takes effect.Declares (next.One goal.Declared) p
+statement_entry p part.Int a n = enters.Takes effect.Nothing (next.One goal.Declaring) p
 statement_entry p part.Return a n = return_entry p a
 statement_entry p part.If a n = enters.Takes effect.Nothing (next.Three goal.Condition (goal.Statement place.Sub) goal.MaybeElse) p
 statement_entry p part.While a n = enters.Takes (effect.Loop a) (next.Two goal.Condition (goal.Statement place.Sub)) p
@@ -52,7 +57,7 @@ statement_entry p _ a n = enters.Takes effect.Nothing (next.One goal.Rest) p
 abbrev pub label_next : Place → Next
 label_next place.Sub = next.One (goal.Statement place.Sub)
 label_next (place.Block n) = next.Zero
-label_next place.Main = next.Zero
+label_next place.Body = next.Zero
 
 -- behind the name that stands first in a statement: a colon at this place, or the rest of an assignment or a step
 abbrev pub name_entry : Place → (first : ℕ) → Part → ℕ → Entry
@@ -69,10 +74,18 @@ abbrev pub rest_entry : Part → Entry
 rest_entry part.Semicolon = taken next.Zero
 rest_entry _ = taken (next.One goal.Rest)
 
--- behind the first name of a declaration: a comma declares one more
+-- behind a name that is declared: an array is no variable
+abbrev pub named_entry : Part → Entry
+named_entry part.LeftBracket = taken (next.One goal.Declared)
+named_entry part.Semicolon = enters.Takes effect.Declares next.Zero place.Sub
+named_entry part.Comma = enters.Takes effect.Declares (next.One goal.Declaring) place.Sub
+named_entry _ = enters.Takes effect.Declares (next.One goal.Declared) place.Sub
+
+-- behind that: a comma declares one more
 abbrev pub declared_entry : Part → Entry
 declared_entry part.Semicolon = taken next.Zero
-declared_entry part.Comma = enters.Takes effect.Declares (next.One goal.Declared) place.Sub
+declared_entry part.Comma = taken (next.One goal.Declaring)
+declared_entry part.LeftParen = taken (next.Two goal.Paren goal.Declared)
 declared_entry _ = taken (next.One goal.Declared)
 
 -- up to the parenthesis that closes
@@ -85,7 +98,7 @@ paren_entry _ = taken (next.One goal.Paren)
 abbrev pub first_entry : (start : ℕ) → Part → Entry
 first_entry f part.LeftParen = taken (next.One (goal.First f))
 first_entry f part.Semicolon = taken (next.One (goal.Test f))
-first_entry f part.Int = enters.Takes effect.Declares (next.Two goal.Declared (goal.Test f)) place.Sub
+first_entry f part.Int = taken (next.Two goal.Declaring (goal.Test f))
 first_entry f _ = taken (next.Two goal.Rest (goal.Test f))
 
 -- its condition; behind it what the head declares is known, and the loop is found
@@ -93,18 +106,28 @@ abbrev pub test_entry : (start : ℕ) → Part → Entry
 test_entry f part.Semicolon = enters.Takes (effect.Loop f) (next.One goal.Paren) place.Sub
 test_entry f _ = taken (next.One (goal.Test f))
 
--- up to the brace of `main`
+-- up to the parenthesis of the parameters
 abbrev pub front_entry : Part → Entry
-front_entry part.LeftBrace = taken (next.One (goal.Statement place.Main))
+front_entry part.LeftParen = taken (next.One goal.Parameters)
 front_entry _ = taken (next.One goal.Front)
+
+-- each parameter is a variable; the brace opens the body
+abbrev pub parameters_entry : Part → Entry
+parameters_entry part.LeftBrace = taken (next.One (goal.Statement place.Body))
+parameters_entry part.Int = enters.Takes effect.Declares (next.One goal.Parameters) place.Sub
+parameters_entry _ = taken (next.One goal.Parameters)
 
 -- what a goal makes of a token at this place, where n variables are known
 abbrev pub entry : Goal → Part → (a n : ℕ) → Entry
 entry goal.Front k a n = front_entry k
+entry goal.Parameters k a n = parameters_entry k
 entry (goal.Statement p) k a n = statement_entry p k a n
 entry (goal.AfterName p f) k a n = name_entry p f k a
 entry goal.MaybeElse k a n = else_entry k
 entry goal.Rest k a n = rest_entry k
+entry (goal.Ending f) k a n = ending_entry f k
+entry goal.Declaring k a n = taken (next.One goal.Named)
+entry goal.Named k a n = named_entry k
 entry goal.Declared k a n = declared_entry k
 entry goal.Condition k a n = taken (next.One goal.Paren)
 entry goal.Paren k a n = paren_entry k
@@ -116,7 +139,7 @@ entry (goal.Known m) k a n = enters.Keeps m
 abbrev pub after : Place → List Goal → List Goal
 after place.Sub gs = gs
 after (place.Block n) gs = goal.Statement (place.Block n) ∷ gs
-after place.Main gs = goal.Statement place.Main ∷ gs
+after place.Body gs = goal.Statement place.Body ∷ gs
 
 -- what has to come, before the rest
 abbrev pub before : Next → List Goal → List Goal
@@ -169,6 +192,6 @@ abbrev pub run : State → List Token → State
 run st [] = st
 run st (token k a ∷ ts) = run (step st.goals (part_of k) a st.scope st.found) ts
 
--- a whole text has to come
+-- a whole function has to come
 abbrev pub start : State
 start = state (goal.Front ∷ []) (record { declared = 0; known = [] }) []

@@ -10,10 +10,10 @@ plain_what a_loop = code_what.TheVariants.Loop
 plain_what (a_label name) = code_what.TheVariants.Label
 plain_what the_end = code_what.TheVariants.End
 
--- an anchor of a program as the code has it
+-- an anchor as the code has it
 abbrev pub plain_anchor : Anchor → code_anchor.Anchor
 plain_anchor a = record { what = plain_what a.what; first = a.first; place = a.place; known = a.known }
 
--- the anchors of a program as the code has them
+-- anchors as the code has them
 abbrev pub plain_anchors : List Anchor → List code_anchor.Anchor
 plain_anchors anchors = map plain_anchor anchors

@@ -10,7 +10,7 @@ pub type Known = Sequence<u32>;
 pub enum What {
     Loop,
     Label,
-    /// The end of `main`.
+    /// The end of the function.
     End,
 }
 
@@ -18,7 +18,8 @@ pub enum What {
 #[derive(Drop)]
 pub struct Anchor {
     pub what: What,
-    /// How many bytes stand before its first token: the first of the loop, the name of the label, `return` or the last brace.
+    /// How many bytes stand before its first token: the first of the loop, the name of the label, `return` or the function's last
+    /// brace.
     pub first: u32,
     /// How many bytes stand before the place at which something is said: that of a loop and of the end is the first token's, and that
     /// of a label is behind its colon.

@@ -1,8 +1,8 @@
 //! What has to come next, and what it makes of a token.
 
 ghost use Rattle.std.specs.Prelude.{◌≡◌, ◌<◌};
-ghost use Rattle.acsl_anchors.specs.Machine.{entry, close_entry, else_entry, first_entry, label_next, paren_entry, return_entry};
-ghost use Rattle.acsl_anchors.specs.Machine.{statement_entry};
+ghost use Rattle.acsl_anchors.specs.Machine.{entry, close_entry, declared_entry, else_entry, ending_entry, first_entry, front_entry};
+ghost use Rattle.acsl_anchors.specs.Machine.{label_next, named_entry, paren_entry, parameters_entry, return_entry, statement_entry};
 
 use crate::part::Part;
 
@@ -13,22 +13,30 @@ pub enum Place {
     Sub,
     /// In a block before which so many variables are known.
     Block(usize),
-    /// In the body of `main`.
-    Main,
+    /// In the body of the function.
+    Body,
 }
 
 /// What has to come.
 #[derive(Clone, Copy)]
 pub enum Goal {
-    /// All that stands before the statements of `main`.
+    /// All up to the parenthesis of the parameters.
     Front,
+    /// The parameters, and all up to the brace of the body.
+    Parameters,
     Statement(Place),
     /// What follows the name, which begins at this byte, that a statement begins with.
     AfterName(Place, u32),
     MaybeElse,
     /// All up to a `;`.
     Rest,
-    /// What follows a declared name, up to the `;`.
+    /// The brace of the body, if the `return` that begins at this byte is the last item.
+    Ending(u32),
+    /// A name that is declared.
+    Declaring,
+    /// What follows that name.
+    Named,
+    /// What follows that, up to the `;`.
     Declared,
     /// The parenthesis of a condition, and what it holds.
     Condition,
@@ -88,7 +96,7 @@ fn close(place: Place, at: u32) -> Entry
     match place {
         Place::Sub => taken(Next::Zero),
         Place::Block(known) => taken(Next::One(Goal::Known(known))),
-        Place::Main => Entry::Takes(Effect::End(at), Next::Zero, Place::Sub),
+        Place::Body => Entry::Takes(Effect::End(at), Next::Zero, Place::Sub),
     }
 }
 
@@ -97,8 +105,46 @@ fn finish(place: Place, at: u32) -> Entry
     ensures { result ≡ return_entry place at }
 {
     match place {
-        Place::Main => Entry::Takes(Effect::End(at), Next::Zero, Place::Sub),
+        Place::Body => Entry::Takes(
+            Effect::Nothing,
+            Next::Two(Goal::Rest, Goal::Ending(at)),
+            place,
+        ),
         _ => Entry::Takes(Effect::Nothing, Next::One(Goal::Rest), place),
+    }
+}
+
+// Behind the last `return` so far, which begins at this byte.
+fn ending(start: u32, part: Part) -> Entry
+    ensures { result ≡ ending_entry start part }
+{
+    match part {
+        Part::RightBrace => Entry::Takes(Effect::End(start), Next::Zero, Place::Sub),
+        _ => Entry::Drops,
+    }
+}
+
+// Behind a declared name: an array is no variable.
+fn named(part: Part) -> Entry
+    ensures { result ≡ named_entry part }
+{
+    match part {
+        Part::LeftBracket => taken(Next::One(Goal::Declared)),
+        Part::Semicolon => Entry::Takes(Effect::Declares, Next::Zero, Place::Sub),
+        Part::Comma => Entry::Takes(Effect::Declares, Next::One(Goal::Declaring), Place::Sub),
+        _ => Entry::Takes(Effect::Declares, Next::One(Goal::Declared), Place::Sub),
+    }
+}
+
+// Behind that, up to the end of the declaration.
+fn declared(part: Part) -> Entry
+    ensures { result ≡ declared_entry part }
+{
+    match part {
+        Part::Semicolon => taken(Next::Zero),
+        Part::Comma => taken(Next::One(Goal::Declaring)),
+        Part::LeftParen => taken(Next::Two(Goal::Paren, Goal::Declared)),
+        _ => taken(Next::One(Goal::Declared)),
     }
 }
 
@@ -118,7 +164,7 @@ fn statement(place: Place, part: Part, at: u32, known: usize) -> Entry
             Entry::Takes(Effect::Nothing, Next::One(inner), place)
         }
         Part::RightBrace => close(place, at),
-        Part::Int => Entry::Takes(Effect::Declares, Next::One(Goal::Declared), place),
+        Part::Int => Entry::Takes(Effect::Nothing, Next::One(Goal::Declaring), place),
         Part::Return => finish(place, at),
         Part::If => {
             let next = Next::Three(Goal::Condition, body, Goal::MaybeElse);
@@ -150,10 +196,7 @@ fn first(start: u32, part: Part) -> Entry
     match part {
         Part::LeftParen => taken(Next::One(Goal::First(start))),
         Part::Semicolon => taken(Next::One(Goal::Test(start))),
-        Part::Int => {
-            let next = Next::Two(Goal::Declared, Goal::Test(start));
-            Entry::Takes(Effect::Declares, next, Place::Sub)
-        }
+        Part::Int => taken(Next::Two(Goal::Declaring, Goal::Test(start))),
         _ => taken(Next::Two(Goal::Rest, Goal::Test(start))),
     }
 }
@@ -177,13 +220,34 @@ fn maybe_else(part: Part) -> Entry
     }
 }
 
+// Before the parameters.
+fn front(part: Part) -> Entry
+    ensures { result ≡ front_entry part }
+{
+    match part {
+        Part::LeftParen => taken(Next::One(Goal::Parameters)),
+        _ => taken(Next::One(Goal::Front)),
+    }
+}
+
+// Before the body.
+fn parameters(part: Part) -> Entry
+    ensures { result ≡ parameters_entry part }
+{
+    match part {
+        Part::LeftBrace => taken(Next::One(Goal::Statement(Place::Body))),
+        Part::Int => Entry::Takes(Effect::Declares, Next::One(Goal::Parameters), Place::Sub),
+        _ => taken(Next::One(Goal::Parameters)),
+    }
+}
+
 /// What the goal makes of the token at this byte, where so many variables are known.
 pub fn enter(goal: Goal, part: Part, at: u32, known: usize) -> Entry
     ensures { result ≡ entry goal part at known }
 {
     match (goal, part) {
-        (Goal::Front, Part::LeftBrace) => taken(Next::One(Goal::Statement(Place::Main))),
-        (Goal::Front, _) => taken(Next::One(Goal::Front)),
+        (Goal::Front, _) => front(part),
+        (Goal::Parameters, _) => parameters(part),
         (Goal::Statement(place), _) => statement(place, part, at, known),
         (Goal::AfterName(place, name), Part::Colon) => Entry::Takes(
             Effect::Label(name, at),
@@ -194,13 +258,10 @@ pub fn enter(goal: Goal, part: Part, at: u32, known: usize) -> Entry
         (Goal::MaybeElse, _) => maybe_else(part),
         (Goal::Rest, Part::Semicolon) => taken(Next::Zero),
         (Goal::Rest, _) => taken(Next::One(Goal::Rest)),
-        (Goal::Declared, Part::Semicolon) => taken(Next::Zero),
-        (Goal::Declared, Part::Comma) => Entry::Takes(
-            Effect::Declares,
-            Next::One(Goal::Declared),
-            Place::Sub,
-        ),
-        (Goal::Declared, _) => taken(Next::One(Goal::Declared)),
+        (Goal::Ending(start), _) => ending(start, part),
+        (Goal::Declaring, _) => taken(Next::One(Goal::Named)),
+        (Goal::Named, _) => named(part),
+        (Goal::Declared, _) => declared(part),
         (Goal::Condition, _) => taken(Next::One(Goal::Paren)),
         (Goal::Paren, _) => paren(part),
         (Goal::First(start), _) => first(start, part),

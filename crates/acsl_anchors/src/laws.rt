@@ -1,13 +1,13 @@
 //! Laws of the definitions, each the contract of a function that does nothing.
 
-ghost use Rattle.acsl_anchors.specs.Laws.{AnchorsArePoints, AnchorsStand, HeadsAreWalked, ScopesAreWalked};
+ghost use Rattle.acsl_anchors.specs.Laws.{AnchorsArePoints, AnchorsStand, HeadsAreWalked, ParametersAreWalked, ScopesAreWalked};
 
-/// The anchors of a program are its points that have one, in their order, each with what it is, its line and its name.
+/// The anchors of a function are the points of its core that have one, in their order, each with what it is, its line and its name.
 pub fn anchors_are_points()
     ensures { AnchorsArePoints }
 {}
 
-/// The anchors of a program stand in its text in order, each where a token begins or ends.
+/// The anchors of a function stand in its text in order, each where a token begins or ends, and none right behind a `/`.
 pub fn anchors_stand()
     ensures { AnchorsStand }
 {}
@@ -20,4 +20,9 @@ pub fn scopes_are_walked()
 /// So is what is known behind the first part of a `for`'s head, where the invariants of its loop are said.
 pub fn heads_are_walked()
     ensures { HeadsAreWalked }
+{}
+
+/// So is what is known behind the parameters, before the statements of the body.
+pub fn parameters_are_walked()
+    ensures { ParametersAreWalked }
 {}

@@ -1,12 +1,13 @@
 //! What the search for anchors sees of a token.
 
-ghost use Rattle.std.specs.Prelude.{◌≡◌};
-ghost use Rattle.lang_grammar.specs.Symbols.{symbol_kind};
-ghost use Rattle.lang_grammar.specs.View.{plain_kind};
+ghost use Rattle.std.specs.Prelude.{◌≡◌, ℕ, List};
+ghost use Rattle.source_grammar.specs.Symbols.{symbol_kind};
+ghost use Rattle.source_tokens.specs.View.{kind_of};
 ghost use Rattle.acsl_anchors.specs.Parts.{part_of};
 
-use lang_grammar::{Symbol, symbol_of};
-use lang_tokens::Kind;
+use lang_tokens::Token;
+use source_grammar::Symbol;
+use source_tokens::symbol_of;
 
 /// A token by what it does to the statements round it.
 #[derive(Clone, Copy)]
@@ -19,6 +20,7 @@ pub enum Part {
     RightParen,
     LeftBrace,
     RightBrace,
+    LeftBracket,
     Int,
     If,
     Else,
@@ -41,6 +43,7 @@ fn symbol_part(symbol: Symbol) -> Part
         Symbol::RightParen => Part::RightParen,
         Symbol::LeftBrace => Part::LeftBrace,
         Symbol::RightBrace => Part::RightBrace,
+        Symbol::LeftBracket => Part::LeftBracket,
         Symbol::Int => Part::Int,
         Symbol::If => Part::If,
         Symbol::Else => Part::Else,
@@ -52,9 +55,9 @@ fn symbol_part(symbol: Symbol) -> Part
     }
 }
 
-/// What the search sees of a token of this kind.
-pub fn part_seen(kind: Kind) -> Part
-    ensures { result ≡ part_of (plain_kind kind) }
+/// What the search sees of a token, whatever its name or number.
+pub fn part_seen(token: &Token) -> Part
+    ensures { (bytes : List ℕ) → result ≡ part_of (kind_of bytes token.now.kind) }
 {
-    symbol_part(symbol_of(kind))
+    symbol_part(symbol_of(token))
 }

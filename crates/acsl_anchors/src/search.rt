@@ -46,13 +46,13 @@ fn go_on(goals: &mut Vec<Goal>, place: Place) -> Result<(), AllocError>
 {
     match place {
         Place::Sub => {}
-        Place::Block(_) | Place::Main => goals.push(Goal::Statement(place))?,
+        Place::Block(_) | Place::Body => goals.push(Goal::Statement(place))?,
     }
     Ok(())
 }
 
 impl Search {
-    /// A whole text has to come.
+    /// A whole function has to come.
     pub fn new(alloc: Global) -> Result<Search, AllocError>
         ensures state { IfOk result (λ search. state_of search ≡ start) }
         ensures declared { IfOk result (λ search. search.declared ≡ 0) }
@@ -110,7 +110,7 @@ impl Search {
         }
     }
 
-    /// Takes a token of a text that begins at this byte.
+    /// Takes a token that begins at this byte.
     pub fn take(&mut self, part: Part, at: u32) -> Result<(), AllocError>
         requires declared { self.old.declared < 2 ^ 32 - 1 }
         requires place { at < 2 ^ 32 - 1 }

@@ -1,9 +1,9 @@
-//! The annotated text of a program, or why there is none: a pure function, with no file and no stream.
+//! The annotated text of a file, or why there is none: a pure function, with no file and no stream.
 
 ghost use Rattle.std.specs.Prelude.{◌≡◌, ◌≤◌, ◌⊎◌, List, ℕ, [], length, map, string_bytes};
 ghost use Rattle.base_limits.specs.declared.limits.TheConstants.{MOST_IMPROVEMENTS, MOST_TEXT_BYTES};
 ghost use Rattle.ask_files.specs.Files.{texts_of};
-ghost use Rattle.ask_words.specs.Request.{analysis_text};
+ghost use Rattle.ask_words.specs.Request.{analysis_text, source_text};
 ghost use Rattle.ask_words.specs.declared.format.Format.{Format as FormatValue};
 ghost use Rattle.ask_words.specs.declared.request.Domain.{Domain};
 ghost use Rattle.ask_words.specs.declared.request.Policy.{Policy as PolicyValue};
@@ -24,7 +24,7 @@ use crate::usage::usage_line;
 use crate::words::{read_analysis, solve_words};
 use crate::write::annotated_text;
 use ask_files::{analysis_with, first_unread};
-use ask_words::{Analysis, Format, Purpose, Request, WordsFault};
+use ask_words::{Analysis, Format, Purpose, Request, Source, WordsFault};
 use base_watch::Watch;
 use std::alloc::Global;
 use top_answer::{Answer, Exact, Meaning, plain_answer};
@@ -60,16 +60,17 @@ fn refused_answer(alloc: Global, ending: Ending) -> Answer
 }
 
 // The annotated text of a program whose least bounds were found.
-fn written(alloc: Global, text: &[u8], least: &LeastBounds) -> Answer
-    requires short { length text.now ≤ MOST_TEXT_BYTES }
-    requires found { (rows : Domain (List ℕ)) × (policy : PolicyValue) × (limit : ℕ) × IsFoundIn text.now rows policy limit least.now }
-    ensures says { (analysis : Analysis (List ℕ)) (format : FormatValue) → analysis.program ≡ text.now
+fn written(alloc: Global, program: Source<&[u8]>, least: &LeastBounds) -> Answer
+    requires short { length program.text.now ≤ MOST_TEXT_BYTES }
+    requires found { (rows : Domain (List ℕ)) × (policy : PolicyValue) × (limit : ℕ)
+        × IsFoundIn (source_text program) rows policy limit least.now }
+    ensures says { (analysis : Analysis (List ℕ)) (format : FormatValue) → analysis.program ≡ source_text program.entry
         → IsFoundIn analysis.program analysis.domain analysis.policy analysis.improvements least.now
         → Says (annotating exact (Analyse Report analysis format)) result.status result.bytes.items }
     ensures message { result.message ≡ message_of 0 0 result.status }
     ensures ends { (result.status ≡ Status.Done) ⊎ (result.status ≡ Status.Memory) }
 {
-    match annotated_text(alloc, text, least) {
+    match annotated_text(alloc, program, least) {
         Ok(bytes) => done_answer(bytes),
         Err(_) => plain_answer(alloc, Status::Memory),
     }
@@ -184,8 +185,8 @@ pub fn annotation<W: Watch>(
     contents: &[&[u8]],
     watch: &mut W,
 ) -> Answer
-    // Sound: what is answered is so, as an answer of `solve`. What is written is the program's text with the annotations of the least
-    // vector over the template; each is true in every run, and without them it is the text again.
+    // Sound: what is answered is so, as an answer of `solve`. What is written is the text of the file with the annotations of the least
+    // vector of the function that is asked about, over the template; each is true in every run, and without them it is the text again.
     ensures answer { IsAnswer (annotating ⟦<Exact as Meaning>⟧.means) (as_solve (map string_bytes words.now)) (texts_of contents.now)
         result.status }
     ensures output { Holds (IsOutput (annotating ⟦<Exact as Meaning>⟧.means) (as_solve (map string_bytes words.now))

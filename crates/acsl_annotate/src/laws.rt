@@ -2,10 +2,11 @@
 
 ghost use Rattle.std.specs.Prelude.{◌≡◌, ℕ, List};
 ghost use Rattle.ask_words.specs.declared.request.Domain.{Domain};
+ghost use Rattle.top_texts.specs.Texts.{Program};
 ghost use Rattle.acsl_annotate.specs.Annotated.{IsAnnotatedOf};
 
-/// The texts of a program and of its rows have one annotated text.
+/// The texts of a file and of rows have one annotated text, whichever function is asked about.
 pub fn annotated_is_one()
-    ensures { (text : List ℕ) (rows : Domain (List ℕ)) (one other : List ℕ) → IsAnnotatedOf text rows one
-        → IsAnnotatedOf text rows other → one ≡ other }
+    ensures { (program : Program) (rows : Domain (List ℕ)) (one other : List ℕ) → IsAnnotatedOf program rows one
+        → IsAnnotatedOf program rows other → one ≡ other }
 {}

@@ -1,11 +1,14 @@
-//! The annotated text of a program whose least bounds were found.
+//! The text of a file with the annotations of a function whose least bounds were found.
 
-ghost use Rattle.std.specs.Prelude.{◌≡◌, ◌≤◌, ◌<◌, IfOk, IsTrue, List, ℕ, length};
+ghost use Rattle.std.specs.Prelude.{◌≡◌, ◌≤◌, ◌<◌, ◌++◌, ◌∷◌, [], IfOk, IsTrue, List, ℕ, length};
 ghost use Rattle.std.specs.List.{All};
 ghost use Rattle.base_limits.specs.declared.limits.TheConstants.{MOST_TEXT_BYTES};
-ghost use Rattle.lang_tokens.specs.Reading.{Reads};
+ghost use Rattle.lang_tokens.specs.Reading.{Reads, end_at};
 ghost use Rattle.lang_tokens.specs.TokenLists.{AreTokensOf};
+ghost use Rattle.lang_tokens.specs.declared.token.Token.{Token as Lexed};
 ghost use Rattle.lang_tree.specs.Word.{is_word};
+ghost use Rattle.source_file.specs.Meaning.{Answer, FunctionMeans, IsChosen, Means, item_of};
+ghost use Rattle.ask_words.specs.Request.{source_text};
 ghost use Rattle.ask_words.specs.declared.request.Domain.{Domain};
 ghost use Rattle.ask_words.specs.declared.request.Policy.{Policy};
 ghost use Rattle.top_texts.specs.Analyses.{IsFoundIn};
@@ -14,9 +17,11 @@ ghost use Rattle.acsl_annotate.specs.Annotated.{IsAnnotatedOf};
 use acsl_anchors::{anchors, anchors_are_points};
 use acsl_comments::{comments_come_out, programs_stay, with_comments};
 use acsl_notes::{clauses_hold, comments, comments_may_stand};
+use ask_words::Source;
 use flow_systems::{System, post_solutions_hold};
 use lang_tokens::{Token, lex, one_reading};
 use lang_tree::Name;
+use source_file::{Defined, defined};
 use std::alloc::{AllocError, Global};
 use top_texts::LeastBounds;
 
@@ -48,17 +53,39 @@ fn text_tokens(alloc: Global, text: &[u8]) -> Result<Vec<Token>, AllocError>
     }
 }
 
-// The text with what its least bounds say.
+// Which tokens are the function that is asked about. A file that was read as a program has one.
+fn function_asked(
+    alloc: Global,
+    tokens: &[Token],
+    program: Source<&[u8]>,
+) -> Result<Defined, AllocError>
+    requires size { length program.text.now ≤ MOST_TEXT_BYTES }
+    requires tokens { AreTokensOf program.text.now tokens.now }
+    ensures order { IfOk result (λ d. d.first ≤ d.end) }
+    ensures within { IfOk result (λ d. d.end < length tokens.now) }
+    ensures found { IfOk result (λ d. (front : List Lexed) → front ++ end_at (length program.entry.text.now) ∷ [] ≡ tokens.now
+        → IsChosen program.entry.text.now (source_text program.entry).function front d) }
+    ensures means { IfOk result (λ d. (front : List Lexed) → front ++ end_at (length program.entry.text.now) ∷ [] ≡ tokens.now
+        → (wanted : Answer) → Means program.entry.text.now (source_text program.entry).function front wanted
+        → FunctionMeans program.entry.text.now (item_of program.entry.text.now front d) wanted) }
+{
+    match defined(alloc, tokens, program.text, program.function) {
+        Ok(function) => Ok(function),
+        Err(_) => Err(AllocError),
+    }
+}
+
+// The text with what the least bounds of the function that is asked about say.
 pub(crate) fn annotated_text(
     alloc: Global,
-    text: &[u8],
+    program: Source<&[u8]>,
     least: &LeastBounds,
 ) -> Result<Vec<u8>, AllocError>
-    requires short { length text.now ≤ MOST_TEXT_BYTES }
+    requires short { length program.text.now ≤ MOST_TEXT_BYTES }
     requires found { (rows : Domain (List ℕ)) × (policy : Policy) × (limit : ℕ)
-        × IsFoundIn text.now rows policy limit least.now }
-    ensures { (rows : Domain (List ℕ)) (policy : Policy) (limit : ℕ) → IsFoundIn text.now rows policy limit least.now
-        → IfOk result (λ bytes. IsAnnotatedOf text.now rows bytes.items) }
+        × IsFoundIn (source_text program) rows policy limit least.now }
+    ensures { (rows : Domain (List ℕ)) (policy : Policy) (limit : ℕ) → IsFoundIn (source_text program.entry) rows policy limit least.now
+        → IfOk result (λ bytes. IsAnnotatedOf (source_text program.entry) rows bytes.items) }
 {
     anchors_are_points();
     comments_may_stand();
@@ -70,8 +97,9 @@ pub(crate) fn annotated_text(
     let system = &least.system;
     are_words(system.flow.names.as_slice());
     has_rows(system);
-    let tokens = text_tokens(alloc, text)?;
-    let places = anchors(alloc, &tokens, text)?;
-    let list = comments(alloc, text, &places, system, &least.solved.bounds)?;
-    with_comments(alloc, text, &list)
+    let tokens = text_tokens(alloc, program.text)?;
+    let function = function_asked(alloc, &tokens, program)?;
+    let places = anchors(alloc, &tokens, program.text, function.first, function.end)?;
+    let list = comments(alloc, program.text, &places, system, &least.solved.bounds)?;
+    with_comments(alloc, program.text, &list)
 }

@@ -11,4 +11,5 @@ pub mod Whole
 pub mod Stay
 pub mod Out
 pub mod Written
+pub mod Files
 pub mod Programs

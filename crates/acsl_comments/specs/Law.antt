@@ -1,11 +1,13 @@
 -- A text with comments put in reads as the same program, and is the text again once they are taken out.
-use Rattle.std.specs.Prelude.{◌≡◌, ℕ, List, Ok, length, map}
-use Rattle.lang_grammar.specs.View.{tokens_of}
-use Rattle.lang_tokens.specs.Reading.{Reads}
+use Rattle.std.specs.Prelude.{◌≡◌, ◌++◌, ◌∷◌, ℕ, List, [], Option, Ok, length, map}
+use Rattle.source_tokens.specs.View.{bytes_of, tokens_of}
+use Rattle.lang_tokens.specs.Reading.{Reads, end_at}
 use Rattle.lang_tokens.specs.declared.token.Token.{Token}
-use Rattle.lang_meaning.specs.Meaning.{Means}
+use Rattle.source_tree.specs.Statements.{Statements}
+use Rattle.source_core.specs.Core.{core_in}
+use Rattle.source_file.specs.Meaning.{Means}
 use Rattle.acsl_shift.specs.Moves.{moved, without_lines}
-use Rattle.lang_tree.specs.Tree.{Statements}
+use Rattle.acsl_shift.specs.Sources.{without_places}
 use Rattle.acsl_comments.specs.Places.{Ascend, MayStand}
 use Rattle.acsl_comments.specs.Texts.{moved_by, with_comments, without_comments}
 use Rattle.acsl_comments.specs.declared.comment.Comment.{Comment}
@@ -22,6 +24,9 @@ CommentsComeOut = (text : List ℕ) (comments : List Comment) → Ascend 0 (leng
 -- what a text with comments reads as: the same tokens at the places where they stand then
 pub record ReadsWith (text : List ℕ) (tokens : List Token) (comments : List Comment) : Type 0 where
   pub reads : Reads (with_comments 0 text comments) (map (token_moved_by comments) tokens)
+  -- with the same bytes
+  pub bytes : map (bytes_of (with_comments 0 text comments)) (map (token_moved_by comments) tokens) ≡ map (bytes_of text) tokens
+  -- and the same to the grammar of functions, but for their places
   pub same : tokens_of (with_comments 0 text comments) (map (token_moved_by comments) tokens)
       ≡ moved (moved_by comments) (tokens_of text tokens)
 
@@ -30,16 +35,22 @@ abbrev pub TokensStay : Type 0
 TokensStay = (text : List ℕ) (tokens : List Token) (comments : List Comment) → Reads text tokens → MayStand text tokens comments
     → ReadsWith text tokens comments
 
--- a text means the same program as before but for its lines and the places of its checks
-pub record MeansWith (text : List ℕ) (comments : List Comment) (names : List (List ℕ)) (body : Statements) : Type 0 where
-  pub tokens : List Token
+-- a text means the same function as before, but for its lines and the places of its tokens
+pub record MeansWith (text : List ℕ) (comments : List Comment) (asked : Option (List ℕ)) (names : List (List ℕ)) (body : Statements) :
+    Type 0 where
+  -- its tokens but for the end
+  pub front : List Token
+  -- what it means
   pub now : Statements
-  pub reads : Reads (with_comments 0 text comments) tokens
-  pub means : Means (with_comments 0 text comments) (tokens_of (with_comments 0 text comments) tokens) (Ok (names, now))
-  pub same : without_lines now ≡ without_lines body
+  pub reads : Reads (with_comments 0 text comments) (front ++ end_at (length (with_comments 0 text comments)) ∷ [])
+  pub means : Means (with_comments 0 text comments) asked front (Ok (names, now))
+  -- it is the same without its lines and places
+  pub same : without_places now ≡ without_places body
+  -- so is its core but for its lines and the places of its checks
+  pub core : without_lines (core_in (length names) now) ≡ without_lines (core_in (length names) body)
 
--- A text with comments means the same program but for its lines and the places of its checks, where comments may stand.
+-- A text with comments means the same function but for its lines and the places of its tokens, where comments may stand.
 abbrev pub ProgramsStay : Type 0
-ProgramsStay = (text : List ℕ) (tokens : List Token) (comments : List Comment) (names : List (List ℕ)) (body : Statements)
-    → Reads text tokens → Means text (tokens_of text tokens) (Ok (names, body)) → MayStand text tokens comments
-    → MeansWith text comments names body
+ProgramsStay = (text : List ℕ) (tokens front : List Token) (comments : List Comment) (asked : Option (List ℕ)) (names : List (List ℕ))
+    (body : Statements) → Reads text tokens → front ++ end_at (length text) ∷ [] ≡ tokens → Means text asked front (Ok (names, body))
+    → MayStand text tokens comments → MeansWith text comments asked names body

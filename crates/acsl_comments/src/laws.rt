@@ -14,7 +14,7 @@ pub fn tokens_stay()
     ensures { TokensStay }
 {}
 
-/// A text with comments put in means the same program but for its lines and the places of its checks.
+/// A text with comments put in means the same function but for its lines and the places of its tokens.
 pub fn programs_stay()
     ensures { ProgramsStay }
 {

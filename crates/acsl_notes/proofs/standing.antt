@@ -2,4 +2,3 @@ pub mod Gaps
 pub mod Places
 pub mod Plain
 pub mod Said
-pub mod Slashes

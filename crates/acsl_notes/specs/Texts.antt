@@ -66,7 +66,7 @@ loop_comment names None said = codes "/*@ " ++ joined (codes " ") (map (invarian
 abbrev pub label_comment : List (List ℕ) → List Clause → List ℕ
 label_comment names said = flat_map (λ clause. 32 ∷ assertion_text names clause) said
 
--- the assertions at the end of `main`: each in a line of its own, indented as the end is, and else all in its line
+-- the assertions at the end of the function: each in a line of its own, indented as the end is, and else all in its line
 abbrev pub end_comment : List (List ℕ) → Option (List ℕ) → List Clause → List ℕ
 end_comment names (Some blanks) said = flat_map (λ clause. assertion_text names clause ++ 10 ∷ blanks) said
 end_comment names None said = flat_map (λ clause. assertion_text names clause ++ 32 ∷ []) said

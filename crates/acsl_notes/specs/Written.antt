@@ -1,5 +1,6 @@
 -- What the conditions of annotations are in the language: their bytes read as its tokens, which are an expression of it.
-use Rattle.std.specs.Prelude.{◌≡◌, ◌↔◌, ◌==◌, ◌<◌, ◌+◌, ℕ, ℤ, pos, true, false, not, IsTrue, List, length, Some, Ok, nat_abs}
+use Rattle.std.specs.Prelude.{◌≡◌, ◌↔◌, ◌==◌, ◌<◌, ◌+◌, ◌++◌, ◌∷◌, ℕ, ℤ, pos, true, false, not, IsTrue, List, [], length, Option, Some, Ok}
+use Rattle.std.specs.Prelude.{nat_abs}
 use Rattle.std.specs.List.{All, list_any, slice_get}
 use Rattle.lang_tokens.specs.Lexemes.{IsName, greatest_literal}
 use Rattle.lang_tokens.specs.Reading as lex
@@ -7,11 +8,12 @@ use Rattle.lang_tokens.specs.declared.token.Token as lex_token
 use Rattle.lang_grammar.specs.View.{tokens_of}
 use Rattle.lang_tree.specs.Meaning.{State, MayBe}
 use Rattle.lang_tree.specs.Numbers.{is_number, are_numbers}
-use Rattle.lang_tree.specs.Tree.{Condition, Statements}
+use Rattle.lang_tree.specs.Tree.{Condition}
 use Rattle.lang_meaning.specs.Forms.{products}
-use Rattle.lang_meaning.specs.Meaning.{Means}
 use Rattle.lang_meaning.specs.Expressions.{a_condition}
 use Rattle.lang_meaning.specs.ExpressionAnswers.{ExpressionMeans}
+use Rattle.source_tree.specs.Statements.{Statements}
+use Rattle.source_file.specs.Meaning.{Means}
 use Rattle.acsl_notes.specs.Clauses.{Clause, never, at_most, equals, IsTrueAt}
 use Rattle.acsl_notes.specs.Texts.{clause_text}
 
@@ -20,10 +22,11 @@ pub record AreNames (names : List (List ℕ)) : Type 0 where
   pub each : All IsName names
   pub once : (i j : ℕ) (name : List ℕ) → slice_get names i ≡ Some name → slice_get names j ≡ Some name → i ≡ j
 
--- The names of a program that a text means are such names.
+-- The names of a function that a file means are such names.
 abbrev pub ProgramNamesAreNames : Type 0
-ProgramNamesAreNames = (text : List ℕ) (tokens : List lex_token.Token) (names : List (List ℕ)) (body : Statements) → lex.Reads text tokens
-    → Means text (tokens_of text tokens) (Ok (names, body)) → AreNames names
+ProgramNamesAreNames = (text : List ℕ) (tokens front : List lex_token.Token) (asked : Option (List ℕ)) (names : List (List ℕ))
+    (body : Statements) → lex.Reads text tokens → front ++ lex.end_at (length text) ∷ [] ≡ tokens
+    → Means text asked front (Ok (names, body)) → AreNames names
 
 -- A row with a coefficient for each name, of which one isn't 0; its numbers, the factor and their products are numbers of the language.
 pub record IsWritableRow (names : List (List ℕ)) (factor : ℕ) (row : List ℤ) : Type 0 where

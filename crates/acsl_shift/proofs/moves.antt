@@ -1,8 +1,14 @@
 pub mod Trees
+pub mod Twice
 pub mod Spelled
-pub mod Nesting
-pub mod Kept
-pub mod Values
+pub mod Deeds
+pub mod Elaborated
+pub mod Seen
+pub mod Read
+pub mod Cores
+pub mod Changed
 pub mod Declared
+pub mod Parts
 pub mod Walked
+pub mod Nesting
 pub mod Stays

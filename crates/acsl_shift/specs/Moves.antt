@@ -1,6 +1,6 @@
 -- Tokens at other places, and statements without their lines and without the places of their checks.
 use Rattle.std.specs.Prelude.{ℕ, List, map}
-use Rattle.lang_grammar.specs.Grammar.{Token, token}
+use Rattle.source_grammar.specs.Tokens.{Token, token}
 use Rattle.lang_tree.specs.declared.change.Change.{Change}
 use Rattle.lang_tree.specs.declared.change.Change.TheVariants as change
 use Rattle.lang_tree.specs.declared.check.Check.{Check}

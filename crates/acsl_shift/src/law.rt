@@ -1,9 +1,12 @@
-//! The law that the places of tokens carry no meaning but the lines, and the places of checks.
+//! The laws that the places of tokens carry no meaning but the lines, and the places of checks.
 
-ghost use Rattle.acsl_shift.specs.Law.{TokensMayMove};
+ghost use Rattle.acsl_shift.specs.Law.{TokensMayMove, WholeMayMove};
 
-/// Tokens that mean a program mean it also where each stands at another place: the same program but for its lines and the places of its
-/// checks.
+/// Tokens that mean a function mean it also where each stands at another place (docs/MEANING.md, "Annotations").
+///
+/// `means`: the same variables, and the same statements but for their lines and the places of tokens. `whole`: tokens that are a function
+/// without a fault of its grammar are one there.
 pub fn tokens_may_move()
-    ensures { TokensMayMove }
+    ensures means { TokensMayMove }
+    ensures whole { WholeMayMove }
 {}

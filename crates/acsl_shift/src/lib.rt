@@ -1,4 +1,4 @@
-//! Tokens at other places read as the same program.
+//! Tokens at other places read as the same function.
 #![tactic(auto)]
 
 mod law;

@@ -7,7 +7,8 @@ use Rattle.ask_words.specs.declared.request.Domain.{Domain}
 use Rattle.ask_words.specs.declared.request.Domain.TheVariants.{Intervals, Zones, Octagons, Rows}
 use Rattle.ask_words.specs.declared.request.Request.{Request as RequestOf}
 use Rattle.ask_words.specs.declared.request.Request.TheVariants.{Analyse, Check, Bench, Upgrade, Prove, Transitions, Equations, Points}
-use Rattle.ask_words.specs.declared.request.Request.TheVariants.{Verify, Help}
+use Rattle.ask_words.specs.declared.request.Request.TheVariants.{Functions, Verify, Help}
+use Rattle.ask_words.specs.declared.request.Source.{Source}
 use Rattle.ask_files.specs.declared.which.ReadCause.{ReadCause}
 use Rattle.ask_files.specs.declared.which.ReadCause.TheVariants.{Failed, TooLong}
 use Rattle.ask_files.specs.declared.which.Which.{Which}
@@ -30,15 +31,16 @@ rows_before Octagons rest = rest
 
 -- the files of a request, in the order in which they are loaded
 abbrev pub files_of : Request → List NamedFile
-files_of (Analyse purpose analysis format) = (which.Program, analysis.program) ∷ rows_before analysis.domain []
-files_of (Check program certificate format) = (which.Program, program) ∷ (which.Certificate, certificate) ∷ []
+files_of (Analyse purpose analysis format) = (which.Program, analysis.program.text) ∷ rows_before analysis.domain []
+files_of (Check program certificate format) = (which.Program, program.text) ∷ (which.Certificate, certificate) ∷ []
 files_of (Bench seed loops) = []
 files_of (Upgrade certificate) = (which.Certificate, certificate) ∷ []
-files_of (Prove claims analysis format) = (which.Program, analysis.program) ∷ rows_before analysis.domain ((which.Claims, claims) ∷ [])
-files_of (Transitions analysis format) = (which.System, analysis.program) ∷ rows_before analysis.domain []
+files_of (Prove claims analysis format) = (which.Program, analysis.program.text) ∷ rows_before analysis.domain ((which.Claims, claims) ∷ [])
+files_of (Transitions analysis format) = (which.System, analysis.program.text) ∷ rows_before analysis.domain []
 files_of (Equations file improvements policy format) = (which.Equations, file) ∷ []
 files_of (Points program) = (which.Program, program) ∷ []
-files_of (Verify name analysis format) = (which.Program, analysis.program) ∷ rows_before analysis.domain []
+files_of (Functions file) = (which.Program, file) ∷ []
+files_of (Verify name analysis format) = (which.Program, analysis.program.text) ∷ rows_before analysis.domain []
 files_of (Help topic) = []
 
 -- how many bytes a file may have: 65,536, and a certificate 16,777,216
@@ -82,19 +84,24 @@ rows_files Intervals = 0
 rows_files Zones = 0
 rows_files Octagons = 0
 
+-- a program with the first text in place of its file's name; the name of its function stays
+abbrev pub source_with : Source (List ℕ) → List (List ℕ) → Source (List ℕ)
+source_with program contents = record { text = text_at contents 0; function = program.function }
+
 -- an analysis with the first text as its program, and the second as its rows where they are a file
 abbrev pub analysis_with : Analysis (List ℕ) → List (List ℕ) → Analysis (List ℕ)
 analysis_with analysis contents = record {
-  program = text_at contents 0;
+  program = source_with analysis.program contents;
   domain = domain_with analysis.domain (text_at contents 1);
   improvements = analysis.improvements;
   policy = analysis.policy;
 }
 
--- a request with these texts in place of its files' names, in the order of their loads; the name of a file that is written stays
+-- a request with these texts in place of its files' names, in the order of their loads; the names of a function
+-- and of a file that is written stay
 abbrev pub with_texts : Request → List (List ℕ) → Request
 with_texts (Analyse purpose analysis format) contents = Analyse purpose (analysis_with analysis contents) format
-with_texts (Check program certificate format) contents = Check (text_at contents 0) (text_at contents 1) format
+with_texts (Check program certificate format) contents = Check (source_with program contents) (text_at contents 1) format
 with_texts (Bench seed loops) contents = Bench seed loops
 with_texts (Upgrade certificate) contents = Upgrade (text_at contents 0)
 with_texts (Prove claims analysis format) contents =
@@ -102,5 +109,6 @@ with_texts (Prove claims analysis format) contents =
 with_texts (Transitions analysis format) contents = Transitions (analysis_with analysis contents) format
 with_texts (Equations file improvements policy format) contents = Equations (text_at contents 0) improvements policy format
 with_texts (Points program) contents = Points (text_at contents 0)
+with_texts (Functions file) contents = Functions (text_at contents 0)
 with_texts (Verify name analysis format) contents = Verify name (analysis_with analysis contents) format
 with_texts (Help topic) contents = Help topic

@@ -1,14 +1,14 @@
 //! The files of a request in the order of their loads, which of them isn't read, and the request with what they hold in place of names.
 
-ghost use Rattle.std.specs.Prelude.{◌≡◌, ◌∷◌, [], IfOk, IsErrOf, None, Some, map, string_bytes};
-ghost use Rattle.ask_words.specs.Request.{analysis_text, domain_text, request_of, request_text};
+ghost use Rattle.std.specs.Prelude.{◌≡◌, ◌∷◌, [], IfOk, IsErrOf, None, Some, map, option_map, string_bytes};
+ghost use Rattle.ask_words.specs.Request.{analysis_text, domain_text, request_of, request_text, source_text};
 ghost use Rattle.ask_files.specs.Files.{Request as NamedRequest, analysis_with, domain_with, files_of, most_bytes, rows_before, rows_files};
-ghost use Rattle.ask_files.specs.Files.{text_at, texts_of, unread, with_texts};
+ghost use Rattle.ask_files.specs.Files.{source_with, text_at, texts_of, unread, with_texts};
 ghost use Rattle.ask_files.specs.Named.{name_of};
 ghost use Rattle.ask_files.specs.declared.which.Which.TheVariants.{Claims};
 
 use crate::which::{ReadCause, Which};
-use ask_words::{Analysis, Domain, Request, WordsFault, read_words};
+use ask_words::{Analysis, Domain, Request, Source, WordsFault, read_words};
 use base_limits::{MOST_CERTIFICATE_BYTES, MOST_TEXT_BYTES};
 use std::alloc::{AllocError, Global};
 
@@ -46,9 +46,9 @@ fn analysis_files<'a>(
     analysis: Analysis<&'a str>,
 ) -> Result<Vec<NamedFile<'a>>, AllocError>
     ensures { IfOk result (λ files. map name_of files.items
-        ≡ (which, analysis.entry.program.now) ∷ rows_before (domain_text analysis.entry.domain) []) }
+        ≡ (which, analysis.entry.program.text.now) ∷ rows_before (domain_text analysis.entry.domain) []) }
 {
-    let first = named(which, analysis.program);
+    let first = named(which, analysis.program.text);
     match analysis.domain {
         Domain::Intervals | Domain::Zones | Domain::Octagons => Ok(vec![in alloc; first]?),
         Domain::Rows(rows) => Ok(vec![in alloc; first, named(Which::Rows, rows)]?),
@@ -61,10 +61,10 @@ fn proof_files<'a>(
     claims: &'a str,
     analysis: Analysis<&'a str>,
 ) -> Result<Vec<NamedFile<'a>>, AllocError>
-    ensures { IfOk result (λ files. map name_of files.items
-        ≡ (Which.Program, analysis.entry.program.now) ∷ rows_before (domain_text analysis.entry.domain) ((Claims, claims.entry.now) ∷ [])) }
+    ensures { IfOk result (λ files. map name_of files.items ≡ (Which.Program, analysis.entry.program.text.now)
+        ∷ rows_before (domain_text analysis.entry.domain) ((Claims, claims.entry.now) ∷ [])) }
 {
-    let first = named(Which::Program, analysis.program);
+    let first = named(Which::Program, analysis.program.text);
     let last = named(Which::Claims, claims);
     match analysis.domain {
         Domain::Intervals | Domain::Zones | Domain::Octagons => Ok(vec![in alloc; first, last]?),
@@ -90,7 +90,7 @@ pub fn request_files<'a>(
             certificate,
             ..
         } => Ok(vec![in alloc;
-            named(Which::Program, program),
+            named(Which::Program, program.text),
             named(Which::Certificate, certificate),
         ]?),
         Request::Bench { .. } | Request::Help { .. } => Ok(Vec::new(alloc)),
@@ -105,6 +105,7 @@ pub fn request_files<'a>(
         Request::Transitions { analysis, .. } => analysis_files(alloc, Which::System, analysis),
         Request::Equations { file, .. } => Ok(vec![in alloc; named(Which::Equations, file)]?),
         Request::Points { program } => Ok(vec![in alloc; named(Which::Program, program)]?),
+        Request::Functions { file } => Ok(vec![in alloc; named(Which::Program, file)]?),
         Request::Verify { analysis, .. } => analysis_files(alloc, Which::Program, analysis),
     }
 }
@@ -190,19 +191,40 @@ fn rows_files(domain: Domain<&str>) -> usize
     }
 }
 
-/// An analysis with its texts in place of names.
-pub fn analysis_with<'a>(analysis: Analysis<&str>, contents: &[&'a [u8]]) -> Analysis<&'a [u8]>
+// A name as its bytes, where there is one.
+fn bytes_of<'a>(name: Option<&'a str>) -> Option<&'a [u8]>
+    ensures { option_map (λ text. text.now) result ≡ option_map (λ text. text.now) name.entry }
+{
+    match name {
+        Some(text) => Some(text.as_bytes()),
+        None => None,
+    }
+}
+
+// A program with its text in place of its file's name. The name of its function stays.
+fn source_with<'a>(program: Source<&'a str>, contents: &[&'a [u8]]) -> Source<&'a [u8]>
+    ensures { source_text result ≡ source_with (source_text program.entry) (texts_of contents.now) }
+{
+    Source {
+        text: text_at(contents, 0),
+        function: bytes_of(program.function),
+    }
+}
+
+/// An analysis with its texts in place of the names of files.
+pub fn analysis_with<'a>(analysis: Analysis<&'a str>, contents: &[&'a [u8]]) -> Analysis<&'a [u8]>
     ensures { analysis_text result ≡ analysis_with (analysis_text analysis.entry) (texts_of contents.now) }
 {
     Analysis {
-        program: text_at(contents, 0),
+        program: source_with(analysis.program, contents),
         domain: domain_with(analysis.domain, text_at(contents, 1)),
         improvements: analysis.improvements,
         policy: analysis.policy,
     }
 }
 
-/// A request with these texts in place of its files' names, in the order of their loads. The name of a file that is written stays.
+/// A request with these texts in place of its files' names, in the order of their loads. The names of a function and of
+/// a file that is written stay.
 pub fn with_texts<'a>(request: Request<&'a str>, contents: &[&'a [u8]]) -> Request<&'a [u8]>
     ensures { request_text result ≡ with_texts (request_text request.entry) (texts_of contents.now) }
 {
@@ -216,8 +238,12 @@ pub fn with_texts<'a>(request: Request<&'a str>, contents: &[&'a [u8]]) -> Reque
             analysis: analysis_with(analysis, contents),
             format,
         },
-        Request::Check { format, .. } => Request::Check {
-            program: text_at(contents, 0),
+        Request::Check {
+            program,
+            format,
+            ..
+        } => Request::Check {
+            program: source_with(program, contents),
             certificate: text_at(contents, 1),
             format,
         },
@@ -251,6 +277,9 @@ pub fn with_texts<'a>(request: Request<&'a str>, contents: &[&'a [u8]]) -> Reque
         },
         Request::Points { .. } => Request::Points {
             program: text_at(contents, 0),
+        },
+        Request::Functions { .. } => Request::Functions {
+            file: text_at(contents, 0),
         },
         Request::Verify {
             name,

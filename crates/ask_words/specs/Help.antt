@@ -21,6 +21,7 @@ head_of page.Transitions = codes "transitions FILE"
 head_of page.Equations = codes "equations FILE"
 head_of page.Points = codes "points PROGRAM"
 head_of page.Verify = codes "verify PROGRAM"
+head_of page.Functions = codes "functions PROGRAM"
 
 -- the options of `solve`, and of the commands that have the same ones
 abbrev pub analysis_options : Text
@@ -38,6 +39,10 @@ progress_option = codes "[--progress]"
 abbrev pub format_option : Text
 format_option = codes "[--format F]"
 
+-- the option of commands that ask about one function
+abbrev pub function_option : Text
+function_option = codes "[--function NAME]"
+
 -- a command that has the options of `solve`
 abbrev pub as_solve : Topic → Text
 as_solve topic = head_of topic ++ codes " (the options of solve)"
@@ -50,7 +55,8 @@ usage_text = codes "usage: tmpl " ++ head_of page.Solve ++ codes " " ++ analysis
     ++ codes " | " ++ head_of page.Equations ++ codes " " ++ equation_options ++ codes " | " ++ head_of page.Points
     ++ codes " | " ++ as_solve page.Verify ++ codes " | solve, check, transitions, equations, prove, verify: " ++ format_option
     ++ codes " | solve, certify, prove, verify, transitions, equations: " ++ progress_option
-    ++ codes " | " ++ head_of page.Overview ++ codes "\n"
+    ++ codes " | " ++ head_of page.Overview ++ codes " | " ++ head_of page.Functions
+    ++ codes " | solve, certify, check, prove, verify: " ++ function_option ++ codes "\n"
 
 -- ---- the pages
 
@@ -69,6 +75,7 @@ purpose_of page.Overview = codes "Finds the least bounds of linear forms over th
     ++ codes "  equations FILE            the least solution of equations\n"
     ++ codes "  points PROGRAM            the points of a program, without bounds\n"
     ++ codes "  verify PROGRAM            which assertions of a program the bounds prove\n"
+    ++ codes "  functions PROGRAM         the names of the functions of a file\n"
 purpose_of page.Solve = codes "Prints the least bounds of a program: for each point, as loop heads, labels\n"
     ++ codes "and the exit, and for each row of the domain the least number that the row\n"
     ++ codes "never exceeds there.\n"
@@ -87,24 +94,30 @@ purpose_of page.Equations = codes "Prints the least solution of rational equatio
 purpose_of page.Points = codes "Lists the points of a program, with their lines and labels, without bounds.\n"
 purpose_of page.Verify = codes "Says of each assertion of a program whether its least bounds prove it, with a\n"
     ++ codes "state that they allow where it is open.\n"
+purpose_of page.Functions = codes "Lists the names of the functions that a C file defines, in their order.\n"
 
 -- options on a line of their own
 abbrev pub on_a_line : Text → Text
 on_a_line options = codes "\n         " ++ options
 
+-- all options of `solve`
+abbrev pub program_options : Text
+program_options = on_a_line analysis_options ++ on_a_line format_option ++ codes " " ++ progress_option ++ codes " " ++ function_option
+
 -- the options of a command, where it has some
 abbrev pub options_of : Topic → Text
 options_of page.Overview = []
-options_of page.Solve = on_a_line analysis_options ++ on_a_line format_option ++ codes " " ++ progress_option
-options_of page.Certify = on_a_line analysis_options ++ on_a_line progress_option
-options_of page.Check = on_a_line format_option
+options_of page.Solve = program_options
+options_of page.Certify = on_a_line analysis_options ++ on_a_line progress_option ++ codes " " ++ function_option
+options_of page.Check = on_a_line format_option ++ codes " " ++ function_option
 options_of page.Bench = []
 options_of page.Upgrade = []
-options_of page.Prove = on_a_line analysis_options ++ on_a_line format_option ++ codes " " ++ progress_option
+options_of page.Prove = program_options
 options_of page.Transitions = on_a_line analysis_options ++ on_a_line format_option ++ codes " " ++ progress_option
 options_of page.Equations = on_a_line equation_options ++ codes " " ++ format_option ++ codes " " ++ progress_option
 options_of page.Points = []
-options_of page.Verify = on_a_line analysis_options ++ on_a_line format_option ++ codes " " ++ progress_option
+options_of page.Verify = program_options
+options_of page.Functions = []
 
 -- the options of improvements
 abbrev pub about_improvements : Text
@@ -122,30 +135,40 @@ about_analysis = codes "  --domain D        the rows: intervals if absent, zones
 abbrev pub about_format : Text
 about_format = codes "  --format F        how it is written: text if absent, or json\n"
 
+-- the function of a program
+abbrev pub about_function : Text
+about_function = codes "the function asked about; main, or the only one, if absent\n"
+
+-- a program and the options of its analysis
+abbrev pub about_program : Text
+about_program = about_analysis ++ codes "  --function NAME   " ++ about_function
+
 -- what the words of a command stand for
 abbrev pub about : Topic → Text
 about page.Overview = codes "  COMMAND  says what this command takes, with an example and its exit codes\n"
-about page.Solve = codes "  PROGRAM           a file in a small subset of C\n"
-    ++ about_analysis ++ about_format
-about page.Certify = codes "  PROGRAM           a file in a small subset of C\n"
-    ++ about_analysis
-about page.Check = codes "  PROGRAM     a file in a small subset of C\n"
-    ++ codes "  CERT        a certificate, as certify writes it\n"
-    ++ codes "  --format F  how it is written: text if absent, or json\n"
+about page.Solve = codes "  PROGRAM           a C file\n"
+    ++ about_program ++ about_format
+about page.Certify = codes "  PROGRAM           a C file\n"
+    ++ about_program
+about page.Check = codes "  PROGRAM          a C file\n"
+    ++ codes "  CERT             a certificate, as certify writes it\n"
+    ++ codes "  --function NAME  " ++ about_function
+    ++ codes "  --format F       how it is written: text if absent, or json\n"
 about page.Bench = codes "  --seed N   from which the program is drawn, 0 to 2147483647\n"
     ++ codes "  --loops K  how many loops it has, 1 to 46\n"
 about page.Upgrade = codes "  CERT  a certificate, in any format\n"
-about page.Prove = codes "  PROGRAM           a file in a small subset of C\n"
+about page.Prove = codes "  PROGRAM           a C file\n"
     ++ codes "  CLAIMS            a file of claims, as LABEL: x <= 10;\n"
-    ++ about_analysis ++ about_format
+    ++ about_program ++ about_format
 about page.Transitions = codes "  FILE              points and edges, instead of a program\n"
     ++ about_analysis ++ about_format
 about page.Equations = codes "  FILE              equations, as x = max(0, 1:2*y + 1);\n"
     ++ about_improvements ++ about_format
-about page.Points = codes "  PROGRAM  a file in a small subset of C\n"
-about page.Verify = codes "  PROGRAM           a file in a small subset of C\n"
-    ++ about_analysis
+about page.Points = codes "  PROGRAM  a C file\n"
+about page.Verify = codes "  PROGRAM           a C file\n"
+    ++ about_program
     ++ codes "  --format F        how it is written: text if absent, json or sarif\n"
+about page.Functions = codes "  PROGRAM  a C file\n"
 
 -- an option in examples
 abbrev pub over_octagons : Text
@@ -164,12 +187,18 @@ example_of page.Transitions = codes "transitions examples/buffer.tsys"
 example_of page.Equations = codes "equations examples/fair.equ"
 example_of page.Points = codes "points examples/pair.c"
 example_of page.Verify = codes "verify examples/assertions.c" ++ over_octagons
+example_of page.Functions = codes "functions examples/pair.c"
 
 -- the exit codes of an analysis
 abbrev pub analysis_codes : Text
 analysis_codes = codes "exit codes: 0 written, 2 wrong words, 3 file not read, 4 text refused or too\n"
     ++ codes "  large, 5 fraction too wide, 6 improvements spent, 7 out of memory,\n"
     ++ codes "  8 cannot write\n"
+
+-- the exit codes of a list of what a file has
+abbrev pub list_codes : Text
+list_codes = codes "exit codes: 0 written, 2 wrong words, 3 file not read, 4 program refused,\n"
+    ++ codes "  7 out of memory, 8 cannot write\n"
 
 -- with which exit codes a command ends
 abbrev pub codes_of : Topic → Text
@@ -187,11 +216,11 @@ codes_of page.Upgrade = codes "exit codes: 0 written, 1 no certificate, 2 wrong 
 codes_of page.Prove = analysis_codes
 codes_of page.Transitions = analysis_codes
 codes_of page.Equations = analysis_codes
-codes_of page.Points = codes "exit codes: 0 written, 2 wrong words, 3 file not read, 4 program refused,\n"
-    ++ codes "  7 out of memory, 8 cannot write\n"
+codes_of page.Points = list_codes
 codes_of page.Verify = codes "exit codes: 0 all are proved, 10 some assertion is open, 2 wrong words,\n"
     ++ codes "  3 file not read, 4 text refused or too large, 5 fraction too wide,\n"
     ++ codes "  6 improvements spent, 7 out of memory, 8 cannot write\n"
+codes_of page.Functions = list_codes
 
 -- the page of a command
 abbrev pub help_text : Topic → Text
@@ -213,6 +242,7 @@ topics = (codes "solve", page.Solve)
     ∷ (codes "equations", page.Equations)
     ∷ (codes "points", page.Points)
     ∷ (codes "verify", page.Verify)
+    ∷ (codes "functions", page.Functions)
     ∷ (codes "help", page.Overview)
     ∷ []
 

@@ -1,6 +1,7 @@
--- The commands: what `clap` is given, one simple command with eleven subcommands; and what a list of words asks for.
+-- The commands: what `clap` is given, one simple command with twelve subcommands; and what a list of words asks for.
 use Rattle.std.specs.Prelude.{ℕ, Bool, List, [], ◌∷◌, Option, Some, None, true, false, codes, option_and_then, option_map, unwrap_or}
-use Rattle.std.specs.Prelude.{if◌then◌else◌}
+use Rattle.std.specs.Prelude.{filter, map, if◌then◌else◌}
+use Rattle.std.specs.List.{list_any}
 use Rattle.std.specs.Option.{option_map_or}
 use Rattle.std.specs.Str.{bytes_eq}
 use Rattle.std.specs.Borrow.{Bor}
@@ -20,8 +21,9 @@ use Rattle.ask_words.specs.declared.request.Request.{Request}
 use Rattle.ask_words.specs.declared.request.Policy.{Policy}
 use Rattle.ask_words.specs.declared.request.Policy.TheVariants.{Best, First}
 use Rattle.ask_words.specs.declared.request.Request.TheVariants.{Analyse, Check, Bench, Upgrade, Prove, Transitions, Equations, Points}
-use Rattle.ask_words.specs.declared.request.Request.TheVariants.{Verify, Help}
+use Rattle.ask_words.specs.declared.request.Request.TheVariants.{Functions, Verify, Help}
 use Rattle.ask_words.specs.declared.request.Purpose.TheVariants.{Report, Certificate}
+use Rattle.ask_words.specs.declared.request.Source.{Source}
 
 -- ---- the command line, as `clap` sees it
 
@@ -45,17 +47,25 @@ flag_rule id = record (new_rule id) { long = Some id; action = Some SetTrue }
 abbrev pub in_formats : App → App
 in_formats app = with_rule app (option_rule (codes "format"))
 
--- `certify PROGRAM`, with five options; `solve PROGRAM`, `transitions PROGRAM` and `verify PROGRAM` have one more
+-- a command that asks about a function of its program
+abbrev pub of_function : App → App
+of_function app = with_rule app (option_rule (codes "function"))
+
+-- a command that analyses what has points, with five options; `transitions FILE` has a format, too
 abbrev pub analysis_app : Text → App
 analysis_app name =
     with_rule (with_rule (with_rule (with_rule (with_rule (with_rule (new_app name)
     (word_rule (codes "program"))) (option_rule (codes "domain"))) (option_rule (codes "rows")))
     (option_rule (codes "improvements"))) (option_rule (codes "policy"))) (flag_rule (codes "progress"))
 
+-- `certify PROGRAM`, with six options; `solve PROGRAM` and `verify PROGRAM` have one more
+abbrev pub program_app : Text → App
+program_app name = of_function (analysis_app name)
+
 -- `check PROGRAM CERT`
 abbrev pub check_app : App
-check_app = in_formats (with_rule (with_rule (new_app (codes "check")) (word_rule (codes "program")))
-    (word_rule (codes "certificate")))
+check_app = in_formats (of_function (with_rule (with_rule (new_app (codes "check")) (word_rule (codes "program")))
+    (word_rule (codes "certificate"))))
 
 -- `bench --seed N --loops K`
 abbrev pub bench_app : App
@@ -68,7 +78,7 @@ upgrade_app = with_rule (new_app (codes "upgrade")) (word_rule (codes "certifica
 
 -- `prove PROGRAM CLAIMS`, with the options of `solve`
 abbrev pub prove_app : App
-prove_app = in_formats (with_rule (analysis_app (codes "prove")) (word_rule (codes "claims")))
+prove_app = in_formats (with_rule (program_app (codes "prove")) (word_rule (codes "claims")))
 
 -- `equations FILE`, with four options
 abbrev pub equations_app : App
@@ -78,6 +88,10 @@ equations_app = in_formats (with_rule (with_rule (with_rule (with_rule (new_app 
 -- `points PROGRAM`
 abbrev pub points_app : App
 points_app = with_rule (new_app (codes "points")) (word_rule (codes "program"))
+
+-- `functions PROGRAM`
+abbrev pub functions_app : App
+functions_app = with_rule (new_app (codes "functions")) (word_rule (codes "program"))
 
 -- `help [COMMAND]`
 abbrev pub help_app : App
@@ -91,11 +105,10 @@ top_app = on_top (λ s. record s { no_binary_name = true; subcommand_required = 
 -- the whole command line
 abbrev pub tmpl_app : App
 tmpl_app = with_subcommand (with_subcommand (with_subcommand (with_subcommand (with_subcommand (with_subcommand (with_subcommand
-    (with_subcommand (with_subcommand (with_subcommand (with_subcommand top_app (in_formats (analysis_app (codes "solve"))).top)
-    (analysis_app (codes "certify")).top) check_app.top) bench_app.top) upgrade_app.top) prove_app.top)
-    (in_formats (analysis_app (codes "transitions"))).top) equations_app.top) points_app.top)
-    (in_formats (analysis_app (codes "verify"))).top)
-    help_app.top
+    (with_subcommand (with_subcommand (with_subcommand (with_subcommand (with_subcommand top_app
+    (in_formats (program_app (codes "solve"))).top) (program_app (codes "certify")).top) check_app.top) bench_app.top)
+    upgrade_app.top) prove_app.top) (in_formats (analysis_app (codes "transitions"))).top) equations_app.top) points_app.top)
+    (in_formats (program_app (codes "verify"))).top) functions_app.top) help_app.top
 
 -- ---- the texts of a request that borrows them
 
@@ -106,10 +119,14 @@ domain_text Zones = Zones
 domain_text Octagons = Octagons
 domain_text (Rows file) = Rows file.now
 
+-- the program with the names of its file and of its function as texts
+abbrev pub source_text : Source (Bor Text) → Source Text
+source_text s = record { text = s.text.now; function = option_map (λ name. name.now) s.function }
+
 -- the analysis with its names as texts
 abbrev pub analysis_text : Analysis (Bor Text) → Analysis Text
 analysis_text a = record {
-  program = a.program.now;
+  program = source_text a.program;
   domain = domain_text a.domain;
   improvements = a.improvements;
   policy = a.policy;
@@ -118,13 +135,14 @@ analysis_text a = record {
 -- the request with its names as texts
 abbrev pub request_text : Request (Bor Text) → Request Text
 request_text (Analyse purpose a format) = Analyse purpose (analysis_text a) format
-request_text (Check program certificate format) = Check program.now certificate.now format
+request_text (Check program certificate format) = Check (source_text program) certificate.now format
 request_text (Bench seed loops) = Bench seed loops
 request_text (Upgrade certificate) = Upgrade certificate.now
 request_text (Prove claims a format) = Prove claims.now (analysis_text a) format
 request_text (Transitions a format) = Transitions (analysis_text a) format
 request_text (Equations file improvements policy format) = Equations file.now improvements policy format
 request_text (Points program) = Points program.now
+request_text (Functions file) = Functions file.now
 request_text (Verify name a format) = Verify name.now (analysis_text a) format
 request_text (Help topic) = Help topic
 
@@ -142,6 +160,11 @@ policy_in given = meaning_in policies (unwrap_or (first_of (codes "policy") give
 abbrev pub format_in : List (Text × Format) → List Row → Option Format
 format_in table given = meaning_in table (unwrap_or (first_of (codes "format") given) (codes "text"))
 
+-- the program, and the name of the function that is asked about, where one is given
+abbrev pub source_in : List Row → Option (Source Text)
+source_in given = option_map (λ text. record { text = text; function = first_of (codes "function") given })
+    (first_of (codes "program") given)
+
 -- what is analysed, and how
 abbrev pub analysis_in : List Row → Option (Analysis Text)
 analysis_in given =
@@ -156,7 +179,7 @@ analysis_in given =
     }) (policy_in given))
     (improvements_in given))
     (domain_in (unwrap_or (first_of (codes "domain") given) (codes "intervals")) (first_of (codes "rows") given)))
-    (first_of (codes "program") given)
+    (source_in given)
 
 -- `solve`: the report of an analysis, in a format
 abbrev pub solve_in : List Row → Option (Request Text)
@@ -169,7 +192,7 @@ certify_in given = option_map (λ a. Analyse Certificate a format.Text) (analysi
 -- `check`: a program and a certificate
 abbrev pub check_in : List Row → Option (Request Text)
 check_in given = option_and_then (λ program. option_and_then (λ certificate. option_map (λ format. Check program certificate format)
-    (format_in formats given)) (first_of (codes "certificate") given)) (first_of (codes "program") given)
+    (format_in formats given)) (first_of (codes "certificate") given)) (source_in given)
 
 -- `bench`: a seed up to 2^31 - 1, and 1 to 46 loops
 abbrev pub bench_in : List Row → Option (Request Text)
@@ -205,10 +228,14 @@ equations_in given =
 abbrev pub points_in : List Row → Option (Request Text)
 points_in given = option_map (λ program. Points program) (first_of (codes "program") given)
 
+-- `functions`: a file of functions
+abbrev pub functions_in : List Row → Option (Request Text)
+functions_in given = option_map (λ file. Functions file) (first_of (codes "program") given)
+
 -- `verify`: an analysis whose program has checks; the name of its file stays with it
 abbrev pub verify_in : List Row → Option (Request Text)
 verify_in given =
-    option_and_then (λ a. option_map (λ format. Verify a.program a format) (format_in check_formats given)) (analysis_in given)
+    option_and_then (λ a. option_map (λ format. Verify a.program.text a format) (format_in check_formats given)) (analysis_in given)
 
 -- `help`: a page
 abbrev pub help_in : List Row → Option (Request Text)
@@ -226,7 +253,8 @@ command_in (name, given) = if bytes_eq name (codes "solve") then solve_in given
     else (if bytes_eq name (codes "equations") then equations_in given
     else (if bytes_eq name (codes "points") then points_in given
     else (if bytes_eq name (codes "verify") then verify_in given
-    else (if bytes_eq name (codes "help") then help_in given else None))))))))))
+    else (if bytes_eq name (codes "functions") then functions_in given
+    else (if bytes_eq name (codes "help") then help_in given else None)))))))))))
 
 -- what is asked, where `clap` finds no fault
 abbrev pub unless_fault : Kinds → Option (Request Text) → Option (Request Text)
@@ -259,15 +287,27 @@ wants_progress words = told_unless_fault (fault_of tmpl_app words) (progress_in 
 
 -- ---- examples
 
+-- a program of which no function is named
+abbrev pub whole_source : Text → Source Text
+whole_source text = record { text = text; function = None }
+
+-- a program of which this function is asked about
+abbrev pub source_of : (text function : Text) → Source Text
+source_of text function = record { text = text; function = Some function }
+
 -- the analysis of a program over a domain, with the other options left out
+abbrev pub analysis_of : Source Text → Domain Text → Analysis Text
+analysis_of program domain = record { program = program; domain = domain; improvements = 1000; policy = Best }
+
+-- and no function named
 abbrev pub plain_analysis : Text → Domain Text → Analysis Text
-plain_analysis program domain = record { program = program; domain = domain; improvements = 1000; policy = Best }
+plain_analysis program domain = analysis_of (whole_source program) domain
 
 -- words of each command that asks for no report of a program, and what they ask for
 abbrev pub examples : List (List Text × Request Text)
 examples =
     -- the file of the program comes first
-    (codes "check" ∷ codes "p" ∷ codes "c" ∷ [], Check (codes "p") (codes "c") format.Text)
+    (codes "check" ∷ codes "p" ∷ codes "c" ∷ [], Check (whole_source (codes "p")) (codes "c") format.Text)
     ∷ (codes "bench" ∷ codes "--loops" ∷ codes "3" ∷ codes "--seed" ∷ codes "7" ∷ [], Bench 7 3)
     -- the file of a certificate alone is upgraded
     ∷ (codes "upgrade" ∷ codes "c" ∷ [], Upgrade (codes "c"))
@@ -282,6 +322,8 @@ examples =
     ∷ (codes "equations" ∷ codes "e" ∷ codes "--policy=first" ∷ codes "--format=json" ∷ [], Equations (codes "e") 1000 First format.Json)
     -- the program alone has its points written
     ∷ (codes "points" ∷ codes "p" ∷ [], Points (codes "p"))
+    -- a file alone has its functions named
+    ∷ (codes "functions" ∷ codes "p" ∷ [], Functions (codes "p"))
     -- the checks of a program are judged by the bounds of its analysis
     ∷ (
       codes "verify" ∷ codes "p" ∷ codes "--domain=octagons" ∷ codes "--format" ∷ codes "sarif" ∷ [],
@@ -291,3 +333,41 @@ examples =
     ∷ (codes "help" ∷ [], Help page.Overview)
     ∷ (codes "help" ∷ codes "prove" ∷ [], Help page.Prove)
     ∷ []
+
+-- words that name a function of the program, and what they ask for
+abbrev pub function_examples : List (List Text × Request Text)
+function_examples =
+    -- a function is named before the program or behind it, in one word or in two, as any option
+    (
+      codes "solve" ∷ codes "--function=f" ∷ codes "p" ∷ [],
+      Analyse Report (analysis_of (source_of (codes "p") (codes "f")) Intervals) format.Text,
+    )
+    -- its certificate is that of this function
+    ∷ (
+      codes "certify" ∷ codes "p" ∷ codes "--function" ∷ codes "f" ∷ [],
+      Analyse Certificate (analysis_of (source_of (codes "p") (codes "f")) Intervals) format.Text,
+    )
+    -- and is checked against this function
+    ∷ (codes "check" ∷ codes "p" ∷ codes "--function=f" ∷ codes "c" ∷ [], Check (source_of (codes "p") (codes "f")) (codes "c") format.Text)
+    -- claims speak of the states of this function
+    ∷ (
+      codes "prove" ∷ codes "p" ∷ codes "c" ∷ codes "--function=f" ∷ [],
+      Prove (codes "c") (analysis_of (source_of (codes "p") (codes "f")) Intervals) format.Text,
+    )
+    -- the checks are those of this function
+    ∷ (
+      codes "verify" ∷ codes "--function=f" ∷ codes "p" ∷ [],
+      Verify (codes "p") (analysis_of (source_of (codes "p") (codes "f")) Intervals) format.Text,
+    )
+    ∷ []
+
+-- words that ask for nothing: a function is named twice, or the option has no name behind it, or the command has no function
+abbrev pub function_refusals : List (List Text)
+function_refusals = (codes "solve" ∷ codes "p" ∷ codes "--function=f" ∷ codes "--function=f" ∷ [])
+    ∷ (codes "solve" ∷ codes "p" ∷ codes "--function" ∷ [])
+    ∷ (codes "transitions" ∷ codes "p" ∷ codes "--function=f" ∷ [])
+    ∷ []
+
+-- the commands that have an option of this name, in the order of the command line
+abbrev pub commands_with : Text → List Text
+commands_with id = map (λ command. command.name) (filter (λ command. list_any (λ rule. bytes_eq rule.id id) command.rules) tmpl_app.subs)

@@ -18,6 +18,7 @@ pub enum Topic {
     Equations,
     Points,
     Verify,
+    Functions,
 }
 
 const HELP: &[u8] =
@@ -34,6 +35,7 @@ widening, and proves claims and assertions by them. Its commands are
   equations FILE            the least solution of equations
   points PROGRAM            the points of a program, without bounds
   verify PROGRAM            which assertions of a program the bounds prove
+  functions PROGRAM         the names of the functions of a file
 
 usage: tmpl help [COMMAND]
 
@@ -52,14 +54,15 @@ never exceeds there.
 
 usage: tmpl solve PROGRAM
          [--domain D] [--rows FILE] [--improvements N] [--policy P]
-         [--format F] [--progress]
+         [--format F] [--progress] [--function NAME]
 
-  PROGRAM           a file in a small subset of C
+  PROGRAM           a C file
   --domain D        the rows: intervals if absent, zones, octagons or rows
   --rows FILE       with the domain rows, the file that has them
   --improvements N  up to N rounds of improvements, 1000 if absent
   --policy P        which edge a round picks: best if absent, or first
   --progress        tells rounds, turns and pivots on standard error
+  --function NAME   the function asked about; main, or the only one, if absent
   --format F        how it is written: text if absent, or json
 
 example: tmpl solve examples/sum.c --domain octagons
@@ -75,14 +78,15 @@ and why nothing smaller would do. Another program, or check, can follow it.
 
 usage: tmpl certify PROGRAM
          [--domain D] [--rows FILE] [--improvements N] [--policy P]
-         [--progress]
+         [--progress] [--function NAME]
 
-  PROGRAM           a file in a small subset of C
+  PROGRAM           a C file
   --domain D        the rows: intervals if absent, zones, octagons or rows
   --rows FILE       with the domain rows, the file that has them
   --improvements N  up to N rounds of improvements, 1000 if absent
   --policy P        which edge a round picks: best if absent, or first
   --progress        tells rounds, turns and pivots on standard error
+  --function NAME   the function asked about; main, or the only one, if absent
 
 example: tmpl certify examples/sum.c --domain octagons > sum.cert
 
@@ -95,11 +99,12 @@ const CHECK: &[u8] = b"Checks a certificate, whoever made it, and prints the bou
 valid: they are the least bounds of the program over the certificate's rows.
 
 usage: tmpl check PROGRAM CERT
-         [--format F]
+         [--format F] [--function NAME]
 
-  PROGRAM     a file in a small subset of C
-  CERT        a certificate, as certify writes it
-  --format F  how it is written: text if absent, or json
+  PROGRAM          a C file
+  CERT             a certificate, as certify writes it
+  --function NAME  the function asked about; main, or the only one, if absent
+  --format F       how it is written: text if absent, or json
 
 example: tmpl check examples/sum.c sum.cert
 
@@ -139,15 +144,16 @@ program prove it, with a state that they allow where it is open.
 
 usage: tmpl prove PROGRAM CLAIMS
          [--domain D] [--rows FILE] [--improvements N] [--policy P]
-         [--format F] [--progress]
+         [--format F] [--progress] [--function NAME]
 
-  PROGRAM           a file in a small subset of C
+  PROGRAM           a C file
   CLAIMS            a file of claims, as LABEL: x <= 10;
   --domain D        the rows: intervals if absent, zones, octagons or rows
   --rows FILE       with the domain rows, the file that has them
   --improvements N  up to N rounds of improvements, 1000 if absent
   --policy P        which edge a round picks: best if absent, or first
   --progress        tells rounds, turns and pivots on standard error
+  --function NAME   the function asked about; main, or the only one, if absent
   --format F        how it is written: text if absent, or json
 
 example: tmpl prove examples/pair.c examples/pair.claims
@@ -202,7 +208,7 @@ const POINTS: &[u8] = b"Lists the points of a program, with their lines and labe
 
 usage: tmpl points PROGRAM
 
-  PROGRAM  a file in a small subset of C
+  PROGRAM  a C file
 
 example: tmpl points examples/pair.c
 
@@ -216,14 +222,15 @@ state that they allow where it is open.
 
 usage: tmpl verify PROGRAM
          [--domain D] [--rows FILE] [--improvements N] [--policy P]
-         [--format F] [--progress]
+         [--format F] [--progress] [--function NAME]
 
-  PROGRAM           a file in a small subset of C
+  PROGRAM           a C file
   --domain D        the rows: intervals if absent, zones, octagons or rows
   --rows FILE       with the domain rows, the file that has them
   --improvements N  up to N rounds of improvements, 1000 if absent
   --policy P        which edge a round picks: best if absent, or first
   --progress        tells rounds, turns and pivots on standard error
+  --function NAME   the function asked about; main, or the only one, if absent
   --format F        how it is written: text if absent, json or sarif
 
 example: tmpl verify examples/assertions.c --domain octagons
@@ -231,6 +238,18 @@ example: tmpl verify examples/assertions.c --domain octagons
 exit codes: 0 all are proved, 10 some assertion is open, 2 wrong words,
   3 file not read, 4 text refused or too large, 5 fraction too wide,
   6 improvements spent, 7 out of memory, 8 cannot write
+";
+
+const FUNCTIONS: &[u8] = b"Lists the names of the functions that a C file defines, in their order.
+
+usage: tmpl functions PROGRAM
+
+  PROGRAM  a C file
+
+example: tmpl functions examples/pair.c
+
+exit codes: 0 written, 2 wrong words, 3 file not read, 4 program refused,
+  7 out of memory, 8 cannot write
 ";
 
 /// The page of a command: what it is for, its words, an example, and its exit codes; on at most 24 lines of at most 80 columns.
@@ -249,6 +268,7 @@ pub fn help_text(topic: Topic) -> &'static [u8]
         Topic::Equations => EQUATIONS,
         Topic::Points => POINTS,
         Topic::Verify => VERIFY,
+        Topic::Functions => FUNCTIONS,
     }
 }
 
@@ -276,6 +296,8 @@ fn page_of(name: &str) -> Option<Topic>
         Some(Topic::Points)
     } else if name == "verify" {
         Some(Topic::Verify)
+    } else if name == "functions" {
+        Some(Topic::Functions)
     } else if name == "help" {
         Some(Topic::Overview)
     } else {
@@ -302,5 +324,6 @@ pub fn usage_line() -> &'static [u8]
       | prove PROGRAM CLAIMS (the options of solve) | transitions FILE (the options of solve) \
       | equations FILE [--improvements N] [--policy P] | points PROGRAM | verify PROGRAM (the options of solve) \
       | solve, check, transitions, equations, prove, verify: [--format F] \
-      | solve, certify, prove, verify, transitions, equations: [--progress] | help [COMMAND]\n"
+      | solve, certify, prove, verify, transitions, equations: [--progress] | help [COMMAND] | functions PROGRAM \
+      | solve, certify, check, prove, verify: [--function NAME]\n"
 }

@@ -5,7 +5,8 @@ ghost use Rattle.clap.specs.Simple.{Shape};
 ghost use Rattle.clap.specs.Words.{Text};
 ghost use Rattle.ask_words.specs.Help.{head_of, help_text, is_screen, options_of, stands_in, topics};
 ghost use Rattle.ask_words.specs.Laws.{SolveReports};
-ghost use Rattle.ask_words.specs.Request.{examples, plain_analysis, request_of, tmpl_app, wants_progress};
+ghost use Rattle.ask_words.specs.Request.{commands_with, examples, function_examples, function_refusals, plain_analysis, request_of};
+ghost use Rattle.ask_words.specs.Request.{tmpl_app, wants_progress};
 ghost use Rattle.ask_words.specs.declared.format.Format.TheVariants as Format;
 ghost use Rattle.ask_words.specs.declared.help.Topic.{Topic};
 ghost use Rattle.ask_words.specs.declared.help.Topic.TheVariants as page;
@@ -60,6 +61,20 @@ pub fn progress_laws()
 
     // A command that solves nothing has none.
     ensures check { request_of (codes "check" ∷ codes "p" ∷ codes "c" ∷ codes "--progress" ∷ []) ≡ None }
+{}
+
+/// What is so of `--function`. Where it is absent, no function is named: `plain_analysis` has none.
+pub fn function_laws()
+    // It names the function of a program that is solved, checked, proved or verified.
+    ensures given { map (λ (line : List Text × Request Text). request_of line.0) function_examples
+        ≡ map (λ line. Some line.1) function_examples }
+
+    // No other command has it: `points` writes the points of a file that has one function, or `main`, and a transition system has none.
+    ensures commands { commands_with (codes "function")
+        ≡ codes "solve" ∷ codes "certify" ∷ codes "check" ∷ codes "prove" ∷ codes "verify" ∷ [] }
+
+    // It isn't given twice, nor without a name, nor to a command that doesn't have it.
+    ensures refused { map (λ (words : List Text). request_of words) function_refusals ≡ map (λ words. None) function_refusals }
 {}
 
 /// What is so of the pages of `help`.

@@ -1,22 +1,18 @@
-//! What the words ask for: the commands, the words that each takes, as they are built for `clap`, and the request that they make.
+//! What the words ask for: the commands, and the request that the words of one make.
 
-ghost use Rattle.std.specs.Prelude.{◌≡◌, IfOk, false, option_and_then, option_map, unwrap_or};
-ghost use Rattle.clap.specs.Words.{app_of, first_of, found_of, rows_of, rule_of, subcommand_rows_of};
-ghost use Rattle.clap.specs.declared.Command.TheViews.{out-Command};
+ghost use Rattle.std.specs.Prelude.{◌≡◌, option_and_then, option_map, unwrap_or};
+ghost use Rattle.clap.specs.Words.{first_of, found_of, rows_of, subcommand_rows_of};
 ghost use Rattle.ask_words.specs.Help.{topic_in};
-ghost use Rattle.ask_words.specs.Request.{analysis_app, analysis_in, analysis_text, bench_app, bench_in, certify_in, check_app, check_in};
-ghost use Rattle.ask_words.specs.Request.{command_in, equations_app, equations_in, flag_rule, format_in, has_progress, help_app, help_in};
-ghost use Rattle.ask_words.specs.Request.{improvements_in, in_formats, option_rule, optional_rule, points_app, points_in, policy_in};
-ghost use Rattle.ask_words.specs.Request.{progress_in, prove_app, prove_in, request_text, solve_in, tmpl_app, top_app, transitions_in};
-ghost use Rattle.ask_words.specs.Request.{upgrade_app, upgrade_in, verify_in, word_rule};
+ghost use Rattle.ask_words.specs.Request.{analysis_in, analysis_text, bench_in, certify_in, check_in, command_in, equations_in, format_in};
+ghost use Rattle.ask_words.specs.Request.{functions_in, has_progress, help_in, improvements_in, points_in, policy_in, progress_in};
+ghost use Rattle.ask_words.specs.Request.{prove_in, request_text, solve_in, source_in, source_text, transitions_in, upgrade_in, verify_in};
 ghost use Rattle.ask_words.specs.Values.{check_formats, formats};
 
 use crate::format::Format;
 use crate::help::{Topic, topic_of};
 use crate::values::{check_format, domain, number, plain_format, policy};
 use base_limits::MOST_IMPROVEMENTS;
-use clap::{Arg, ArgAction, ArgMatches, Command};
-use std::alloc::{AllocError, Global};
+use clap::ArgMatches;
 
 /// By which rule an edge is picked for an unknown whose bound is improved.
 #[derive(Clone, Copy, Debug, PartialEq, Eq)]
@@ -36,11 +32,19 @@ pub enum Domain<T> {
     Rows(T),
 }
 
+/// A program, which is a function of a C file; or a transition system, where no function is named.
+#[derive(Clone, Copy, Debug, PartialEq, Eq)]
+pub struct Source<T> {
+    /// The name of its file, or its text.
+    pub text: T,
+    /// The name of the function that is asked about, if one is named.
+    pub function: Option<T>,
+}
+
 /// A program or a transition system, and how it is solved.
 #[derive(Clone, Copy, Debug, PartialEq, Eq)]
 pub struct Analysis<T> {
-    /// The name of the file of the program, or of the transition system.
-    pub program: T,
+    pub program: Source<T>,
     pub domain: Domain<T>,
     /// How many improvements are made at most: at most 1,000,000, and 1,000 by default.
     pub improvements: u32,
@@ -67,7 +71,7 @@ pub enum Request<T> {
     },
     /// Check a certificate of a program.
     Check {
-        program: T,
+        program: Source<T>,
         certificate: T,
         format: Format,
     },
@@ -102,6 +106,10 @@ pub enum Request<T> {
     Points {
         program: T,
     },
+    /// Write the names of the functions of a file.
+    Functions {
+        file: T,
+    },
     /// Analyse a program, and say of each of its checks whether the least bounds prove it. The name of its file is one, whatever
     /// stands in place of the names of files.
     Verify {
@@ -113,143 +121,6 @@ pub enum Request<T> {
     Help {
         topic: Topic,
     },
-}
-
-/// The whole command line.
-pub(crate) fn command_line<'a>(alloc: Global) -> Result<Command<'a>, AllocError>
-    ensures { IfOk result (λ command. app_of command ≡ tmpl_app) }
-{
-    let solve = top_command(alloc).subcommand(formatted_command(alloc, "solve")?)?;
-    let certify = solve.subcommand(analysis_command(alloc, "certify")?)?;
-    let check = certify.subcommand(check_command(alloc)?)?;
-    let bench = check.subcommand(bench_command(alloc)?)?;
-    let upgrade = bench.subcommand(upgrade_command(alloc)?)?;
-    let prove = upgrade.subcommand(prove_command(alloc)?)?;
-    let transitions = prove.subcommand(formatted_command(alloc, "transitions")?)?;
-    let equations = transitions.subcommand(equations_command(alloc)?)?;
-    let points = equations.subcommand(points_command(alloc)?)?;
-    let verify = points.subcommand(formatted_command(alloc, "verify")?)?;
-    Ok(verify.subcommand(help_command(alloc)?)?)
-}
-
-// The program, whose own name isn't among the words; one of the commands has to be, and `help` is one of them.
-fn top_command<'a>(alloc: Global) -> Command<'a>
-    ensures { app_of result ≡ top_app }
-{
-    Command::new(alloc, "tmpl")
-        .no_binary_name(true)
-        .subcommand_required(true)
-        .disable_help_subcommand(true)
-}
-
-// `solve`, `transitions` or `verify`, whose output has a format.
-fn formatted_command<'a>(alloc: Global, name: &'a str) -> Result<Command<'a>, AllocError>
-    ensures app { IfOk result (λ command. app_of command ≡ in_formats (analysis_app name.entry.now)) }
-    ensures local { IfOk result (λ command. (out-Command command).has_globals ≡ false) }
-{
-    Ok(analysis_command(alloc, name)?.arg(option(alloc, "format"))?)
-}
-
-// `certify`, or one of the others without their format.
-fn analysis_command<'a>(alloc: Global, name: &'a str) -> Result<Command<'a>, AllocError>
-    ensures app { IfOk result (λ command. app_of command ≡ analysis_app name.entry.now) }
-    ensures local { IfOk result (λ command. (out-Command command).has_globals ≡ false) }
-{
-    let program = Command::new(alloc, name).arg(word(alloc, "program"))?;
-    let domain = program.arg(option(alloc, "domain"))?;
-    let rows = domain.arg(option(alloc, "rows"))?;
-    let improvements = rows.arg(option(alloc, "improvements"))?;
-    let policy = improvements.arg(option(alloc, "policy"))?;
-    Ok(policy.arg(flag(alloc, "progress"))?)
-}
-
-fn check_command<'a>(alloc: Global) -> Result<Command<'a>, AllocError>
-    ensures app { IfOk result (λ command. app_of command ≡ check_app) }
-    ensures local { IfOk result (λ command. (out-Command command).has_globals ≡ false) }
-{
-    let program = Command::new(alloc, "check").arg(word(alloc, "program"))?;
-    let certificate = program.arg(word(alloc, "certificate"))?;
-    Ok(certificate.arg(option(alloc, "format"))?)
-}
-
-fn bench_command<'a>(alloc: Global) -> Result<Command<'a>, AllocError>
-    ensures app { IfOk result (λ command. app_of command ≡ bench_app) }
-    ensures local { IfOk result (λ command. (out-Command command).has_globals ≡ false) }
-{
-    let seed = Command::new(alloc, "bench").arg(option(alloc, "seed"))?;
-    Ok(seed.arg(option(alloc, "loops"))?)
-}
-
-fn upgrade_command<'a>(alloc: Global) -> Result<Command<'a>, AllocError>
-    ensures app { IfOk result (λ command. app_of command ≡ upgrade_app) }
-    ensures local { IfOk result (λ command. (out-Command command).has_globals ≡ false) }
-{
-    Ok(Command::new(alloc, "upgrade").arg(word(alloc, "certificate"))?)
-}
-
-fn prove_command<'a>(alloc: Global) -> Result<Command<'a>, AllocError>
-    ensures app { IfOk result (λ command. app_of command ≡ prove_app) }
-    ensures local { IfOk result (λ command. (out-Command command).has_globals ≡ false) }
-{
-    let claims = analysis_command(alloc, "prove")?.arg(word(alloc, "claims"))?;
-    Ok(claims.arg(option(alloc, "format"))?)
-}
-
-fn equations_command<'a>(alloc: Global) -> Result<Command<'a>, AllocError>
-    ensures app { IfOk result (λ command. app_of command ≡ equations_app) }
-    ensures local { IfOk result (λ command. (out-Command command).has_globals ≡ false) }
-{
-    let file = Command::new(alloc, "equations").arg(word(alloc, "file"))?;
-    let improvements = file.arg(option(alloc, "improvements"))?;
-    let policy = improvements.arg(option(alloc, "policy"))?;
-    let progress = policy.arg(flag(alloc, "progress"))?;
-    Ok(progress.arg(option(alloc, "format"))?)
-}
-
-fn points_command<'a>(alloc: Global) -> Result<Command<'a>, AllocError>
-    ensures app { IfOk result (λ command. app_of command ≡ points_app) }
-    ensures local { IfOk result (λ command. (out-Command command).has_globals ≡ false) }
-{
-    Ok(Command::new(alloc, "points").arg(word(alloc, "program"))?)
-}
-
-fn help_command<'a>(alloc: Global) -> Result<Command<'a>, AllocError>
-    ensures app { IfOk result (λ command. app_of command ≡ help_app) }
-    ensures local { IfOk result (λ command. (out-Command command).has_globals ≡ false) }
-{
-    Ok(Command::new(alloc, "help").arg(optional(alloc, "command"))?)
-}
-
-// A positional word that may be left out.
-fn optional<'a>(alloc: Global, name: &'a str) -> Arg<'a>
-    ensures rule { rule_of result ≡ optional_rule name.entry.now }
-    ensures local { result.global ≡ false }
-{
-    Arg::new(alloc, name)
-}
-
-// A positional word that has to be there.
-fn word<'a>(alloc: Global, name: &'a str) -> Arg<'a>
-    ensures rule { rule_of result ≡ word_rule name.entry.now }
-    ensures local { result.global ≡ false }
-{
-    Arg::new(alloc, name).required(true)
-}
-
-// An option of one value.
-fn option<'a>(alloc: Global, name: &'a str) -> Arg<'a>
-    ensures rule { rule_of result ≡ option_rule name.entry.now }
-    ensures local { result.global ≡ false }
-{
-    Arg::new(alloc, name).long(name)
-}
-
-// An option without a value.
-fn flag<'a>(alloc: Global, name: &'a str) -> Arg<'a>
-    ensures rule { rule_of result ≡ flag_rule name.entry.now }
-    ensures local { result.global ≡ false }
-{
-    Arg::new(alloc, name).long(name).action(ArgAction::SetTrue)
 }
 
 /// Whether progress is asked for in these matches.
@@ -305,6 +176,8 @@ fn command<'a>(name: &str, given: &ArgMatches<'a>) -> Option<Request<&'a str>>
         points(given)
     } else if name == "verify" {
         verify(given)
+    } else if name == "functions" {
+        functions(given)
     } else if name == "help" {
         help(given)
     } else {
@@ -335,11 +208,22 @@ fn certify<'a>(given: &ArgMatches<'a>) -> Option<Request<&'a str>>
     })
 }
 
+// The program, and the function that is asked about.
+fn source_in<'a>(given: &ArgMatches<'a>) -> Option<Source<&'a str>>
+    ensures { option_map source_text result ≡ source_in (rows_of (found_of given.now)) }
+{
+    let text = value(given, "program")?;
+    Some(Source {
+        text,
+        function: value(given, "function"),
+    })
+}
+
 // What is analysed, and how.
 fn analysis_in<'a>(given: &ArgMatches<'a>) -> Option<Analysis<&'a str>>
     ensures { option_map analysis_text result ≡ analysis_in (rows_of (found_of given.now)) }
 {
-    let program = value(given, "program")?;
+    let program = source_in(given)?;
     let domain = domain(value_or(given, "domain", "intervals"), value(given, "rows"))?;
     let improvements = improvements(given)?;
     let policy = policy_in(given)?;
@@ -354,7 +238,7 @@ fn analysis_in<'a>(given: &ArgMatches<'a>) -> Option<Analysis<&'a str>>
 fn check<'a>(given: &ArgMatches<'a>) -> Option<Request<&'a str>>
     ensures { option_map request_text result ≡ check_in (rows_of (found_of given.now)) }
 {
-    let program = value(given, "program")?;
+    let program = source_in(given)?;
     let certificate = value(given, "certificate")?;
     let format = format_in(given)?;
     Some(Request::Check {
@@ -428,10 +312,17 @@ fn verify<'a>(given: &ArgMatches<'a>) -> Option<Request<&'a str>>
     let analysis = analysis_in(given)?;
     let format = check_format(value_or(given, "format", "text"))?;
     Some(Request::Verify {
-        name: analysis.program,
+        name: analysis.program.text,
         analysis,
         format,
     })
+}
+
+fn functions<'a>(given: &ArgMatches<'a>) -> Option<Request<&'a str>>
+    ensures { option_map request_text result ≡ functions_in (rows_of (found_of given.now)) }
+{
+    let file = value(given, "program")?;
+    Some(Request::Functions { file })
 }
 
 fn help<'a>(given: &ArgMatches<'_>) -> Option<Request<&'a str>>

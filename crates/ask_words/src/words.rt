@@ -3,7 +3,8 @@
 ghost use Rattle.std.specs.Prelude.{◌≡◌, IfOk, IsErrOf, None, Some, map, string_bytes};
 ghost use Rattle.ask_words.specs.Request.{request_of, request_text, wants_progress};
 
-use crate::request::{Request, command_line, progress_in, request_in};
+use crate::commands::command_line;
+use crate::request::{Request, progress_in, request_in};
 use clap::error::ErrorKind;
 use std::alloc::{AllocError, Global};
 

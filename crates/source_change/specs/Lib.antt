@@ -2,4 +2,3 @@ pub mod Onto
 pub mod Tests
 pub mod Changed
 pub mod Nexts
-pub mod Stops

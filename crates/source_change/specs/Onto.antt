@@ -1,4 +1,4 @@
--- How what is read is spelled before other tokens. (`proofs/onto`: it is the spelling of the grammar with them behind it.)
+-- How what is read is spelled before other tokens. (proofs/spelled/Changes.antt: it is the spelling of the grammar with them behind it.)
 use Rattle.std.specs.Prelude.{List, [], ◌∷◌, ◌++◌}
 use Rattle.source_grammar.specs.Tokens.{replaces, a_name, a_number, left_bracket, right_bracket, comma, change_sign, step_sign, Token}
 use Rattle.source_grammar.specs.Tokens.{token}

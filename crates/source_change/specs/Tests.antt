@@ -25,10 +25,6 @@ pub record WasRead (n : ℕ) (rest : List Token) (old new : Reading) (met : Stat
   pub out : statements_of after ≡ followed_by (statements_of before) (core_in n r.1)
   pub reader : new ≡ at_tokens old rest
 
--- the core's statements stand behind those that were there
-abbrev pub WasPushed : (n : ℕ) (before after : List Stmt) → Statements → Type 0
-WasPushed n before after ss = statements_of after ≡ followed_by (statements_of before) (core_in n ss)
-
 -- A change over n variables was read, up to these tokens: what was met of names is known, and the code has its deeds.
 pub record WasChanged (n : ℕ) (rest : List Token) (old new : Reading) (met : State) (list : List Deed) (r : State × Change) : Type 0 where
   pub known : met ≡ r.0

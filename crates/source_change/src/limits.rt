@@ -1,27 +1,20 @@
 //! The limits of a statement.
 
-ghost use Rattle.std.specs.Prelude.{◌≡◌, ℕ, List, [], ◌∷◌};
+ghost use Rattle.std.specs.Prelude.{◌≡◌, List, [], ◌∷◌};
 ghost use Rattle.lang_tree.specs.Tree.{Deed as Tree};
 ghost use Rattle.lang_tree.specs.DeedView.{deeds_of, condition_of};
 ghost use Rattle.source_core.specs.Elaborated as core;
 ghost use Rattle.source_meaning.specs.Limits.{limited};
-ghost use Rattle.source_value.specs.Kept.{is_within, kept_deeds};
+ghost use Rattle.source_value.specs.Kept.{kept_deeds};
 ghost use Rattle.source_value.specs.Stands.{StandsEvaluated, StandsTested};
 ghost use Rattle.source_reader.specs.Answers.{Answers};
 ghost use Rattle.source_change.specs.Tests.{IsTest};
 
 use crate::conditions::Test;
-use lang_tree::{Deed, MOST_HIDDEN};
+use lang_tree::Deed;
 use source_meaning::{FunctionFault, Limit};
 use source_reader::Stop;
 use source_value::{Evaluated, Prelude, Site, Tested};
-
-// Whether a statement has taken no more hidden variables than it may where `next` is the one that comes next.
-fn is_within(site: Site, next: u32) -> bool
-    ensures { result ≡ is_within site.variables next }
-{
-    u64::from(next) <= u64::from(site.variables) + MOST_HIDDEN as u64
-}
 
 // The statement that begins at `at` passes this limit.
 fn past(at: u32, which: Limit) -> Stop
@@ -40,7 +33,7 @@ pub(crate) fn limited_deeds(
     ensures { (ds : List Tree) → prelude ≡ kept_deeds site.variables next ds
         → Answers (λ deeds es. deeds_of deeds.items ≡ es) result (limited site.variables at next ds [] ds) }
 {
-    if !is_within(site, next) {
+    if !site.is_within(next) {
         return Err(past(at, Limit::Hidden));
     }
     match prelude.into_list() {
@@ -62,7 +55,7 @@ pub(crate) fn limited_test(site: Site, at: u32, tested: Tested) -> Result<Test, 
     ensures { (t : core.Tested) → StandsTested site.variables tested t
         → Answers IsTest result (limited site.variables at t.next t.prelude (t.condition ∷ []) t) }
 {
-    if !is_within(site, tested.next) {
+    if !site.is_within(tested.next) {
         return Err(past(at, Limit::Hidden));
     }
     let cond = match tested.condition.into_cond() {

@@ -1,6 +1,6 @@
 //! Numbers that have to be in their ranges.
 
-ghost use Rattle.std.specs.Prelude.{◌≡◌, ℕ};
+ghost use Rattle.std.specs.Prelude.{ℕ};
 ghost use Rattle.source_tree.specs.Expressions.{Expression};
 ghost use Rattle.source_core.specs.Elaborated.{elaborated};
 ghost use Rattle.source_core.specs.Fits.{fits};
@@ -8,29 +8,14 @@ ghost use Rattle.source_meaning.specs.Expressions.{ranged};
 ghost use Rattle.source_value.specs.Answers as value;
 ghost use Rattle.source_value.specs.Stands.{Stands};
 ghost use Rattle.source_reader.specs.Answers.{Answers};
-ghost use Rattle.source_change.specs.Stops.{stop_at};
 
-use source_meaning::FunctionFault;
-use source_reader::Stop;
+use source_reader::{Stop, placed};
 use source_value::{OperationFault, Value};
-
-// The fault of an operation whose sign stands at `sign`.
-fn stop_at(sign: u32, fault: OperationFault) -> Stop
-    ensures { result ≡ stop_at sign fault }
-{
-    match fault {
-        OperationFault::Big => Stop::Fault(FunctionFault::BigNumber { at: sign }),
-        OperationFault::NoMemory => Stop::Fault(FunctionFault::NoMemory),
-    }
-}
 
 // What an operation whose sign stands at `sign` answers, or the fault that a number leaves its range.
 pub(crate) fn ranged(made: Result<Value, OperationFault>, sign: u32) -> Result<Value, Stop>
     ensures { (n line h : ℕ) (e : Expression) → value.Answers (Stands n) fits made (elaborated line e h)
         → Answers (λ v x. Stands n v (elaborated line x h)) result (ranged line sign h e) }
 {
-    match made {
-        Ok(value) => Ok(value),
-        Err(fault) => Err(stop_at(sign, fault)),
-    }
+    placed(made, sign)
 }

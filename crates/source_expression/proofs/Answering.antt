@@ -1,17 +1,12 @@
 -- Answers that are handed on.
-use Rattle.std.proofs.Common.{◌≡◌, ◌∙◌, ℕ, Bool, true, false, Result, Ok, Err, refl, sym, ap, subst}
+use Rattle.std.proofs.Common.{◌≡◌, Result, Ok, Err, refl, sym, ap, subst}
 use Rattle.std.specs.Result.{IsErrAnd}
 use Rattle.source_meaning.specs.declared.fault.FunctionFault.{FunctionFault}
-use Rattle.source_meaning.specs.declared.fault.FunctionFault.TheVariants.{BigNumber}
 use Rattle.source_meaning.specs.declared.fault.FunctionFault.TheVariants as fault
-use Rattle.source_meaning.specs.Results.{◌>>=◌, provided}
-use Rattle.source_value.specs.declared.fault.OperationFault.{OperationFault}
-use Rattle.source_value.specs.declared.fault.OperationFault.TheVariants as operation
-use Rattle.source_value.specs.Answers as value
+use Rattle.source_meaning.specs.Results.{◌>>=◌}
 use Rattle.source_reader.specs.declared.stop.Stop.{Stop}
 use Rattle.source_reader.specs.declared.stop.Stop.TheVariants.{Fault, Unlike}
 use Rattle.source_reader.specs.Answers.{Answers}
-use Rattle.source_expression.specs.Placed.{placed}
 
 -- a fault is handed on
 pub err_then : {A B C D : Type 0} (Is : A → B → Type 0) (As : C → D → Type 0) (s : Stop) (w : Result B FunctionFault)
@@ -88,11 +83,3 @@ pub weaker : {C D : Type 0} (As Bs : C → D → Type 0) (r : Result C Stop) (w 
 weaker As Bs (Ok v) w f h = (h.0, h.1, f v h.0 h.2)
 weaker As Bs (Err (Fault e)) w f h = h
 weaker As Bs (Err Unlike) w f h = h
-
--- the result of an operation at its place: what is wanted, where it is in range, and else the fault
-pub placed_answers : {A B D : Type 0} (Is : A → B → Type 0) (fits : B → Bool) (g : D → B) (r : Result A OperationFault) (at : ℕ) (x : D)
-    → value.Answers Is fits r (g x) → ((v : A) → Is v (g x) → fits (g x) ≡ true)
-    → Answers (λ v z. Is v (g z)) (placed at r) (provided (fits (g x)) (BigNumber at) x)
-placed_answers Is fits g (Ok v) at x h sure = (x, ap (λ b. provided b (BigNumber at) x) (sure v h), h)
-placed_answers Is fits g (Err operation.Big) at x h sure = λ n. ap (λ b. provided b (BigNumber at) x) (h refl)
-placed_answers Is fits g (Err operation.NoMemory) at x h sure = λ n. absurd (n refl)

@@ -21,7 +21,7 @@ use Rattle.source_reader.specs.declared.mark.Mark.{Mark}
 use Rattle.source_reader.specs.Marks.{mark_in}
 use Rattle.source_reader.specs.Answers.{Answers}
 use Rattle.source_reader.specs.Reading.{Reading, behind_first, first_kind, first_place, name_in, number_in, passed}
-use Rattle.source_expression.specs.Placed.{placed}
+use Rattle.source_reader.specs.Placed.{placed}
 use Rattle.source_expression.specs.Sides.{IsNumberOf, IsRead}
 use Rattle.source_expression.specs.Readings.{Reads}
 use Rattle.source_expression.proofs.Answering.{answers_of, beside}

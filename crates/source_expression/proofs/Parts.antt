@@ -26,7 +26,7 @@ use Rattle.source_value.specs.Stands.{Stands, StandsNumber, StandsTested}
 use Rattle.source_reader.specs.declared.stop.Stop.{Stop}
 use Rattle.source_reader.specs.Answers.{Answers}
 use Rattle.source_reader.specs.Reading.{Reading}
-use Rattle.source_expression.specs.Placed.{placed}
+use Rattle.source_reader.specs.Placed.{placed}
 use Rattle.source_expression.specs.Signs.{asks_conditions, work_in}
 use Rattle.source_expression.specs.declared.signs.Work.{Work}
 use Rattle.source_expression.specs.declared.signs.Work.TheVariants as work

@@ -20,13 +20,14 @@ use Rattle.source_value.specs.Answers as value
 use Rattle.source_value.specs.Stands.{Stands, StandsTested}
 use Rattle.source_reader.specs.declared.stop.Stop.{Stop}
 use Rattle.source_reader.specs.Answers.{Answers}
-use Rattle.source_expression.specs.Placed.{placed}
+use Rattle.source_reader.specs.Placed.{placed}
 use Rattle.source_expression.specs.Signs.{asks_conditions, work_in}
 use Rattle.source_expression.specs.declared.sides.Side.{Side}
 use Rattle.source_expression.specs.declared.sides.Side.TheVariants as side_of
 use Rattle.source_expression.specs.Sides.{IsRead, IsNumberOf, IsTestedOf, StandsSide, sides_worked, worked}
 use Rattle.source_expression.specs.Joins.{Join, joined_with}
-use Rattle.source_expression.proofs.Answering.{placed_answers, handed, lacking}
+use Rattle.source_reader.proofs.Placing.{placed_answers}
+use Rattle.source_expression.proofs.Answering.{handed, lacking}
 use Rattle.source_expression.proofs.Joined.{bind_same}
 
 -- a sign asks for conditions where the definition does

@@ -1,4 +1,3 @@
-pub mod Placed
 pub mod Signs
 pub mod Sides
 pub mod Readings

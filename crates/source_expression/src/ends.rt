@@ -9,8 +9,7 @@ ghost use Rattle.source_reader.specs.Reading.{GoesOn};
 ghost use Rattle.source_expression.specs.Sides.{IsRead, IsEvaluatedOf};
 ghost use Rattle.source_expression.specs.Readings.{Reads, ReadsOk};
 
-use crate::ranges::placed;
-use source_reader::{Mark, Reader, Stop};
+use source_reader::{Mark, Reader, Stop, placed};
 use source_value::{Evaluated, Site, Value, element};
 
 /// An element of an array of so many, behind its index; `bracket` is the place of its first bracket.

@@ -13,12 +13,11 @@ ghost use Rattle.source_expression.specs.Readings.{Reads, ReadsTested};
 ghost use Rattle.source_expression.specs.Joins.{Join, Stops, chosen_with, joined_with, read_condition};
 
 use crate::operands::operand;
-use crate::ranges::placed;
 use crate::sides::{Sign, as_side, joined};
 use crate::signs::{is_question, level, sign_in, work_of};
 use source_grammar::Op;
 use source_names::Known;
-use source_reader::{Mark, Reader, Stop};
+use source_reader::{Mark, Reader, Stop, placed};
 use source_value::{Site, Tested, Value, chosen};
 
 /// The expression that comes next, with the names that are known; hidden variables are taken from `next` on. Of its faults it tells the

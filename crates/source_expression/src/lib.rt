@@ -6,7 +6,6 @@ mod ends;
 mod expressions;
 mod lists;
 mod operands;
-mod ranges;
 mod sides;
 mod signs;
 

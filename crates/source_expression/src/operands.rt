@@ -15,11 +15,10 @@ ghost use Rattle.source_expression.specs.Joins.{Stops};
 use crate::ends::{call_behind, element_behind};
 use crate::expressions::expression;
 use crate::lists::arguments;
-use crate::ranges::placed;
 use crate::sides::signed;
 use crate::signs::{Opening, Prefix, opening_in};
 use source_names::Known;
-use source_reader::{Mark, Reader, Stop};
+use source_reader::{Mark, Reader, Stop, placed};
 use source_value::{Site, Value};
 
 // A number.

@@ -8,9 +8,8 @@ ghost use Rattle.source_reader.specs.Answers.{Answers};
 ghost use Rattle.source_expression.specs.Signs.{asks_conditions, prefix_of};
 ghost use Rattle.source_expression.specs.Sides.{IsNumberOf, IsRead, IsTestedOf, StandsSide, next_of, sides_worked, worked};
 
-use crate::ranges::placed;
 use crate::signs::{Prefix, Work};
-use source_reader::Stop;
+use source_reader::{Stop, placed};
 use source_value::{
     Number, Site, Tested, Value, both, compared, either, inverse, negative, operated, positive,
 };

@@ -30,13 +30,14 @@ pub struct Known {
 
 impl Model for Known {
     ghost use Rattle.std.specs.Prelude.{◌≤◌};
+    ghost use Rattle.lang_tree.specs.declared.limits.TheConstants.{MOST_VARIABLES};
     ghost use Rattle.source_meaning.specs.Names.{State};
 
     ghost Value = { State };
 
     ghost view = { λ k. record { names = k.names; variables = k.variables; labels = k.labels; count = k.count } };
 
-    ghost invariant = { λ k. (k.variables ≤ 12) × (k.count ≤ 4096) };
+    ghost invariant = { λ k. (k.variables ≤ MOST_VARIABLES) × (k.count ≤ 4096) };
 }
 
 impl Known {

@@ -1,9 +1,9 @@
 -- How readers go on.
-use Rattle.std.proofs.Common.{◌≡◌, ◌∙◌, ◌≤◌, ◌<◌, ℕ, List, [], ◌∷◌, length, Option, Some, None, refl, ap, subst, arith}
-use Rattle.source_grammar.specs.Tokens.{Kind, other_sign, Token, token}
+use Rattle.std.proofs.Common.{◌≡◌, ◌∙◌, ◌≤◌, ◌<◌, List, [], ◌∷◌, length, Some, refl, ap, arith}
+use Rattle.source_grammar.specs.Tokens.{other_sign, Token}
 use Rattle.source_reader.specs.declared.mark.Mark.{Mark}
 use Rattle.source_reader.specs.Marks.{mark_in}
-use Rattle.source_reader.specs.Reading.{Reading, behind_first, first_kind, at_tokens, passed, GoesOn}
+use Rattle.source_reader.specs.Reading.{Reading, behind_first, first_kind, passed, GoesOn}
 
 -- behind a token there are no more than with it
 pub behind_fewer : (ts : List Token) → length (behind_first ts) ≤ length ts

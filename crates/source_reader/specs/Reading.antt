@@ -1,7 +1,6 @@
 -- Where a reader is: the text, the tokens still to come, and the number of the function's variables.
 use Rattle.std.specs.Prelude.{◌≡◌, ◌≤◌, ℕ, List, [], ◌∷◌, length}
 use Rattle.source_grammar.specs.Tokens.{Kind, a_name, a_number, other_sign, Token, token}
-use Rattle.source_grammar.specs.View.{plain_kind}
 
 -- what a reader reads, and how far it has come
 pub record Reading : Type 0 where

@@ -2,10 +2,12 @@
 //! (docs/MEANING.md, "Functions of C").
 #![tactic(auto)]
 
+mod faults;
 mod mark;
 mod reader;
 mod stop;
 
+pub use faults::placed;
 pub use mark::Mark;
 pub use reader::Reader;
 pub use stop::Stop;

@@ -14,8 +14,9 @@ pub struct Site {
 }
 
 impl Site {
-    // Whether the statement has taken no more than `MOST_HIDDEN` hidden variables where `next` is the one that comes next.
-    pub(crate) fn is_within(self, next: u32) -> bool
+    /// Whether the statement has taken no more than `MOST_HIDDEN` hidden variables where `next` is the one that comes next
+    /// (docs/FORMATS.md, "Functions").
+    pub fn is_within(self, next: u32) -> bool
         ensures { result ≡ is_within self.variables next }
     {
         u64::from(next) <= u64::from(self.variables) + MOST_HIDDEN as u64

@@ -13,7 +13,7 @@ pub(crate) const COUNT: &[u8] = b"int main() {
 ";
 
 const USAGE: &[u8] =
-    b"usage: tmpl_acsl PROGRAM [--domain D] [--rows FILE] [--improvements N] [--policy P] [--progress]\n";
+    b"usage: tmpl_acsl PROGRAM [--domain D] [--rows FILE] [--improvements N] [--policy P] [--progress] [--function NAME]\n";
 
 // A line of words over the loop to 100 and the rows `2*x`, the code and the message.
 impl Case for (&str, u8, &[u8]) {
@@ -36,6 +36,7 @@ const NO_COMMANDS: &[(&str, u8, &[u8])] = &[
     ("p --improvements 1000001", 2, USAGE),
     ("p --policy first --policy first", 2, USAGE),
     ("p --format text", 2, USAGE),
+    ("p --function f --function f", 2, USAGE),
     ("--help", 2, USAGE),
 ];
 
@@ -49,6 +50,7 @@ const STOPPED: &[(&str, u8, &[u8])] = &[
     ("solve", 3, b"cannot read the program\n"),
     ("-- --domain", 3, b"cannot read the program\n"),
     ("p --domain rows --rows q", 3, b"cannot read the rows\n"),
+    ("p --function f", 4, b"program refused: which function\n"),
     ("p --improvements 2", 6, b"spent: 2 improvements\n"),
 ];
 

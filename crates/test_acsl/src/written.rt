@@ -1,6 +1,7 @@
 //! Texts that are annotated.
 
 mod fractions;
+mod functions;
 mod labels;
 mod lines;
 mod loops;

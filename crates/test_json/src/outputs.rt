@@ -3,7 +3,7 @@
 ghost use Rattle.std.specs.Prelude.{◌≤◌, length};
 ghost use Rattle.base_limits.specs.declared.limits.TheConstants.{MOST_TEXT_BYTES};
 
-use ask_words::{Domain, Format, Policy};
+use ask_words::{Domain, Format, Policy, Source};
 use base_limits::MOST_TEXT_BYTES;
 use base_watch::Unwatched;
 use std::alloc::Global;
@@ -29,13 +29,17 @@ const LIMIT: u32 = 1000;
 fn checked(alloc: Global, text: &[u8], format: Format) -> Result<Vec<u8>, Refusal>
     requires { length text.now ≤ MOST_TEXT_BYTES }
 {
-    let system = system_on(alloc, text, Domain::Intervals)?;
+    let source = Source {
+        text,
+        function: None,
+    };
+    let system = system_on(alloc, source, Domain::Intervals)?;
     let bytes = certificate_of(alloc, &system, Policy::Best, LIMIT, &mut Unwatched)?;
     let Given {
         program,
         flow,
         cert,
-    } = read_given(alloc, text, &bytes)?;
+    } = read_given(alloc, source, &bytes)?;
     report_by(alloc, &program, flow, &cert, format)
 }
 
@@ -50,20 +54,24 @@ fn output(
     if text.len() > MOST_TEXT_BYTES || other.len() > MOST_TEXT_BYTES {
         return Ok(Vec::new(alloc));
     }
+    let source = Source {
+        text,
+        function: None,
+    };
     let rows = Domain::Intervals;
     let policy = Policy::Best;
     let watch = &mut Unwatched;
     match asked {
         Asked::Solve => {
-            let system = system_on(alloc, text, rows)?;
+            let system = system_on(alloc, source, rows)?;
             report_of(alloc, &system, policy, LIMIT, format, watch)
         }
         Asked::Check => checked(alloc, text, format),
         Asked::Transitions => transitions_text(alloc, text, rows, policy, LIMIT, format, watch),
         Asked::Equations => equations_text(alloc, text, policy, LIMIT, format, watch),
-        Asked::Prove => prove_text(alloc, text, rows, other, policy, LIMIT, format, watch),
+        Asked::Prove => prove_text(alloc, source, rows, other, policy, LIMIT, format, watch),
         Asked::Verify => Ok(
-            verify_text(alloc, other, text, rows, policy, LIMIT, format, watch)?.bytes,
+            verify_text(alloc, other, source, rows, policy, LIMIT, format, watch)?.bytes,
         ),
     }
 }

@@ -5,6 +5,7 @@ mod checks;
 mod claims;
 mod equations;
 mod formats;
+mod functions;
 mod generated;
 mod loops;
 mod pages;

@@ -7,4 +7,6 @@ mod cases;
 #[cfg(test)]
 mod done;
 #[cfg(test)]
+mod functions;
+#[cfg(test)]
 mod refused;

@@ -2,7 +2,8 @@
 
 use crate::texts::{Case, first_wrong};
 use ask_words::{
-    Analysis, Domain, Format, Policy, Purpose, Request, Topic, WordsFault, read_words, usage_line,
+    Analysis, Domain, Format, Policy, Purpose, Request, Source, Topic, WordsFault, read_words,
+    usage_line,
 };
 use std::alloc::{AllocError, Global};
 
@@ -41,8 +42,20 @@ impl Case for (&str, Analysis<&str>) {
     }
 }
 
+// A program of which no function is named.
+const P: Source<&str> = Source {
+    text: "p",
+    function: None,
+};
+
+// A program of which one is.
+const F: Source<&str> = Source {
+    text: "p",
+    function: Some("f"),
+};
+
 const PLAIN: Analysis<&str> = Analysis {
-    program: "p",
+    program: P,
     domain: Domain::Intervals,
     improvements: 1000,
     policy: Policy::Best,
@@ -53,14 +66,20 @@ const REPORTS: &[(&str, Analysis<&str>)] = &[
     (
         "solve help",
         Analysis {
-            program: "help",
+            program: Source {
+                text: "help",
+                function: None,
+            },
             ..PLAIN
         },
     ),
     (
         "solve ",
         Analysis {
-            program: "",
+            program: Source {
+                text: "",
+                function: None,
+            },
             ..PLAIN
         },
     ),
@@ -81,7 +100,38 @@ const REPORTS: &[(&str, Analysis<&str>)] = &[
     (
         "solve -- --domain",
         Analysis {
-            program: "--domain",
+            program: Source {
+                text: "--domain",
+                function: None,
+            },
+            ..PLAIN
+        },
+    ),
+    (
+        "solve p --function f",
+        Analysis {
+            program: F,
+            ..PLAIN
+        },
+    ),
+    (
+        "solve --function=-f p",
+        Analysis {
+            program: Source {
+                text: "p",
+                function: Some("-f"),
+            },
+            ..PLAIN
+        },
+    ),
+    // Any word is a name, the empty one too, which no function has.
+    (
+        "solve p --function=",
+        Analysis {
+            program: Source {
+                text: "p",
+                function: Some(""),
+            },
             ..PLAIN
         },
     ),
@@ -112,7 +162,7 @@ const OTHERS: &[(&str, Request<&str>)] = &[
         Request::Analyse {
             purpose: Purpose::Certificate,
             analysis: Analysis {
-                program: "p",
+                program: P,
                 domain: Domain::Octagons,
                 improvements: 1_000_000,
                 policy: Policy::First,
@@ -123,7 +173,7 @@ const OTHERS: &[(&str, Request<&str>)] = &[
     (
         "check p c",
         Request::Check {
-            program: "p",
+            program: P,
             certificate: "c",
             format: Format::Text,
         },
@@ -142,7 +192,7 @@ const OTHERS: &[(&str, Request<&str>)] = &[
         Request::Prove {
             claims: "c",
             analysis: Analysis {
-                program: "p",
+                program: P,
                 domain: Domain::Rows("r"),
                 improvements: 1000,
                 policy: Policy::Best,
@@ -155,7 +205,7 @@ const OTHERS: &[(&str, Request<&str>)] = &[
         Request::Prove {
             claims: "c",
             analysis: Analysis {
-                program: "p",
+                program: P,
                 domain: Domain::Intervals,
                 improvements: 0,
                 policy: Policy::First,
@@ -167,7 +217,10 @@ const OTHERS: &[(&str, Request<&str>)] = &[
         "transitions s --domain octagons",
         Request::Transitions {
             analysis: Analysis {
-                program: "s",
+                program: Source {
+                    text: "s",
+                    function: None,
+                },
                 domain: Domain::Octagons,
                 improvements: 1000,
                 policy: Policy::Best,
@@ -204,7 +257,7 @@ const OTHERS: &[(&str, Request<&str>)] = &[
     (
         "check p --format json c",
         Request::Check {
-            program: "p",
+            program: P,
             certificate: "c",
             format: Format::Json,
         },
@@ -217,6 +270,52 @@ const OTHERS: &[(&str, Request<&str>)] = &[
             format: Format::Sarif,
         },
     ),
+    (
+        "certify p --function=f",
+        Request::Analyse {
+            purpose: Purpose::Certificate,
+            analysis: Analysis {
+                program: F,
+                ..PLAIN
+            },
+            format: Format::Text,
+        },
+    ),
+    (
+        "check --function f p c",
+        Request::Check {
+            program: F,
+            certificate: "c",
+            format: Format::Text,
+        },
+    ),
+    (
+        "prove p --function f c",
+        Request::Prove {
+            claims: "c",
+            analysis: Analysis {
+                program: F,
+                ..PLAIN
+            },
+            format: Format::Text,
+        },
+    ),
+    (
+        "verify p --function f",
+        Request::Verify {
+            name: "p",
+            analysis: Analysis {
+                program: F,
+                ..PLAIN
+            },
+            format: Format::Text,
+        },
+    ),
+    ("functions p", Request::Functions { file: "p" }),
+    (
+        "functions functions",
+        Request::Functions { file: "functions" },
+    ),
     ("points p", Request::Points { program: "p" }),
     ("points -- -p", Request::Points { program: "-p" }),
     (
@@ -224,7 +323,7 @@ const OTHERS: &[(&str, Request<&str>)] = &[
         Request::Verify {
             name: "p",
             analysis: Analysis {
-                program: "p",
+                program: P,
                 domain: Domain::Octagons,
                 improvements: 7,
                 policy: Policy::Best,
@@ -248,6 +347,12 @@ const OTHERS: &[(&str, Request<&str>)] = &[
         "help transitions",
         Request::Help {
             topic: Topic::Transitions,
+        },
+    ),
+    (
+        "help functions",
+        Request::Help {
+            topic: Topic::Functions,
         },
     ),
 ];
@@ -312,6 +417,19 @@ const REFUSED: &[&str] = &[
     "points",
     "points p q",
     "points p --domain zones",
+    "points p --function f",
+    "solve p --function",
+    "solve p --function f --function f",
+    "solve --function f",
+    "transitions s --function f",
+    "equations e --function f",
+    "bench --seed 1 --loops 1 --function f",
+    "upgrade c --function f",
+    "functions",
+    "functions p q",
+    "functions p --function f",
+    "functions p --format json",
+    "functions p --progress",
     "verify",
     "verify p c",
     "verify p --domain rows",
@@ -334,5 +452,5 @@ fn other_words_ask_for_nothing(rt: HostRuntime) {
 #[test]
 fn usage(rt: HostRuntime) {
     assert!(rt; usage_line().starts_with(b"usage: tmpl solve PROGRAM [--domain D]"));
-    assert!(rt; usage_line().len() == 518);
+    assert!(rt; usage_line().len() == 596);
 }

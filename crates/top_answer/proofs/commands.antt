@@ -4,6 +4,7 @@ pub mod Asking
 pub mod Analyses
 pub mod Checks
 pub mod Generated
+pub mod Named
 pub mod Pages
 pub mod Plain
 pub mod Claims

@@ -1,6 +1,6 @@
 -- What the commands do with the texts of their files, each in one record: which endings the texts have, what may exceed exact work, which
 -- bytes are written, what its messages name, and within which limits its numbers and texts are.
-use Rattle.std.specs.Prelude.{◌≡◌, ◌≤◌, ◌<◌, ℕ, ℤ, List, [], length}
+use Rattle.std.specs.Prelude.{◌≡◌, ◌≤◌, ◌<◌, ℕ, ℤ, List, [], Ok, length}
 use Rattle.base_limits.specs.declared.limits.TheConstants.{MOST_IMPROVEMENTS}
 use Rattle.lang_tree.specs.Tree.{Statements}
 use Rattle.flow_systems.specs.declared.footer.Footer.TheVariants.{Accepted}
@@ -10,6 +10,7 @@ use Rattle.flow_systems.specs.Equations.{Least, Vector}
 use Rattle.flow_systems.specs.Solutions.{equations_of_program}
 use Rattle.flow_systems.specs.View.{equations_of}
 use Rattle.ask_words.specs.Help.{help_text}
+use Rattle.ask_words.specs.Request.{whole_source}
 use Rattle.ask_words.specs.declared.format.Format.{Format}
 use Rattle.ask_words.specs.declared.request.Analysis.{Analysis}
 use Rattle.ask_words.specs.declared.request.Domain.{Domain}
@@ -18,7 +19,7 @@ use Rattle.ask_words.specs.declared.request.Policy.TheVariants.{Best}
 use Rattle.ask_words.specs.declared.request.Purpose.{Purpose}
 use Rattle.ask_words.specs.declared.request.Purpose.TheVariants.{Report, Certificate as AsCertificate}
 use Rattle.ask_words.specs.declared.request.Request.TheVariants.{Analyse, Check, Bench, Upgrade, Prove, Transitions, Equations, Points}
-use Rattle.ask_words.specs.declared.request.Request.TheVariants.{Verify, Help}
+use Rattle.ask_words.specs.declared.request.Request.TheVariants.{Functions, Verify, Help}
 use Rattle.cert_text.specs.declared.fault.FormFault.{FormFault}
 use Rattle.cert_text.specs.declared.fault.FormFault.TheVariants.{Expanded}
 use Rattle.ask_files.specs.Files.{Request}
@@ -32,27 +33,30 @@ use Rattle.top_status.specs.declared.status.TextCause.{TextCause}
 use Rattle.top_status.specs.declared.status.TextCause.TheVariants.{Claims}
 use Rattle.top_texts.specs.CheckTexts.{AreCheckVerdictsOf, IsJudged}
 use Rattle.top_texts.specs.ClaimTexts.{AreVerdictsOf}
+use Rattle.top_texts.specs.ByC.{HoldsInSource}
 use Rattle.top_texts.specs.EquationTexts.{AreValuesOf}
+use Rattle.top_texts.specs.FunctionTexts.{AreFunctionsOf, AreNoFunctions, Lists}
 use Rattle.top_texts.specs.LeastReports.{ArePointsOf, IsLeastReport, IsReportOf}
 use Rattle.top_texts.specs.Meanings.{Meanings}
 use Rattle.top_texts.specs.Questions.{IsExcessIn, Question, QuestionEnds, analysis_question, bench_question, checks_question}
 use Rattle.top_texts.specs.Questions.{claims_question, equations_question, transitions_question}
 use Rattle.top_texts.specs.Rounds.{HasRounds}
 use Rattle.top_texts.specs.Short.{HasShortRows, IsShort}
-use Rattle.top_texts.specs.Texts.{IsAnalysed, IsReady, IsRefusedProgram, IsSolvedSystem}
+use Rattle.top_texts.specs.Texts.{IsAnalysed, IsReady, IsRefusedProgram, IsSolvedSystem, Program}
 use Rattle.top_texts.specs.TransitionTexts.{IsAutoReport}
 
 -- ---- endings that no question has
 
--- the text of a program or the bytes of a certificate are refused by a cause, or an operation of the check is too wide, or the certificate
--- is accepted
-pub data CheckEnds (m : Meanings) (text bytes : List ℕ) (ending : Status) : Type 0 where
-  program_refused : (cause : TextCause) → ending ≡ Text cause → IsRefusedProgram text cause → CheckEnds m text bytes ending
-  certificate_refused : (cause : CertCause) → ending ≡ Certificate cause → m.refuses text bytes cause → CheckEnds m text bytes ending
-  sum_too_wide : (spot : Spot) → ending ≡ Exceeded (Wide spot) → m.is_wide_in text bytes spot → CheckEnds m text bytes ending
+-- the program or the bytes of a certificate are refused by a cause, or an operation of the check is too wide, or the certificate is
+-- accepted
+pub data CheckEnds (m : Meanings) (program : Program) (bytes : List ℕ) (ending : Status) : Type 0 where
+  program_refused : (cause : TextCause) → ending ≡ Text cause → IsRefusedProgram program cause → CheckEnds m program bytes ending
+  certificate_refused : (cause : CertCause) → ending ≡ Certificate cause → m.refuses program bytes cause
+      → CheckEnds m program bytes ending
+  sum_too_wide : (spot : Spot) → ending ≡ Exceeded (Wide spot) → m.is_wide_in program bytes spot → CheckEnds m program bytes ending
   accepted : (names : List (List ℕ)) (body : Statements) (rows : List (List ℤ)) (vector : Vector) → ending ≡ Done
-      → m.accepts text bytes names body rows vector
-      → CheckEnds m text bytes ending
+      → m.accepts program bytes names body rows vector
+      → CheckEnds m program bytes ending
 
 -- the bytes of a certificate have a fault of form, or the certificate that they spell is written; whether it is valid, and of which
 -- program, doesn't matter
@@ -60,10 +64,15 @@ pub data UpgradeEnds (m : Meanings) (bytes : List ℕ) (ending : Status) : Type 
   form_refused : (fault : FormFault) → ending ≡ Certificate (Form fault) → m.misspells bytes fault → UpgradeEnds m bytes ending
   rewritten : (written : List ℕ) → ending ≡ Done → m.upgrades bytes written → UpgradeEnds m bytes ending
 
--- the text of a program is refused by a cause, or its points are written
-pub data PointsEnd (text : List ℕ) (ending : Status) : Type 0 where
-  text_refused : (cause : TextCause) → ending ≡ Text cause → IsRefusedProgram text cause → PointsEnd text ending
-  listed : (names : List (List ℕ)) (body : Statements) → ending ≡ Done → IsAnalysed text names body → PointsEnd text ending
+-- the program is refused by a cause, or its points are written
+pub data PointsEnd (program : Program) (ending : Status) : Type 0 where
+  text_refused : (cause : TextCause) → ending ≡ Text cause → IsRefusedProgram program cause → PointsEnd program ending
+  listed : (names : List (List ℕ)) (body : Statements) → ending ≡ Done → IsAnalysed program names body → PointsEnd program ending
+
+-- the text of a file is refused by a cause, or the names of its functions are written
+pub data FunctionsEnd (text : List ℕ) (ending : Status) : Type 0 where
+  file_refused : (cause : TextCause) → ending ≡ Text cause → AreNoFunctions text cause → FunctionsEnd text ending
+  names_listed : (names : List (List ℕ)) → ending ≡ Done → Lists text (Ok names) → FunctionsEnd text ending
 
 -- the texts of a program and its rows are refused, or improvements are spent, as the question about its checks ends without success; or the
 -- checks decide where improvements end: each is proved, or one is open
@@ -74,27 +83,29 @@ pub data VerifyEnds (m : Meanings) (a : Analysis (List ℕ)) (ending : Status) :
 
 -- ---- what is written
 
--- the bytes are the certificate that the rounds make of these texts; it is accepted for the text, unless its traces hold too many values;
--- and its bounds are the least vector
-pub record IsCertificate (m : Meanings) (text : List ℕ) (rows : Domain (List ℕ)) (policy : Policy) (limit : ℕ) (bytes : List ℕ) :
+-- the bytes are the certificate that the rounds make of these texts; it is accepted for the program, unless its traces hold too many
+-- values;
+-- and its bounds are the least vector, and hold in every run by C
+pub record IsCertificate (m : Meanings) (program : Program) (rows : Domain (List ℕ)) (policy : Policy) (limit : ℕ) (bytes : List ℕ) :
     Type 0 where
-  pub made : m.certifies text rows policy limit bytes
+  pub made : m.certifies program rows policy limit bytes
   pub names : List (List ℕ)
   pub body : Statements
   pub template : List (List ℤ)
-  pub ready : IsReady text rows names body template
+  pub ready : IsReady program rows names body template
   pub vector : Vector
-  pub accepted : (m.refuses text bytes (Form Expanded) → ⊥) → m.accepts text bytes names body template vector
+  pub accepted : (m.refuses program bytes (Form Expanded) → ⊥) → m.accepts program bytes names body template vector
   pub least : Least (equations_of_program (length names) body template) vector
+  pub by_c : HoldsInSource program names (equations_of_program (length names) body template) vector
 
 -- they are the report in a format of the bounds of a certificate that is accepted; these are the least vector
-pub record IsChecked (m : Meanings) (text certificate : List ℕ) (format : Format) (bytes : List ℕ) : Type 0 where
+pub record IsChecked (m : Meanings) (program : Program) (certificate : List ℕ) (format : Format) (bytes : List ℕ) : Type 0 where
   pub names : List (List ℕ)
   pub body : Statements
   pub rows : List (List ℤ)
   pub vector : Vector
-  pub accepted : m.accepts text certificate names body rows vector
-  pub least : IsLeastReport names body rows vector Accepted format bytes
+  pub accepted : m.accepts program certificate names body rows vector
+  pub least : IsLeastReport program names body rows vector Accepted format bytes
 
 -- they are the summary of the least vector of a generated program, with the number of improvements by `best`
 pub record IsSummary (m : Meanings) (seed loops : ℕ) (bytes : List ℕ) : Type 0 where
@@ -116,7 +127,7 @@ IsPut m AsCertificate a format bytes = IsCertificate m a.program a.domain a.poli
 
 -- the texts of an analysis are within their limit, and so is the number of its improvements
 pub record IsWithin (analysis : Analysis (List ℕ)) : Type 0 where
-  pub short : IsShort analysis.program
+  pub short : IsShort analysis.program.text
   pub short_rows : HasShortRows analysis.domain
   pub limit : analysis.improvements ≤ MOST_IMPROVEMENTS
 
@@ -175,16 +186,16 @@ asking question writes =
 abbrev pub command_of : Meanings → Commands
 command_of m (Analyse purpose a format) =
     record (asking (analysis_question m purpose a.program a.domain a.policy a.improvements) (λ bytes. IsPut m purpose a format bytes)) {
-      named = λ status. a.program;
+      named = λ status. a.program.text;
       has_rows = λ count. (system : System) × IsSolvedSystem a.program a.domain system × (count ≡ length system.template);
       in_range = a.improvements ≤ MOST_IMPROVEMENTS;
       in_limits = IsWithin a;
     }
-command_of m (Check text certificate format) =
-    record (deciding (λ status. CheckEnds m text certificate status) (λ bytes. IsChecked m text certificate format bytes)) {
-      named = λ status. text;
+command_of m (Check program certificate format) =
+    record (deciding (λ status. CheckEnds m program certificate status) (λ bytes. IsChecked m program certificate format bytes)) {
+      named = λ status. program.text;
       has_rows = λ count. m.has_rows certificate count;
-      in_limits = IsShort text;
+      in_limits = IsShort program.text;
     }
 command_of m (Bench seed loops) = record (asking (bench_question m seed loops) (λ bytes. IsSummary m seed loops bytes)) {
   in_range = AreGenerable seed loops;
@@ -194,14 +205,14 @@ command_of m (Upgrade certificate) = deciding (λ status. UpgradeEnds m certific
 command_of m (Prove given a format) =
     record (asking (claims_question m a.program a.domain given a.policy a.improvements)
     (λ bytes. AreVerdictsOf m a.program a.domain given a.policy a.improvements format bytes)) {
-      named = λ status. text_of_proof a.program given status;
+      named = λ status. text_of_proof a.program.text given status;
       in_range = a.improvements ≤ MOST_IMPROVEMENTS;
       in_limits = IsWithin a × IsShort given;
     }
 command_of m (Transitions a format) =
-    record (asking (transitions_question m a.program a.domain a.policy a.improvements)
-    (λ bytes. IsAutoReport a.program a.domain a.policy a.improvements format bytes)) {
-      named = λ status. a.program;
+    record (asking (transitions_question m a.program.text a.domain a.policy a.improvements)
+    (λ bytes. IsAutoReport a.program.text a.domain a.policy a.improvements format bytes)) {
+      named = λ status. a.program.text;
       in_range = a.improvements ≤ MOST_IMPROVEMENTS;
       in_limits = IsWithin a;
     }
@@ -211,14 +222,19 @@ command_of m (Equations text limit policy format) =
       in_range = limit ≤ MOST_IMPROVEMENTS;
       in_limits = IsShort text × (limit ≤ MOST_IMPROVEMENTS);
     }
-command_of m (Points text) = record (deciding (λ status. PointsEnd text status) (λ bytes. ArePointsOf text bytes)) {
+command_of m (Points text) =
+    record (deciding (λ status. PointsEnd (whole_source text) status) (λ bytes. ArePointsOf (whole_source text) bytes)) {
+      named = λ status. text;
+      in_limits = IsShort text;
+    }
+command_of m (Functions text) = record (deciding (λ status. FunctionsEnd text status) (λ bytes. AreFunctionsOf text bytes)) {
   named = λ status. text;
   in_limits = IsShort text;
 }
 command_of m (Verify name a format) = record (deciding (λ status. VerifyEnds m a status) (λ bytes. ⊥)) {
   exceeds = λ excess. IsExcessIn (checks_question m a.program a.domain a.policy a.improvements) excess;
   writes = λ status bytes. AreCheckVerdictsOf m name a.program a.domain a.policy a.improvements format status bytes;
-  named = λ status. a.program;
+  named = λ status. a.program.text;
   in_range = a.improvements ≤ MOST_IMPROVEMENTS;
   in_limits = IsWithin a;
 }

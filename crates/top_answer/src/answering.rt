@@ -69,14 +69,14 @@ fn answer_words<W: Watch>(
 /// than `most_bytes` is enough. Further contents change nothing. Nothing is read, and nothing is written.
 ///
 /// The first cause in this order decides: the words; the program's file, then the file of rows or the certificate, and then that of the
-/// claims; the tokens, the grammar, the points and edges. An analysis goes on with the rows, the unknowns, the composition of
-/// the edges, and the rounds; a check with the form of the certificate, its rows, the unknowns, the composition of the
-/// edges, and the tests; an upgrade reads no program, and has the form of the certificate alone; a proof of
+/// claims; the tokens, the functions of the file, the one that is asked about, its points and edges. An analysis goes on with the rows,
+/// the unknowns, the composition of the edges, and the rounds; a check with the form of the certificate, its rows, the unknowns, the
+/// composition of the edges, and the tests; an upgrade reads no program, and has the form of the certificate alone; a proof of
 /// claims goes on from the unknowns with the faults of the claims, and from the rounds with the problems of the claims; a transition
 /// system has the faults of its text and of its edges, and goes on as an analysis does; equations have the faults of their text, the
-/// composition of the edges, and the rounds; the points of a program end with its edges. `Memory` may come at any time, and takes the
-/// place of any other answer. A wide operation of an analysis or of a proof, or a joint problem of its rounds that is too large, may
-/// take the place of a report and of improvements that are spent.
+/// composition of the edges, and the rounds; the points of a program end with its edges, the names of functions with the functions of
+/// the file. `Memory` may come at any time, and takes the place of any other answer. A wide operation of an analysis or of a proof, or a
+/// joint problem of its rounds that is too large, may take the place of a report and of improvements that are spent.
 ///
 /// While it works, `watch` is told of rounds, turns and pivots. No clause mentions it: what is answered is said of the words and the
 /// contents alone, and `ending_is_one` and `output_is_one`, by which there is one ending and one output, speak of no watch.
@@ -87,8 +87,8 @@ pub fn answer<W: Watch>(
     watch: &mut W,
 ) -> Answer
     // Sound: what is answered is so of the words and of these contents, and so is what is written. A report is
-    // that of the least vector, which holds in every run of the program or along the edges of the transition system, with the number of
-    // improvements by the policy. The values of equations equal their right sides, and are at most all values above the equations.
+    // that of the least vector, which holds in every run by C of the function or along the edges of the transition system, with the number
+    // of improvements by the policy. The values of equations equal their right sides, and are at most all values above the equations.
     ensures answer { IsAnswer (command_of ⟦<Exact as Meaning>⟧.means) (map string_bytes words.now) (texts_of contents.now) result.status }
     ensures output { Holds (IsOutput (command_of ⟦<Exact as Meaning>⟧.means) (map string_bytes words.now) (texts_of contents.now))
         result.status

@@ -21,7 +21,7 @@ ghost use Rattle.top_texts.specs.CheckTexts.{AreCheckVerdictsOf, IsJudged};
 ghost use Rattle.top_texts.specs.ClaimTexts.{AreVerdictsOf};
 ghost use Rattle.top_texts.specs.EquationTexts.{AreValuesOf};
 ghost use Rattle.top_texts.specs.Rounds.{RunsOut};
-ghost use Rattle.top_texts.specs.Texts.{IsSolvable};
+ghost use Rattle.top_texts.specs.Texts.{IsSolvable, Program};
 ghost use Rattle.top_status.specs.declared.status.Status.{Status};
 ghost use Rattle.top_status.specs.declared.status.Status.TheVariants.{Done, Open};
 
@@ -29,8 +29,8 @@ use crate::meaning::{Exact, Meaning};
 
 /// The bounds of a certificate that is accepted are the least vector, whoever made it.
 pub fn accepted_is_least()
-    ensures { (text bytes : List ℕ) (names : List (List ℕ)) (body : Statements) (rows : List (List ℤ)) (vector : Vector)
-        → (⟦<Exact as Meaning>⟧.means).accepts text bytes names body rows vector
+    ensures { (program : Program) (bytes : List ℕ) (names : List (List ℕ)) (body : Statements) (rows : List (List ℤ)) (vector : Vector)
+        → (⟦<Exact as Meaning>⟧.means).accepts program bytes names body rows vector
         → Least (equations_of_program (length names) body rows) vector }
 {}
 
@@ -66,20 +66,20 @@ pub fn values_are_one()
 
 /// The texts of a program, of its rows and of claims have one list of verdicts in a format.
 pub fn verdicts_are_one()
-    ensures { (text : List ℕ) (rows : Domain (List ℕ)) (given : List ℕ) (policy : Policy) (limit : ℕ) (format : Format)
-        (one other : List ℕ) → AreVerdictsOf ⟦<Exact as Meaning>⟧.means text rows given policy limit format one
-        → AreVerdictsOf ⟦<Exact as Meaning>⟧.means text rows given policy limit format other → one ≡ other }
+    ensures { (program : Program) (rows : Domain (List ℕ)) (given : List ℕ) (policy : Policy) (limit : ℕ) (format : Format)
+        (one other : List ℕ) → AreVerdictsOf ⟦<Exact as Meaning>⟧.means program rows given policy limit format one
+        → AreVerdictsOf ⟦<Exact as Meaning>⟧.means program rows given policy limit format other → one ≡ other }
 {}
 
-/// The texts of a program and of its rows have one list of verdicts on the program's checks in a format, where the program's file has this
+/// A program and its rows have one list of verdicts on the program's checks in a format, where the program's file has this
 /// name, and one ending by them: `Done` where each is proved, `Open` where one is open.
 pub fn check_verdicts_are_one()
-    ensures bytes { (file text : List ℕ) (rows : Domain (List ℕ)) (policy : Policy) (limit : ℕ) (format : Format)
+    ensures bytes { (file : List ℕ) (program : Program) (rows : Domain (List ℕ)) (policy : Policy) (limit : ℕ) (format : Format)
         (ending another : Status) (one other : List ℕ)
-        → AreCheckVerdictsOf ⟦<Exact as Meaning>⟧.means file text rows policy limit format ending one
-        → AreCheckVerdictsOf ⟦<Exact as Meaning>⟧.means file text rows policy limit format another other → one ≡ other }
-    ensures ending { (text : List ℕ) (rows : Domain (List ℕ)) (policy : Policy) (limit : ℕ) (one other : Status)
-        → IsJudged text rows policy limit one → IsJudged text rows policy limit other → one ≡ other }
+        → AreCheckVerdictsOf ⟦<Exact as Meaning>⟧.means file program rows policy limit format ending one
+        → AreCheckVerdictsOf ⟦<Exact as Meaning>⟧.means file program rows policy limit format another other → one ≡ other }
+    ensures ending { (program : Program) (rows : Domain (List ℕ)) (policy : Policy) (limit : ℕ) (one other : Status)
+        → IsJudged program rows policy limit one → IsJudged program rows policy limit other → one ≡ other }
 {}
 
 /// `verify` alone ends as `Open`, and only where at the least vector of its texts a state breaks a check of the program. Where the

@@ -7,7 +7,7 @@ ghost use Rattle.flow_edges.specs.Edges.{edges_of_program};
 ghost use Rattle.flow_edges.specs.Points.{points_of_program};
 ghost use Rattle.flow_systems.specs.declared.system.System.{System as SystemValue};
 ghost use Rattle.ask_words.specs.Help.{help_text};
-ghost use Rattle.ask_words.specs.Request.{analysis_text, request_text};
+ghost use Rattle.ask_words.specs.Request.{analysis_text, request_text, source_text};
 ghost use Rattle.ask_words.specs.declared.request.Request.TheVariants.{Analyse, Check};
 ghost use Rattle.top_answer.specs.Commands.{IsWithin, command_of, text_of_proof};
 ghost use Rattle.top_answer.specs.Outcomes.{HasOutcome, HasVerdicts, Says};
@@ -16,17 +16,17 @@ ghost use Rattle.top_texts.specs.CheckTexts.{ending_of};
 ghost use Rattle.top_texts.specs.Checks.{HasRowCount, IsSpelt};
 ghost use Rattle.top_texts.specs.Exact.{exact};
 ghost use Rattle.top_texts.specs.Outcomes.{IsHalted, IsOutputOf};
-ghost use Rattle.top_texts.specs.Texts.{IsSolvedSystem};
+ghost use Rattle.top_texts.specs.Texts.{IsSolvedSystem, Program as ProgramText};
 
-use ask_words::{Analysis, Format, Policy, Purpose, Request, Topic, help_text};
+use ask_words::{Analysis, Format, Policy, Purpose, Request, Source, Topic, help_text};
 use base_watch::Watch;
 use flow_systems::System;
 use std::alloc::Global;
 use top_status::{Status, TextCause, answer_rows};
 use top_texts::{
-    Given, Judged, Refusal, bench_text, certificate_of, equations_text, points_text, prove_text,
-    read_given, refused, report_by, report_of, system_on, transitions_text, upgrade_text,
-    verify_text,
+    Given, Judged, Refusal, bench_text, certificate_of, equations_text, functions_text,
+    points_text, prove_text, read_given, refused, report_by, report_of, system_on,
+    transitions_text, upgrade_text, verify_text,
 };
 
 // What texts come to.
@@ -151,8 +151,9 @@ fn accepted(alloc: Global, given: Given, format: Format) -> Outcome
     requires names { given.flow.names ≡ given.program.names }
     requires points { given.flow.points ≡ points_of_program given.program.body }
     requires edges { given.flow.edges ≡ edges_of_program given.program.body }
-    ensures says { (text bytes : List ℕ) → IsSpelt text bytes given.program.names given.program.body given.cert
-        → Says (command_of exact (Check text bytes format)) result.status result.bytes.items }
+    ensures says { (source : ProgramText) (bytes : List ℕ)
+        → IsSpelt source bytes given.program.names given.program.body given.cert
+        → Says (command_of exact (Check source bytes format)) result.status result.bytes.items }
     ensures rows { result.rows ≡ rows_of (length given.cert.rows) result.status }
 {
     let Given {
@@ -165,12 +166,12 @@ fn accepted(alloc: Global, given: Given, format: Format) -> Outcome
 }
 
 // The check of a certificate of a program.
-fn checked(alloc: Global, text: &[u8], certificate: &[u8], format: Format) -> Outcome
-    requires { length text.now ≤ MOST_TEXT_BYTES }
-    ensures says { Says (command_of exact (Check text.now certificate.now format)) result.status result.bytes.items }
+fn checked(alloc: Global, source: Source<&[u8]>, certificate: &[u8], format: Format) -> Outcome
+    requires { length source.text.now ≤ MOST_TEXT_BYTES }
+    ensures says { Says (command_of exact (Check (source_text source.entry) certificate.now format)) result.status result.bytes.items }
     ensures rows { (count : ℕ) → HasRowCount certificate.now count → result.rows ≡ rows_of count result.status }
 {
-    match read_given(alloc, text, certificate) {
+    match read_given(alloc, source, certificate) {
         Ok(given) => accepted(alloc, given, format),
         Err(refusal) => outcome_from(alloc, Err(refusal), 0),
     }
@@ -231,7 +232,7 @@ pub(crate) fn outcome_of<W: Watch>(alloc: Global, asked: Request<&[u8]>, watch: 
         Request::Transitions { analysis, format } => {
             let made = transitions_text(
                 alloc,
-                analysis.program,
+                analysis.program.text,
                 analysis.domain,
                 analysis.policy,
                 analysis.improvements,
@@ -250,7 +251,14 @@ pub(crate) fn outcome_of<W: Watch>(alloc: Global, asked: Request<&[u8]>, watch: 
             equations_text(alloc, file, policy, improvements, format, watch),
             0,
         ),
-        Request::Points { program } => outcome_from(alloc, points_text(alloc, program), 0),
+        Request::Points { program } => {
+            let source = Source {
+                text: program,
+                function: None,
+            };
+            outcome_from(alloc, points_text(alloc, source), 0)
+        }
+        Request::Functions { file } => outcome_from(alloc, functions_text(alloc, file), 0),
         Request::Verify {
             name,
             analysis,
@@ -289,17 +297,18 @@ pub(crate) fn named_text<'a>(asked: Request<&'a [u8]>, status: &Status) -> &'a [
     ensures short { length result.now ≤ MOST_TEXT_BYTES }
 {
     match asked {
-        Request::Analyse { analysis, .. } => analysis.program,
-        Request::Check { program, .. } => program,
+        Request::Analyse { analysis, .. } => analysis.program.text,
+        Request::Check { program, .. } => program.text,
         Request::Bench { .. } | Request::Upgrade { .. } | Request::Help { .. } => &[],
         Request::Prove {
             claims,
             analysis,
             ..
-        } => text_of_proof(analysis.program, claims, status),
-        Request::Transitions { analysis, .. } => analysis.program,
+        } => text_of_proof(analysis.program.text, claims, status),
+        Request::Transitions { analysis, .. } => analysis.program.text,
         Request::Equations { file, .. } => file,
         Request::Points { program } => program,
-        Request::Verify { analysis, .. } => analysis.program,
+        Request::Functions { file } => file,
+        Request::Verify { analysis, .. } => analysis.program.text,
     }
 }

@@ -16,14 +16,14 @@ use std::alloc::Global;
 use top_answer::{Exact, Meaning};
 use top_status::Status;
 
-/// The headline: `run` where the words ask for the report of a program. It does nothing else than `run`, whose contract says this
-/// and more; here stand the definitions alone, of programs, their runs, and least vectors.
+/// The headline: `run` where the words ask for the report of a program, which is a function of a C file. It does nothing else than `run`,
+/// whose contract says this and more; here stand the definitions alone, of functions, their runs, and least vectors.
 ///
 /// The files are loaded in this call. Where all are read, these are the texts: where it is done, the output gets the report, in the format
-/// of the words, of the least vector over the template, which every run of the program keeps to, with the number of improvements by the
-/// policy. Where the improvements end within the limit, it is done, but for want of memory, a fraction that is too wide, a joint problem
-/// that is too large, or an output that failed in this call. Where they aren't all read, a file failed in this call or is too long, or
-/// memory was wanted.
+/// of the words, of the least vector over the template, which every run by C of the function keeps to, with the number of improvements by
+/// the policy. Where the improvements end within the limit, it is done, but for want of memory, a fraction that is too wide, a joint
+/// problem that is too large, or an output that failed in this call. Where they aren't all read, a file failed in this call or is too
+/// long, or memory was wanted.
 pub fn headline<S: Shelf, K: Sink, L: Sink, W: Watch>(
     alloc: Global,
     words: &[String],

@@ -7,6 +7,12 @@ use Rattle.lang_meaning.specs.declared.fault.Limit.{Limit}
 use Rattle.lang_meaning.specs.declared.fault.Limit.TheVariants.{Nesting, Variables, Statements, Leaves}
 use Rattle.lang_meaning.specs.declared.fault.ParseFault.{ParseFault}
 use Rattle.lang_meaning.specs.declared.fault.ParseFault.TheVariants as parse
+use Rattle.source_meaning.specs.declared.fault.Limit.{Limit as FunctionLimit}
+use Rattle.source_meaning.specs.declared.fault.Limit.TheVariants as limit
+use Rattle.source_meaning.specs.declared.fault.FunctionFault.{FunctionFault}
+use Rattle.source_meaning.specs.declared.fault.FunctionFault.TheVariants as function
+use Rattle.source_file.specs.declared.fault.SourceFault.{SourceFault}
+use Rattle.source_file.specs.declared.fault.SourceFault.TheVariants as source
 use Rattle.flow_edges.specs.declared.fault.FlowFault.{FlowFault}
 use Rattle.flow_edges.specs.declared.fault.FlowFault.TheVariants as flow
 use Rattle.flow_templates.specs.declared.fault.RowFault.{RowFault}
@@ -24,7 +30,7 @@ use Rattle.ask_files.specs.declared.which.ReadCause.{ReadCause}
 use Rattle.ask_files.specs.declared.which.ReadCause.TheVariants.{Failed, TooLong}
 use Rattle.top_status.specs.declared.status.Excess.TheVariants.{Wide, Large}
 use Rattle.top_status.specs.declared.status.TextCause.{TextCause}
-use Rattle.top_status.specs.declared.status.TextCause.TheVariants.{Lex, Parse, Flow, Rows, Unknowns, Claims, Equ, Auto}
+use Rattle.top_status.specs.declared.status.TextCause.TheVariants.{Lex, Source, Flow, Rows, Unknowns, Claims, Equ, Auto}
 use Rattle.top_status.specs.declared.status.Status.{Status}
 use Rattle.top_status.specs.declared.status.Status.TheVariants.{Done, Open, Certificate, Usage, Read, Text, Exceeded, Spent, Memory, Write}
 
@@ -51,6 +57,27 @@ parse_place parse.NoVariables = None
 parse_place (parse.BigNumber at) = Some at
 parse_place (parse.OutsideLoop at) = Some at
 parse_place parse.NoMemory = None
+
+-- the place of a fault of a function
+abbrev pub function_place : FunctionFault → Option ℕ
+function_place (function.UnknownName at) = Some at
+function_place (function.NameTwice at) = Some at
+function_place (function.WrongKind at) = Some at
+function_place (function.Array at) = Some at
+function_place (function.BigNumber at) = Some at
+function_place (function.Limit at which) = Some at
+function_place (function.OutsideLoop at) = Some at
+function_place function.NoVariables = None
+function_place function.NoMemory = None
+
+-- the place of a fault of a file, or of the function that is asked about
+abbrev pub source_place : SourceFault → Option ℕ
+source_place (source.Unexpected at) = Some at
+source_place (source.Nesting at) = Some at
+source_place (source.NameTwice at) = Some at
+source_place source.WhichFunction = None
+source_place (source.Function fault) = function_place fault
+source_place source.NoMemory = None
 
 -- the place of a fault of claims
 abbrev pub claim_place : ClaimFault → Option ℕ
@@ -89,7 +116,7 @@ auto_place auto.NoMemory = None
 -- the place of a cause in its text
 abbrev pub place_of : TextCause → Option ℕ
 place_of (Lex fault) = lex_place fault
-place_of (Parse fault) = parse_place fault
+place_of (Source fault) = source_place fault
 place_of (Flow fault) = None
 place_of (Rows fault) = None
 place_of (Unknowns count) = None
@@ -181,6 +208,31 @@ parse_words subject line (parse.BigNumber at) = counted subject (codes "big numb
 parse_words subject line (parse.OutsideLoop at) = counted subject (codes "outside a loop at line ") line
 parse_words subject line parse.NoMemory = words (codes "out of memory")
 
+abbrev pub function_limit_words : ℕ → FunctionLimit → Words
+function_limit_words line limit.Variables = counted program_refused (codes "variables at line ") line
+function_limit_words line limit.Hidden = counted program_refused (codes "values at line ") line
+function_limit_words line limit.Leaves = counted program_refused (codes "leaves at line ") line
+function_limit_words line limit.Statements = counted program_refused (codes "statements at line ") line
+
+abbrev pub function_words : ℕ → FunctionFault → Words
+function_words line (function.UnknownName at) = counted program_refused (codes "unknown name at line ") line
+function_words line (function.NameTwice at) = counted program_refused (codes "name twice at line ") line
+function_words line (function.WrongKind at) = counted program_refused (codes "wrong kind at line ") line
+function_words line (function.Array at) = counted program_refused (codes "array at line ") line
+function_words line (function.BigNumber at) = counted program_refused (codes "big number at line ") line
+function_words line (function.Limit at which) = function_limit_words line which
+function_words line (function.OutsideLoop at) = counted program_refused (codes "outside a loop at line ") line
+function_words line function.NoVariables = plain program_refused (codes "no variables")
+function_words line function.NoMemory = words (codes "out of memory")
+
+abbrev pub source_words : ℕ → SourceFault → Words
+source_words line (source.Unexpected at) = counted program_refused (codes "unexpected token at line ") line
+source_words line (source.Nesting at) = counted program_refused (codes "nesting at line ") line
+source_words line (source.NameTwice at) = counted program_refused (codes "name twice at line ") line
+source_words line source.WhichFunction = plain program_refused (codes "which function")
+source_words line (source.Function fault) = function_words line fault
+source_words line source.NoMemory = words (codes "out of memory")
+
 abbrev pub flow_words : FlowFault → Words
 flow_words (flow.Cases line) = counted program_refused (codes "cases at line ") line
 flow_words (flow.Points count) = counted_in program_refused [] count (codes " points\n")
@@ -230,7 +282,7 @@ auto_words line auto.NoMemory = words (codes "out of memory")
 
 abbrev pub text_words : ℕ → TextCause → Words
 text_words line (Lex fault) = lex_words program_refused line fault
-text_words line (Parse fault) = parse_words program_refused line fault
+text_words line (Source fault) = source_words line fault
 text_words line (Flow fault) = flow_words fault
 text_words line (Rows fault) = row_words fault
 text_words line (Unknowns count) = counted_in program_refused [] count (codes " unknowns\n")

@@ -2,8 +2,8 @@
 
 ghost use Rattle.std.specs.Prelude.{◌≡◌, ◌≤◌, ◌+◌, ◌++◌, [], None, Some, codes, length};
 ghost use Rattle.top_status.specs.Messages.{auto_words, claim_words, counted, counted_in, equation_words, flow_words, lex_words};
-ghost use Rattle.top_status.specs.Messages.{limit_words};
-ghost use Rattle.top_status.specs.Messages.{line_text, message_of, parse_words, plain, read_words, row_words, text_words, words, words_of};
+ghost use Rattle.top_status.specs.Messages.{function_limit_words, function_words, limit_words, line_text, message_of, parse_words};
+ghost use Rattle.top_status.specs.Messages.{plain, read_words, row_words, source_words, text_words, words, words_of};
 ghost use Rattle.top_status.specs.Parts.{told};
 ghost use Rattle.top_status.specs.declared.limits.TheConstants.{MOST_MESSAGE_BYTES};
 ghost use Rattle.top_status.specs.declared.status.Status.TheVariants as StatusValue;
@@ -25,6 +25,8 @@ use flow_transitions::AutoFault;
 use itoa::Buffer;
 use lang_meaning::{Limit, ParseFault};
 use lang_tokens::LexFault;
+use source_file::SourceFault;
+use source_meaning::{FunctionFault, Limit as FunctionLimit};
 use std::marker::Model;
 
 // What is refused, words, a number and words, with a line feed at the end.
@@ -126,6 +128,46 @@ fn parse_parts(subject: &'static [u8], line: u32, fault: ParseFault) -> Parts
     }
 }
 
+fn function_limit_parts(line: u32, which: FunctionLimit) -> Parts
+    ensures { told result ≡ function_limit_words line which }
+{
+    match which {
+        FunctionLimit::Variables => counted(PROGRAM, b"variables at line ", line),
+        FunctionLimit::Hidden => counted(PROGRAM, b"values at line ", line),
+        FunctionLimit::Leaves => counted(PROGRAM, b"leaves at line ", line),
+        FunctionLimit::Statements => counted(PROGRAM, b"statements at line ", line),
+    }
+}
+
+fn function_parts(line: u32, fault: FunctionFault) -> Parts
+    ensures { told result ≡ function_words line fault }
+{
+    match fault {
+        FunctionFault::UnknownName { .. } => counted(PROGRAM, b"unknown name at line ", line),
+        FunctionFault::NameTwice { .. } => counted(PROGRAM, b"name twice at line ", line),
+        FunctionFault::WrongKind { .. } => counted(PROGRAM, b"wrong kind at line ", line),
+        FunctionFault::Array { .. } => counted(PROGRAM, b"array at line ", line),
+        FunctionFault::BigNumber { .. } => counted(PROGRAM, b"big number at line ", line),
+        FunctionFault::Limit { which, .. } => function_limit_parts(line, which),
+        FunctionFault::OutsideLoop { .. } => counted(PROGRAM, b"outside a loop at line ", line),
+        FunctionFault::NoVariables => plain_in(PROGRAM, b"no variables"),
+        FunctionFault::NoMemory => plain(b"out of memory"),
+    }
+}
+
+fn source_parts(line: u32, fault: SourceFault) -> Parts
+    ensures { told result ≡ source_words line fault }
+{
+    match fault {
+        SourceFault::Unexpected { .. } => counted(PROGRAM, b"unexpected token at line ", line),
+        SourceFault::Nesting { .. } => counted(PROGRAM, b"nesting at line ", line),
+        SourceFault::NameTwice { .. } => counted(PROGRAM, b"name twice at line ", line),
+        SourceFault::WhichFunction => plain_in(PROGRAM, b"which function"),
+        SourceFault::Function(fault) => function_parts(line, fault),
+        SourceFault::NoMemory => plain(b"out of memory"),
+    }
+}
+
 fn flow_parts(fault: FlowFault) -> Parts
     ensures { told result ≡ flow_words fault }
 {
@@ -208,7 +250,7 @@ fn text_parts(line: u32, cause: TextCause) -> Parts
 {
     match cause {
         TextCause::Lex(fault) => lex_parts(PROGRAM, line, fault),
-        TextCause::Parse(fault) => parse_parts(PROGRAM, line, fault),
+        TextCause::Source(fault) => source_parts(line, fault),
         TextCause::Flow(fault) => flow_parts(fault),
         TextCause::Rows(fault) => row_parts(fault),
         TextCause::Unknowns(count) => counted_in(PROGRAM, b"", count as u64, b" unknowns\n"),

@@ -12,8 +12,8 @@ use flow_rationals::EquFault;
 use flow_systems::Spot;
 use flow_templates::RowFault;
 use flow_transitions::AutoFault;
-use lang_meaning::ParseFault;
 use lang_tokens::LexFault;
+use source_file::SourceFault;
 
 /// Why the texts of a program, of its rows and of claims about it, that of a transition system, or that of equations, are refused
 /// (docs/FORMATS.md,
@@ -22,8 +22,8 @@ use lang_tokens::LexFault;
 pub enum TextCause {
     /// It doesn't read as tokens.
     Lex(LexFault),
-    /// Its tokens don't read as a program.
-    Parse(ParseFault),
+    /// Its tokens have no functions, or the function that is asked about is no program.
+    Source(SourceFault),
     /// Its program has no points and edges within the limits.
     Flow(FlowFault),
     /// The file of rows is no template over its variables.

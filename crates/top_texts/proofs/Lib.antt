@@ -1,7 +1,9 @@
+pub mod by_c
 pub mod texts
 pub mod rounds
 pub mod checks
 pub mod claim_texts
+pub mod function_texts
 pub mod check_texts
 pub mod equation_texts
 pub mod transition_texts

@@ -13,7 +13,7 @@ use Rattle.top_status.specs.Messages.{line_in}
 use Rattle.top_texts.specs.Outcomes.{IsAnswerToSystem, QuestionAnswer}
 use Rattle.top_texts.specs.Questions.{analysis_question}
 use Rattle.top_texts.specs.Rounds.{HasRounds}
-use Rattle.top_texts.specs.Texts.{IsSolvedSystem}
+use Rattle.top_texts.specs.Texts.{IsSolvedSystem, Program}
 use Rattle.top_texts.specs.declared.analyse.least.LeastBounds.{LeastBounds}
 use Rattle.top_status.specs.declared.ending.Ending.{Ending}
 use Rattle.top_status.specs.declared.status.Status.{Status}
@@ -27,9 +27,9 @@ pub record IsSolvedBy (system : System) (policy : Policy) (limit : ℕ) (bounds 
   pub least : Least (equations_of system) (vector_at system bounds.solved.bounds)
   pub count : IsVectorOf system bounds.solved.bounds
 
--- the least bounds of the program of a text over these rows
-pub record IsFoundIn (text : List ℕ) (rows : Domain (List ℕ)) (policy : Policy) (limit : ℕ) (bounds : LeastBounds) : Type 0 where
-  pub solved : IsSolvedSystem text rows bounds.system
+-- the least bounds of a program over these rows
+pub record IsFoundIn (program : Program) (rows : Domain (List ℕ)) (policy : Policy) (limit : ℕ) (bounds : LeastBounds) : Type 0 where
+  pub solved : IsSolvedSystem program rows bounds.system
   pub within : bounds.solved.improvements ≤ limit
   pub has_rounds : HasRounds bounds.system policy bounds.solved.improvements (vector_at bounds.system bounds.solved.bounds)
   pub least : Least (equations_of bounds.system) (vector_at bounds.system bounds.solved.bounds)
@@ -47,9 +47,9 @@ pub record IsHaltedEnding (system : System) (policy : Policy) (limit : ℕ) (end
   pub line : ending.line ≡ 0
   pub rows_named : ending.rows ≡ rows_of (length system.template) ending.status
 
--- the ending where a text over rows has no least bounds; the line and the rows of its message are those of the report's
-pub record IsRefusedText (text : List ℕ) (rows : Domain (List ℕ)) (policy : Policy) (limit : ℕ) (ending : Ending) : Type 0 where
-  pub answer : QuestionAnswer (analysis_question exact Report text rows policy limit) ending.status
+-- the ending where a program over rows has no least bounds; the line and the rows of its message are those of the report's
+pub record IsRefusedText (program : Program) (rows : Domain (List ℕ)) (policy : Policy) (limit : ℕ) (ending : Ending) : Type 0 where
+  pub answer : QuestionAnswer (analysis_question exact Report program rows policy limit) ending.status
   pub unput : IsUnput ending.status
-  pub line : ending.line ≡ line_in text ending.status
-  pub rows_named : (system : System) → IsSolvedSystem text rows system → ending.rows ≡ rows_of (length system.template) ending.status
+  pub line : ending.line ≡ line_in program.text ending.status
+  pub rows_named : (system : System) → IsSolvedSystem program rows system → ending.rows ≡ rows_of (length system.template) ending.status

@@ -1,5 +1,6 @@
 -- What the checks of a program's text come to at its least vector, and what is written of them.
 use Rattle.std.specs.Prelude.{◌≡◌, ◌≤◌, ◌↔◌, ℕ, Bool, true, false, IsTrue, List, Some, length, slice_get, Contains}
+use Rattle.lang_tree.specs.declared.check.Check.{Check}
 use Rattle.lang_tree.specs.Limits.{is_program}
 use Rattle.lang_tree.specs.Runs.{CheckIsTrue, Configuration, IsRun}
 use Rattle.lang_tree.specs.Tree.{Statements}
@@ -16,9 +17,10 @@ use Rattle.ask_words.specs.declared.format.Format.{Format}
 use Rattle.ask_words.specs.declared.request.Domain.{Domain}
 use Rattle.ask_words.specs.declared.request.Policy.{Policy}
 use Rattle.top_written.specs.Formats.{checks_in as checks_written}
+use Rattle.top_texts.specs.ByC.{AreProved, CheckHoldsInSource}
 use Rattle.top_texts.specs.Meanings.{Meanings}
 use Rattle.top_texts.specs.Rounds.{HasRounds}
-use Rattle.top_texts.specs.Texts.{IsSolvedSystem}
+use Rattle.top_texts.specs.Texts.{IsSolvedSystem, Program}
 use Rattle.top_status.specs.declared.status.Status.{Status}
 use Rattle.top_status.specs.declared.status.Status.TheVariants.{Done, Open}
 
@@ -59,8 +61,8 @@ pub record SpeakOfChecks (variables : ℕ) (body : Statements) (system : Equatio
 -- ---- of texts
 
 -- these are the checks of the program of these texts, which has this system, and is within the limits of programs
-pub record HasChecks (text : List ℕ) (rows : Domain (List ℕ)) (system : System) (checks : List CheckCases) : Type 0 where
-  pub solved : IsSolvedSystem text rows system
+pub record HasChecks (program : Program) (rows : Domain (List ℕ)) (system : System) (checks : List CheckCases) : Type 0 where
+  pub solved : IsSolvedSystem program rows system
   pub checks_are : checks ≡ checks_of_program solved.body
   pub within : IsTrue (is_program (length solved.names) solved.body)
 
@@ -71,9 +73,9 @@ ending_of false = Done
 
 -- the improvements by the policy over the system of these texts end within the limit, at its least vector, and there the checks of the
 -- program decide this ending
-pub record IsJudged (text : List ℕ) (rows : Domain (List ℕ)) (policy : Policy) (limit : ℕ) (ending : Status) : Type 0 where
+pub record IsJudged (program : Program) (rows : Domain (List ℕ)) (policy : Policy) (limit : ℕ) (ending : Status) : Type 0 where
   pub system : System
-  pub solved : IsSolvedSystem text rows system
+  pub solved : IsSolvedSystem program rows system
   pub rounds : ℕ
   pub within : rounds ≤ limit
   pub vector : Vector
@@ -82,14 +84,18 @@ pub record IsJudged (text : List ℕ) (rows : Domain (List ℕ)) (policy : Polic
   pub ends : ChecksEnd solved.body (equations_of_program (length solved.names) solved.body solved.template) vector ending
 
 -- the bytes are the verdicts of this vector on the checks of the program, which is in the file of this name, in a format, with the number
--- of improvements; of an open one's state they tell the values of the program's variables, and none of a hidden one
-pub record AreCheckVerdictsOf (m : Meanings) (file text : List ℕ) (rows : Domain (List ℕ)) (policy : Policy) (limit : ℕ) (format : Format)
-    (ending : Status) (bytes : List ℕ) : Type 0 where
-  pub judged : IsJudged text rows policy limit ending
+-- of improvements; of an open one's state they tell the values of the program's variables, and none of a hidden one. Where the checks that
+-- are about a place are proved, no run by C breaks the place's check; and where the ending is `Done`, none breaks any
+pub record AreCheckVerdictsOf (m : Meanings) (file : List ℕ) (program : Program) (rows : Domain (List ℕ)) (policy : Policy) (limit : ℕ)
+    (format : Format) (ending : Status) (bytes : List ℕ) : Type 0 where
+  pub judged : IsJudged program rows policy limit ending
   pub verdicts : List Verdict
   pub verdicts_are : m.verifies
       (equations_of_program (length judged.solved.names) judged.solved.body judged.solved.template) judged.vector
       (checks_of_program judged.solved.body) verdicts
   pub speak : SpeakOfChecks (length judged.solved.names) judged.solved.body
       (equations_of_program (length judged.solved.names) judged.solved.body judged.solved.template) judged.vector verdicts
-  pub written : bytes ≡ checks_written format file text judged.solved.names (checks_of_program judged.solved.body) verdicts judged.rounds
+  pub by_c : (about : Check) → AreProved judged.solved.body verdicts about → CheckHoldsInSource program judged.solved.names about
+  pub all_by_c : ending ≡ Done → (about : Check) → CheckHoldsInSource program judged.solved.names about
+  pub written : bytes ≡ checks_written format file program.text judged.solved.names (checks_of_program judged.solved.body) verdicts
+      judged.rounds

@@ -1,4 +1,4 @@
--- What the text of a program and the bytes of a certificate are: a valid certificate of the program, or refused by a cause, or a number is
+-- What a program and the bytes of a certificate are: a valid certificate of the program, or refused by a cause, or a number is
 -- wide on the way.
 -- The program comes first, then the certificate, its rows, the unknowns, the composition of the edges, and the tests.
 use Rattle.std.specs.Prelude.{◌≡◌, ◌≤◌, ◌<◌, ◌⊎◌, ℕ, ℤ, List, [], Err, Some, None, length, slice_get}
@@ -23,7 +23,7 @@ use Rattle.cert_checker.specs.CheckEvents.{check_events}
 use Rattle.cert_checker.specs.Events.{fault_answer, first_stop, operations_of}
 use Rattle.cert_checker.specs.declared.fault.CheckFault.{CheckFault}
 use Rattle.cert_checker.specs.declared.fault.CheckFault.TheVariants as check
-use Rattle.top_texts.specs.Texts.{IsAnalysed, unknowns}
+use Rattle.top_texts.specs.Texts.{IsAnalysed, Program, unknowns}
 use Rattle.top_status.specs.declared.status.CertCause.{CertCause}
 use Rattle.top_status.specs.declared.status.CertCause.TheVariants.{Form, Rows, Unknowns, Check}
 use Rattle.flow_systems.specs.declared.limits.TheConstants.{MOST_UNKNOWNS}
@@ -37,14 +37,14 @@ IsFormFault bytes Version = (d : Data) × Spells bytes d × (cert_in d ≡ Err V
 IsFormFault bytes Expanded = SpellsTooMany bytes
 IsFormFault bytes NoMemory = ⊥
 
--- the text is a program within the limits, and the bytes spell this certificate
-pub record IsSpelt (text bytes : List ℕ) (names : List (List ℕ)) (body : Statements) (cert : Cert) : Type 0 where
-  pub analysed : IsAnalysed text names body
+-- the program has a core within the limits, and the bytes spell this certificate
+pub record IsSpelt (program : Program) (bytes : List ℕ) (names : List (List ℕ)) (body : Statements) (cert : Cert) : Type 0 where
+  pub analysed : IsAnalysed program names body
   pub spells : SpellsCert bytes cert
 
 -- and the certificate's rows are a template over the program's variables, with no more unknowns than a system may have
-pub record IsSystemWith (text bytes : List ℕ) (names : List (List ℕ)) (body : Statements) (cert : Cert) : Type 0 where
-  pub spelt : IsSpelt text bytes names body cert
+pub record IsSystemWith (program : Program) (bytes : List ℕ) (names : List (List ℕ)) (body : Statements) (cert : Cert) : Type 0 where
+  pub spelt : IsSpelt program bytes names body cert
   pub rows : faults_of (length names) cert.rows ≡ []
   pub within : unknowns body cert.rows ≤ MOST_UNKNOWNS
 
@@ -56,9 +56,9 @@ system_with names body cert = equations_of_program (length names) body cert.rows
 abbrev pub theirs : Cert → Certificate
 theirs cert = certificate_of (length cert.rows) cert
 
--- the bytes are a valid certificate of the text
-pub record IsValidFor (text bytes : List ℕ) (names : List (List ℕ)) (body : Statements) (cert : Cert) : Type 0 where
-  pub system : IsSystemWith text bytes names body cert
+-- the bytes are a valid certificate of the program
+pub record IsValidFor (program : Program) (bytes : List ℕ) (names : List (List ℕ)) (body : Statements) (cert : Cert) : Type 0 where
+  pub system : IsSystemWith program bytes names body cert
   pub valid : ValidCertificate (system_with names body cert) (theirs cert)
 
 -- no operation of the composition and of the check is wide
@@ -66,11 +66,11 @@ pub record NoneIsWide (system : Equations) (certificate : Certificate) : Type 0 
   pub composition : wide_composition system ≡ None
   pub sums : first_wide long_limit (operations_of (check_events system certificate)) ≡ None
 
--- the bytes are accepted for the text
-abbrev pub IsAccepted : List ℕ → List ℕ → Type 0
-IsAccepted text bytes =
+-- the bytes are accepted for the program
+abbrev pub IsAccepted : Program → List ℕ → Type 0
+IsAccepted program bytes =
     (names : List (List ℕ)) × (body : Statements) × (cert : Cert)
-    × IsValidFor text bytes names body cert × NoneIsWide (system_with names body cert) (theirs cert)
+    × IsValidFor program bytes names body cert × NoneIsWide (system_with names body cert) (theirs cert)
 
 -- this is the first failing test of the certificate, and no operation before it is wide
 pub record StopsAt (system : Equations) (certificate : Certificate) (fault : Fault) : Type 0 where
@@ -83,18 +83,18 @@ abbrev pub IsStopped : Equations → Certificate → CheckFault → Type 0
 IsStopped system certificate answer = (fault : Fault) × (answer ≡ fault_answer fault) × StopsAt system certificate fault
 
 -- the bytes are refused by this cause
-abbrev pub IsRefusedCertificate : List ℕ → List ℕ → CertCause → Type 0
-IsRefusedCertificate text bytes (Form fault) = (names : List (List ℕ)) × (body : Statements) × IsAnalysed text names body
+abbrev pub IsRefusedCertificate : Program → List ℕ → CertCause → Type 0
+IsRefusedCertificate program bytes (Form fault) = (names : List (List ℕ)) × (body : Statements) × IsAnalysed program names body
     × IsFormFault bytes fault
-IsRefusedCertificate text bytes (Rows fault) =
-    (names : List (List ℕ)) × (body : Statements) × (cert : Cert) × IsSpelt text bytes names body cert
+IsRefusedCertificate program bytes (Rows fault) =
+    (names : List (List ℕ)) × (body : Statements) × (cert : Cert) × IsSpelt program bytes names body cert
     × (slice_get (faults_of (length names) cert.rows) 0 ≡ Some fault)
-IsRefusedCertificate text bytes (Unknowns count) =
-    (names : List (List ℕ)) × (body : Statements) × (cert : Cert) × IsSpelt text bytes names body cert
+IsRefusedCertificate program bytes (Unknowns count) =
+    (names : List (List ℕ)) × (body : Statements) × (cert : Cert) × IsSpelt program bytes names body cert
     × (faults_of (length names) cert.rows ≡ [])
     × (MOST_UNKNOWNS < unknowns body cert.rows) × (count ≡ unknowns body cert.rows)
-IsRefusedCertificate text bytes (Check fault) =
-    (names : List (List ℕ)) × (body : Statements) × (cert : Cert) × IsSystemWith text bytes names body cert
+IsRefusedCertificate program bytes (Check fault) =
+    (names : List (List ℕ)) × (body : Statements) × (cert : Cert) × IsSystemWith program bytes names body cert
     × IsStopped (system_with names body cert) (theirs cert) fault
 
 -- the spot is that of the first wide operation of the composition
@@ -110,18 +110,18 @@ pub record IsCheckSpot (system : Equations) (certificate : Certificate) (spot : 
   pub stop : first_stop (check_events system certificate) ≡ Some (check.Wide spot)
 
 -- the operation of this spot is wide, in the composition or in the check, and nothing before it is refused
-abbrev pub IsWideAt : List ℕ → List ℕ → Spot → Type 0
-IsWideAt text bytes spot =
-    (names : List (List ℕ)) × (body : Statements) × (cert : Cert) × IsSystemWith text bytes names body cert
+abbrev pub IsWideAt : Program → List ℕ → Spot → Type 0
+IsWideAt program bytes spot =
+    (names : List (List ℕ)) × (body : Statements) × (cert : Cert) × IsSystemWith program bytes names body cert
     × (IsCompositionSpot (system_with names body cert) spot ⊎ IsCheckSpot (system_with names body cert) (theirs cert) spot)
 
--- the bytes are accepted for the text, by this program, with these rows and this vector of bounds
-pub record IsAcceptedWith (text bytes : List ℕ) (names : List (List ℕ)) (body : Statements) (rows : List (List ℤ)) (vector : Vector) :
-    Type 0 where
+-- the bytes are accepted for the program, by this core, with these rows and this vector of bounds
+pub record IsAcceptedWith (program : Program) (bytes : List ℕ) (names : List (List ℕ)) (body : Statements) (rows : List (List ℤ))
+    (vector : Vector) : Type 0 where
   pub cert : Cert
   pub rows_are : cert.rows ≡ rows
   pub vector_is : bounds_vector (system_with names body cert) cert.bounds ≡ vector
-  pub valid : IsValidFor text bytes names body cert
+  pub valid : IsValidFor program bytes names body cert
   pub narrow : NoneIsWide (system_with names body cert) (theirs cert)
 
 -- the bytes spell a certificate with so many rows

@@ -20,32 +20,33 @@ use Rattle.ask_words.specs.declared.format.Format.{Format}
 use Rattle.ask_words.specs.declared.request.Domain.{Domain}
 use Rattle.ask_words.specs.declared.request.Policy.{Policy}
 use Rattle.top_written.specs.Formats.{claims_in}
+use Rattle.top_texts.specs.ByC.{ClaimHoldsInSource}
 use Rattle.top_texts.specs.Meanings.{Meanings}
 use Rattle.top_texts.specs.Rounds.{HasRounds}
-use Rattle.top_texts.specs.Texts.{IsReady, IsRefused, IsSolvedSystem}
+use Rattle.top_texts.specs.Texts.{IsReady, IsRefused, IsSolvedSystem, Program}
 use Rattle.top_status.specs.declared.status.TextCause.{TextCause}
-use Rattle.top_status.specs.declared.status.TextCause.TheVariants.{Lex, Parse, Flow, Rows, Unknowns, Claims}
+use Rattle.top_status.specs.declared.status.TextCause.TheVariants.{Lex, Source as InSource, Flow, Rows, Unknowns, Claims}
 
 -- ---- what the texts are
 
 -- the system of a program and its rows, which is solved, where the text given with them states claims about this program
-pub record IsClaimedSystem (text : List ℕ) (rows : Domain (List ℕ)) (given : List ℕ) (system : System) : Type 0 where
-  pub solved : IsSolvedSystem text rows system
+pub record IsClaimedSystem (program : Program) (rows : Domain (List ℕ)) (given : List ℕ) (system : System) : Type 0 where
+  pub solved : IsSolvedSystem program rows system
   pub stated : List Stated
   pub reading : FileMeans given solved.names (points_of_program solved.body) (Ok stated)
 
 -- the texts are refused by this cause: those of a program and its rows as for their analysis, and where these have a system, the text given
 -- with them
-abbrev pub AreNoClaims : List ℕ → Domain (List ℕ) → List ℕ → TextCause → Type 0
-AreNoClaims text rows given (Lex fault) = IsRefused text rows (Lex fault)
-AreNoClaims text rows given (Parse fault) = IsRefused text rows (Parse fault)
-AreNoClaims text rows given (Flow fault) = IsRefused text rows (Flow fault)
-AreNoClaims text rows given (Rows fault) = IsRefused text rows (Rows fault)
-AreNoClaims text rows given (Unknowns count) = IsRefused text rows (Unknowns count)
-AreNoClaims text rows given (Claims fault) =
-    (names : List (List ℕ)) × (body : Statements) × (template : List (List ℤ)) × IsReady text rows names body template
+abbrev pub AreNoClaims : Program → Domain (List ℕ) → List ℕ → TextCause → Type 0
+AreNoClaims program rows given (Lex fault) = IsRefused program rows (Lex fault)
+AreNoClaims program rows given (InSource fault) = IsRefused program rows (InSource fault)
+AreNoClaims program rows given (Flow fault) = IsRefused program rows (Flow fault)
+AreNoClaims program rows given (Rows fault) = IsRefused program rows (Rows fault)
+AreNoClaims program rows given (Unknowns count) = IsRefused program rows (Unknowns count)
+AreNoClaims program rows given (Claims fault) =
+    (names : List (List ℕ)) × (body : Statements) × (template : List (List ℤ)) × IsReady program rows names body template
     × FileMeans given names (points_of_program body) (Err fault)
-AreNoClaims text rows given _ = ⊥
+AreNoClaims program rows given _ = ⊥
 
 -- a text states these claims over a program's variables and points: each condition is decided, and comes with the cases in which it may be
 -- false
@@ -84,11 +85,12 @@ pub record AreLeastVerdicts (m : Meanings) (names : List (List ℕ)) (body : Sta
   pub speak : SpeakOfRuns (length names) body (equations_of_program (length names) body template) vector claims verdicts
   pub written : bytes ≡ claims_in format names claims verdicts rounds
 
--- they are those on the claims that a text states about the program of these texts, with the number of improvements by the policy
-pub record AreVerdictsOf (m : Meanings) (text : List ℕ) (rows : Domain (List ℕ)) (given : List ℕ) (policy : Policy) (limit : ℕ)
+-- they are those on the claims that a text states about the program of these texts, with the number of improvements by the policy; a
+-- proved claim is true in every run by C, too
+pub record AreVerdictsOf (m : Meanings) (program : Program) (rows : Domain (List ℕ)) (given : List ℕ) (policy : Policy) (limit : ℕ)
     (format : Format) (bytes : List ℕ) : Type 0 where
   pub system : System
-  pub solved : IsSolvedSystem text rows system
+  pub solved : IsSolvedSystem program rows system
   pub claims : List Claim
   pub claims_are : AreClaimsOf given solved.names (points_of_program solved.body) claims
   pub rounds : ℕ
@@ -96,3 +98,5 @@ pub record AreVerdictsOf (m : Meanings) (text : List ℕ) (rows : Domain (List �
   pub vector : Vector
   pub has_rounds : HasRounds system policy rounds vector
   pub least : AreLeastVerdicts m solved.names solved.body solved.template vector claims rounds format bytes
+  pub by_c : (k : ℕ) (claim : Claim) → slice_get claims k ≡ Some claim → slice_get least.verdicts k ≡ Some Proved
+      → ClaimHoldsInSource program solved.names claim

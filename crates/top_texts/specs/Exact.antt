@@ -25,11 +25,11 @@ abbrev pub exact : Meanings
 exact = record {
   exceeds = λ purpose system policy limit excess. HasExcess purpose system policy limit excess;
   too_wide_for = λ given system policy limit spot. IsClaimSpot given system policy limit spot;
-  too_wide_at = λ text system policy limit spot. IsCheckedSpot text system policy limit spot;
-  certifies = λ text rows policy limit bytes. IsCertificateOf text rows policy limit bytes;
-  accepts = λ text bytes names body rows vector. IsAcceptedWith text bytes names body rows vector;
-  refuses = λ text bytes cause. IsRefusedCertificate text bytes cause;
-  is_wide_in = λ text bytes spot. IsWideAt text bytes spot;
+  too_wide_at = λ program system policy limit spot. IsCheckedSpot program system policy limit spot;
+  certifies = λ program rows policy limit bytes. IsCertificateOf program rows policy limit bytes;
+  accepts = λ program bytes names body rows vector. IsAcceptedWith program bytes names body rows vector;
+  refuses = λ program bytes cause. IsRefusedCertificate program bytes cause;
+  is_wide_in = λ program bytes spot. IsWideAt program bytes spot;
   has_rows = λ bytes count. HasRowCount bytes count;
   misspells = λ bytes fault. IsFormFault bytes fault;
   upgrades = λ bytes written. IsUpgradeOf bytes written;

@@ -2,6 +2,8 @@ pub mod Policies
 pub mod Rounds
 pub mod Short
 pub mod Texts
+pub mod ByC
+pub mod FunctionTexts
 pub mod Checks
 pub mod Upgrades
 pub mod Meanings

@@ -12,19 +12,20 @@ use Rattle.solve_rounds.specs.declared.solution.Solved.{Solved}
 use Rattle.solve_rounds.specs.Solutions.{IsSolved, cert_with}
 use Rattle.ask_words.specs.declared.request.Domain.{Domain}
 use Rattle.ask_words.specs.declared.request.Policy.{Policy}
+use Rattle.top_texts.specs.ByC.{HoldsInSource}
 use Rattle.top_texts.specs.Checks.{IsValidFor, NoneIsWide, system_with, theirs}
 use Rattle.top_texts.specs.Policies.{rule_of}
 use Rattle.top_texts.specs.Rounds.{IsSystemFor}
-use Rattle.top_texts.specs.Texts.{IsReady}
+use Rattle.top_texts.specs.Texts.{IsReady, Program}
 
 -- the bytes are the certificate that the rounds make, of the program and the template of these texts; it is valid for the system of the
--- text, no sum of its check is wide, and its bounds are the least vector. Where its traces hold few enough values, the bytes are read as
--- this certificate, and else refused for that
-pub record IsCertificateOf (text : List ℕ) (rows : Domain (List ℕ)) (policy : Policy) (limit : ℕ) (bytes : List ℕ) : Type 0 where
+-- text, no sum of its check is wide, and its bounds are the least vector, which holds in every run by C. Where its traces hold few enough
+-- values, the bytes are read as this certificate, and else refused for that
+pub record IsCertificateOf (program : Program) (rows : Domain (List ℕ)) (policy : Policy) (limit : ℕ) (bytes : List ℕ) : Type 0 where
   pub names : List (List ℕ)
   pub body : Statements
   pub template : List (List ℤ)
-  pub ready : IsReady text rows names body template
+  pub ready : IsReady program rows names body template
   pub system : System
   pub system_for : IsSystemFor names body template system
   pub solved : Solved
@@ -32,6 +33,7 @@ pub record IsCertificateOf (text : List ℕ) (rows : Domain (List ℕ)) (policy 
   pub written : bytes ≡ compact_text (cert_data (cert_with system solved))
   pub valid : ValidCertificate (system_with names body (cert_with system solved)) (theirs (cert_with system solved))
   pub narrow : NoneIsWide (system_with names body (cert_with system solved)) (theirs (cert_with system solved))
-  pub accepted : IsWithin (cert_with system solved) → IsValidFor text bytes names body (cert_with system solved)
+  pub accepted : IsWithin (cert_with system solved) → IsValidFor program bytes names body (cert_with system solved)
   pub expands : IsBeyond (cert_with system solved) → SpellsTooMany bytes
   pub least : Least (equations_of_program (length names) body template) (vector_of (length template) solved.bounds)
+  pub by_c : HoldsInSource program names (equations_of_program (length names) body template) (vector_of (length template) solved.bounds)

@@ -14,10 +14,11 @@ use Rattle.cert_text.specs.declared.fault.FormFault.{FormFault}
 use Rattle.top_status.specs.declared.status.CertCause.{CertCause}
 use Rattle.top_status.specs.declared.status.Excess.{Excess}
 use Rattle.top_status.specs.declared.status.Status.{Status}
+use Rattle.top_texts.specs.Texts.{Program}
 
 -- The solver: what exceeds exact work in the analysis of a system, by policy and limit; where an operation for the claims of a text, or for
--- the checks of a program's text, is too wide; and which bytes are the certificate that its rounds make of texts.
--- The checker: which bytes are a certificate of a text that it accepts, with the program, the rows and the vector of bounds; by which cause
+-- the checks of a program, is too wide; and which bytes are the certificate that its rounds make of texts.
+-- The checker: which bytes are a certificate of a program that it accepts, with its core, the rows and the vector of bounds; by which cause
 -- it refuses them, at which operation they are too wide; and how many rows a certificate has.
 -- The form of certificates: by which fault bytes spell none; and which bytes are written of the certificate that bytes spell.
 -- The judge: which verdicts are given on claims at a vector of a system, and which on checks, with the state that is shown of an open one.
@@ -27,11 +28,11 @@ use Rattle.top_status.specs.declared.status.Status.{Status}
 pub record Meanings : Type 1 where
   pub exceeds : Purpose → System → Policy → ℕ → Excess → Type 0
   pub too_wide_for : (given : List ℕ) → System → Policy → ℕ → Spot → Type 0
-  pub too_wide_at : (text : List ℕ) → System → Policy → ℕ → Spot → Type 0
-  pub certifies : List ℕ → Domain (List ℕ) → Policy → ℕ → List ℕ → Type 0
-  pub accepts : (text bytes : List ℕ) → List (List ℕ) → Statements → List (List ℤ) → Vector → Type 0
-  pub refuses : (text bytes : List ℕ) → CertCause → Type 0
-  pub is_wide_in : (text bytes : List ℕ) → Spot → Type 0
+  pub too_wide_at : Program → System → Policy → ℕ → Spot → Type 0
+  pub certifies : Program → Domain (List ℕ) → Policy → ℕ → List ℕ → Type 0
+  pub accepts : Program → (bytes : List ℕ) → List (List ℕ) → Statements → List (List ℤ) → Vector → Type 0
+  pub refuses : Program → (bytes : List ℕ) → CertCause → Type 0
+  pub is_wide_in : Program → (bytes : List ℕ) → Spot → Type 0
   pub has_rows : List ℕ → ℕ → Type 0
   pub misspells : List ℕ → FormFault → Type 0
   pub upgrades : (bytes written : List ℕ) → Type 0

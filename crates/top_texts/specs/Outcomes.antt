@@ -1,7 +1,8 @@
 -- What the calls answer, part by part: what is put, or why nothing is.
-use Rattle.std.specs.Prelude.{◌≡◌, ◌≤◌, ◌<◌, ◌⊎◌, ℕ, List, [], IsTrue, Some, length, slice_get}
+use Rattle.std.specs.Prelude.{◌≡◌, ◌≤◌, ◌<◌, ◌⊎◌, ℕ, ℤ, List, [], IsTrue, Ok, Err, None, Some, length, slice_get}
 use Rattle.lang_tree.specs.Tree.{Statements}
 use Rattle.flow_edges.specs.declared.checked.CheckCases.{CheckCases}
+use Rattle.flow_edges.specs.Faults.{fault_of_program}
 use Rattle.flow_templates.specs.RowFaults.{faults_of}
 use Rattle.flow_templates.specs.Rows.{is_template}
 use Rattle.base_numbers.specs.Extended.{Ext}
@@ -22,34 +23,63 @@ use Rattle.ask_words.specs.declared.request.Policy.{Policy}
 use Rattle.top_texts.specs.Checks.{IsCheckSpot, IsCompositionSpot, IsFormFault, IsRefusedCertificate, NoneIsWide, IsStopped, system_with}
 use Rattle.top_texts.specs.Checks.{theirs}
 use Rattle.top_texts.specs.Endings.{CheckEnd, UpgradeEnd}
+use Rattle.top_texts.specs.FunctionTexts.{AreNoFunctions}
 use Rattle.top_written.specs.Formats.{report_of_in}
 use Rattle.top_texts.specs.Questions.{IsExcessIn, Question, QuestionEnds}
 use Rattle.top_texts.specs.Policies.{rule_of}
-use Rattle.top_texts.specs.Rounds.{EndsWithin, HasRounds, RunsOut}
+use Rattle.top_texts.specs.Rounds.{EndsWithin, HasRounds, IsSystemFor, RunsOut}
 use Rattle.top_texts.specs.Spots.{HasExcess, IsWideFor, IsWideOn}
 use Rattle.top_texts.specs.TransitionTexts.{AreNoTransitions}
-use Rattle.top_texts.specs.Texts.{IsRefused, IsRefusedProgram, unknowns}
+use Rattle.top_texts.specs.Texts.{HasTemplate, IsRefused, IsRefusedProgram, Program, unknowns}
 use Rattle.ask_words.specs.declared.request.Purpose.{Purpose}
 use Rattle.ask_words.specs.declared.request.Purpose.TheVariants.{Report, Certificate as AsCertificate}
 use Rattle.top_status.specs.declared.status.CertCause.TheVariants as form
 use Rattle.top_status.specs.declared.status.Excess.TheVariants.{Wide}
+use Rattle.top_status.specs.declared.status.TextCause.TheVariants as why
 use Rattle.top_status.specs.declared.status.Status.{Status}
 use Rattle.top_status.specs.declared.status.Status.TheVariants as status
 use Rattle.top_texts.specs.declared.refusal.Refusal.{Refusal}
 use Rattle.top_texts.specs.declared.refusal.Refusal.TheVariants.{Text, Certificate, Exceeded, Spent, NoMemory}
 use Rattle.flow_systems.specs.declared.limits.TheConstants.{MOST_UNKNOWNS}
 
--- the text of a program is refused by this cause; want of memory needs none
-abbrev pub IsUnread : List ℕ → Refusal → Type 0
-IsUnread text (Text cause) = IsRefusedProgram text cause
-IsUnread text NoMemory = Unit {0}
-IsUnread text _ = ⊥
+-- the program is refused by this cause; want of memory needs none
+abbrev pub IsUnread : Program → Refusal → Type 0
+IsUnread program (Text cause) = IsRefusedProgram program cause
+IsUnread program NoMemory = Unit {0}
+IsUnread program _ = ⊥
 
 -- the texts are refused by this cause before there is a system; want of memory needs none
-abbrev pub IsRefusedBy : List ℕ → Domain (List ℕ) → Refusal → Type 0
-IsRefusedBy text rows (Text cause) = IsRefused text rows cause
-IsRefusedBy text rows NoMemory = Unit {0}
-IsRefusedBy text rows _ = ⊥
+abbrev pub IsRefusedBy : Program → Domain (List ℕ) → Refusal → Type 0
+IsRefusedBy program rows (Text cause) = IsRefused program rows cause
+IsRefusedBy program rows NoMemory = Unit {0}
+IsRefusedBy program rows _ = ⊥
+
+-- the points and edges of a core are beyond the limits, by this cause; want of memory needs none
+abbrev pub HasNoFlow : Statements → Refusal → Type 0
+HasNoFlow body (Text (why.Flow fault)) = fault_of_program body ≡ Some fault
+HasNoFlow body NoMemory = Unit {0}
+HasNoFlow body _ = ⊥
+
+-- the points and edges of a core within their limits have no system over these rows, by this cause; want of memory needs none
+abbrev pub HasNoRows : Domain (List ℕ) → List (List ℕ) → Statements → Refusal → Type 0
+HasNoRows rows names body (Text (why.Rows fault)) = HasTemplate rows names (Err fault)
+HasNoRows rows names body (Text (why.Unknowns count)) =
+    (template : List (List ℤ)) × HasTemplate rows names (Ok template) × (MOST_UNKNOWNS < unknowns body template)
+    × (count ≡ unknowns body template)
+HasNoRows rows names body NoMemory = Unit {0}
+HasNoRows rows names body _ = ⊥
+
+-- a core has no system over these rows, by this cause
+abbrev pub HasNoSystemOver : Domain (List ℕ) → List (List ℕ) → Statements → Refusal → Type 0
+HasNoSystemOver rows names body refusal = HasNoFlow body refusal ⊎ ((fault_of_program body ≡ None) × HasNoRows rows names body refusal)
+
+-- a core has this system over these rows
+pub record HasSystemOver (rows : Domain (List ℕ)) (names : List (List ℕ)) (body : Statements) (system : System) : Type 0 where
+  pub flows : fault_of_program body ≡ None
+  pub template : List (List ℤ)
+  pub template_is : HasTemplate rows names (Ok template)
+  pub within : unknowns body template ≤ MOST_UNKNOWNS
+  pub system_for : IsSystemFor names body template system
 
 -- the texts of a transition system and of its rows are refused by this cause before there is a system; want of memory needs none
 abbrev pub IsRefusedAlong : List ℕ → Domain (List ℕ) → Refusal → Type 0
@@ -97,12 +127,12 @@ IsMisspelt bytes (Certificate (form.Form fault)) = IsFormFault bytes fault
 IsMisspelt bytes NoMemory = Unit {0}
 IsMisspelt bytes _ = ⊥
 
--- the text or the bytes are refused before the certificate's rows are seen
-abbrev pub IsUnspelt : List ℕ → List ℕ → Refusal → Type 0
-IsUnspelt text bytes (Text cause) = IsRefusedProgram text cause
-IsUnspelt text bytes (Certificate (form.Form fault)) = IsRefusedCertificate text bytes (form.Form fault)
-IsUnspelt text bytes NoMemory = Unit {0}
-IsUnspelt text bytes _ = ⊥
+-- the program or the bytes are refused before the certificate's rows are seen
+abbrev pub IsUnspelt : Program → List ℕ → Refusal → Type 0
+IsUnspelt program bytes (Text cause) = IsRefusedProgram program cause
+IsUnspelt program bytes (Certificate (form.Form fault)) = IsRefusedCertificate program bytes (form.Form fault)
+IsUnspelt program bytes NoMemory = Unit {0}
+IsUnspelt program bytes _ = ⊥
 
 -- the rows of a certificate are a template over a program's variables, with few enough unknowns
 pub record FitsProgram (names : List (List ℕ)) (body : Statements) (cert : Cert) : Type 0 where
@@ -177,14 +207,20 @@ IsUnanswered question (Spent number) = QuestionEnds question (status.Spent numbe
 IsUnanswered question NoMemory = Unit {0}
 
 -- what an answer to the check of loaded texts says of them
-abbrev pub IsAnswerToCheck : List ℕ → List ℕ → Status → Type 0
-IsAnswerToCheck text bytes status.Done = CheckEnd text bytes status.Done
-IsAnswerToCheck text bytes (status.Certificate cause) = CheckEnd text bytes (status.Certificate cause)
-IsAnswerToCheck text bytes (status.Text cause) = CheckEnd text bytes (status.Text cause)
-IsAnswerToCheck text bytes (status.Exceeded excess) = CheckEnd text bytes (status.Exceeded excess)
-IsAnswerToCheck text bytes status.Memory = Unit {0}
-IsAnswerToCheck text bytes status.Write = CheckEnd text bytes status.Done
-IsAnswerToCheck text bytes _ = ⊥
+abbrev pub IsAnswerToCheck : Program → List ℕ → Status → Type 0
+IsAnswerToCheck program bytes status.Done = CheckEnd program bytes status.Done
+IsAnswerToCheck program bytes (status.Certificate cause) = CheckEnd program bytes (status.Certificate cause)
+IsAnswerToCheck program bytes (status.Text cause) = CheckEnd program bytes (status.Text cause)
+IsAnswerToCheck program bytes (status.Exceeded excess) = CheckEnd program bytes (status.Exceeded excess)
+IsAnswerToCheck program bytes status.Memory = Unit {0}
+IsAnswerToCheck program bytes status.Write = CheckEnd program bytes status.Done
+IsAnswerToCheck program bytes _ = ⊥
+
+-- the functions of a text aren't listed, by this cause; want of memory needs none
+abbrev pub AreUnlisted : List ℕ → Refusal → Type 0
+AreUnlisted text (Text cause) = AreNoFunctions text cause
+AreUnlisted text NoMemory = Unit {0}
+AreUnlisted text _ = ⊥
 
 -- what an answer to the bytes of a certificate that is upgraded says of them
 abbrev pub IsAnswerToUpgrade : List ℕ → Status → Type 0

@@ -12,7 +12,7 @@ use Rattle.top_texts.specs.ClaimTexts.{AreNoClaims, IsClaimedSystem}
 use Rattle.top_texts.specs.EquationTexts.{IsEquationSystem, IsNoEquations}
 use Rattle.top_texts.specs.Meanings.{Meanings}
 use Rattle.top_texts.specs.Rounds.{EndsWithin, RunsOut}
-use Rattle.top_texts.specs.Texts.{IsRefused, IsSolvedSystem}
+use Rattle.top_texts.specs.Texts.{IsRefused, IsSolvedSystem, Program}
 use Rattle.top_texts.specs.TransitionTexts.{AreNoTransitions, IsTransitionSystem}
 use Rattle.top_status.specs.declared.status.Excess.{Excess}
 use Rattle.top_status.specs.declared.status.Excess.TheVariants.{Wide, Large}
@@ -52,10 +52,10 @@ IsOnlyWide is_wide (Large cells) = ⊥
 -- ---- the questions
 
 -- the analysis of a program over the rows of a domain, for its report or for its certificate
-abbrev pub analysis_question : Meanings → Purpose → (text : List ℕ) → Domain (List ℕ) → Policy → ℕ → Question
-analysis_question m purpose text rows policy limit = record {
-  is_refused = λ cause. IsRefused text rows cause;
-  means = λ system. IsSolvedSystem text rows system;
+abbrev pub analysis_question : Meanings → Purpose → Program → Domain (List ℕ) → Policy → ℕ → Question
+analysis_question m purpose program rows policy limit = record {
+  is_refused = λ cause. IsRefused program rows cause;
+  means = λ system. IsSolvedSystem program rows system;
   exceeds = λ system excess. m.exceeds purpose system policy limit excess;
   policy = policy;
   limit = limit;
@@ -72,10 +72,10 @@ bench_question m seed loops = record {
 }
 
 -- what the least bounds of a program over the rows of a domain say of claims
-abbrev pub claims_question : Meanings → (text : List ℕ) → Domain (List ℕ) → (given : List ℕ) → Policy → ℕ → Question
-claims_question m text rows given policy limit = record {
-  is_refused = λ cause. AreNoClaims text rows given cause;
-  means = λ system. IsClaimedSystem text rows given system;
+abbrev pub claims_question : Meanings → Program → Domain (List ℕ) → (given : List ℕ) → Policy → ℕ → Question
+claims_question m program rows given policy limit = record {
+  is_refused = λ cause. AreNoClaims program rows given cause;
+  means = λ system. IsClaimedSystem program rows given system;
   exceeds = λ system excess.
       m.exceeds Report system policy limit excess ⊎ IsOnlyWide (λ spot. m.too_wide_for given system policy limit spot) excess;
   policy = policy;
@@ -83,12 +83,12 @@ claims_question m text rows given policy limit = record {
 }
 
 -- what the least bounds of a program over the rows of a domain say of its checks
-abbrev pub checks_question : Meanings → (text : List ℕ) → Domain (List ℕ) → Policy → ℕ → Question
-checks_question m text rows policy limit = record {
-  is_refused = λ cause. IsRefused text rows cause;
-  means = λ system. IsSolvedSystem text rows system;
+abbrev pub checks_question : Meanings → Program → Domain (List ℕ) → Policy → ℕ → Question
+checks_question m program rows policy limit = record {
+  is_refused = λ cause. IsRefused program rows cause;
+  means = λ system. IsSolvedSystem program rows system;
   exceeds = λ system excess.
-      m.exceeds Report system policy limit excess ⊎ IsOnlyWide (λ spot. m.too_wide_at text system policy limit spot) excess;
+      m.exceeds Report system policy limit excess ⊎ IsOnlyWide (λ spot. m.too_wide_at program system policy limit spot) excess;
   policy = policy;
   limit = limit;
 }

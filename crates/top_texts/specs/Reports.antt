@@ -20,6 +20,7 @@ use Rattle.top_texts.specs.Generated.{IsGenerated}
 pub use Rattle.top_texts.specs.LeastReports.{IsLeastReport, IsReportOf}
 pub use Rattle.top_texts.specs.MadeCertificates.{IsCertificateOf}
 use Rattle.top_texts.specs.Rounds.{HasRounds}
+use Rattle.top_texts.specs.Texts.{Program}
 use Rattle.ask_words.specs.declared.request.Purpose.{Purpose}
 use Rattle.ask_words.specs.declared.request.Purpose.TheVariants.{Report, Certificate}
 
@@ -35,16 +36,16 @@ pub record IsSummaryOf (seed loops : ℕ) (bytes : List ℕ) : Type 0 where
   pub least : Least (equations_of_program 3 (generated_body seed loops) (intervals_of 3)) vector
   pub summary : bytes ≡ summary_of seed loops (length (generated_text seed loops)) system vector rounds
 
--- they are that of a certificate's bounds, where it is valid for the text of a program
-pub record IsReportBy (text certificate : List ℕ) (format : Format) (bytes : List ℕ) : Type 0 where
+-- they are that of a certificate's bounds, where it is valid for a program
+pub record IsReportBy (program : Program) (certificate : List ℕ) (format : Format) (bytes : List ℕ) : Type 0 where
   pub names : List (List ℕ)
   pub body : Statements
   pub cert : Cert
-  pub valid : IsValidFor text certificate names body cert
+  pub valid : IsValidFor program certificate names body cert
   pub narrow : NoneIsWide (system_with names body cert) (theirs cert)
-  pub least : IsLeastReport names body cert.rows (bounds_vector (system_with names body cert) cert.bounds) Accepted format bytes
+  pub least : IsLeastReport program names body cert.rows (bounds_vector (system_with names body cert) cert.bounds) Accepted format bytes
 
 -- what is put of an analysis; a certificate has one format
-abbrev pub IsPutOf : Purpose → List ℕ → Domain (List ℕ) → Policy → ℕ → Format → List ℕ → Type 0
-IsPutOf Report text rows policy limit format bytes = IsReportOf text rows policy limit format bytes
-IsPutOf Certificate text rows policy limit format bytes = IsCertificateOf text rows policy limit bytes
+abbrev pub IsPutOf : Purpose → Program → Domain (List ℕ) → Policy → ℕ → Format → List ℕ → Type 0
+IsPutOf Report program rows policy limit format bytes = IsReportOf program rows policy limit format bytes
+IsPutOf Certificate program rows policy limit format bytes = IsCertificateOf program rows policy limit bytes

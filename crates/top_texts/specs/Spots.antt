@@ -29,7 +29,7 @@ use Rattle.top_status.specs.declared.status.Excess.TheVariants as excess
 use Rattle.top_texts.specs.ClaimTexts.{AreClaimsOf}
 use Rattle.top_texts.specs.Policies.{rule_of}
 use Rattle.top_texts.specs.Rounds.{HasRounds}
-use Rattle.top_texts.specs.Texts.{IsAnalysed}
+use Rattle.top_texts.specs.Texts.{IsAnalysed, Program}
 
 -- the spot is that of a wide sum of the check of the certificate that the rounds make
 pub record IsCertifySpot (system : System) (policy : Policy) (limit : ℕ) (spot : Spot) : Type 0 where
@@ -77,14 +77,14 @@ pub record IsWideOn (system : Equations) (vector : Vector) (checks : List CheckC
   pub site : spot.site ≡ AtCheck check edge case part
   pub wide : IsChecksFault system vector checks (WideOn check edge case part spot.wide)
 
--- the improvements end within the limit, and the spot is that of a wide operation for the checks of a text's program at the vector where
+-- the improvements end within the limit, and the spot is that of a wide operation for the checks of a program at the vector where
 -- they end
-pub record IsCheckedSpot (text : List ℕ) (system : System) (policy : Policy) (limit : ℕ) (spot : Spot) : Type 0 where
+pub record IsCheckedSpot (program : Program) (system : System) (policy : Policy) (limit : ℕ) (spot : Spot) : Type 0 where
   pub rounds : ℕ
   pub within : rounds ≤ limit
   pub vector : Vector
   pub has_rounds : HasRounds system policy rounds vector
   pub names : List (List ℕ)
   pub body : Statements
-  pub analysed : IsAnalysed text names body
+  pub analysed : IsAnalysed program names body
   pub wide : IsWideOn (equations_of system) vector (checks_of_program body) spot

@@ -1,21 +1,42 @@
 //! The summary of a generated program.
 
-ghost use Rattle.std.specs.Prelude.{◌≤◌, ◌<◌, IfOk, IfErr};
+ghost use Rattle.std.specs.Prelude.{◌≡◌, ◌≤◌, ◌<◌, IfOk, IfErr, Ok, length};
+ghost use Rattle.base_limits.specs.declared.limits.TheConstants.{MOST_TEXT_BYTES};
 ghost use Rattle.top_texts.specs.Exact.{exact};
+ghost use Rattle.top_texts.specs.Generated.{ReadsAs};
 ghost use Rattle.top_texts.specs.Outcomes.{IsUnanswered};
 ghost use Rattle.top_texts.specs.Questions.{bench_question};
 ghost use Rattle.top_texts.specs.Reports.{IsSummaryOf};
 
 use crate::analyse::rounds::solve;
-use crate::analyse::system::system_on;
+use crate::analyse::system::program_system;
 use crate::refusal::Refusal;
 use ask_words::{Domain, Policy};
 use base_watch::Watch;
+use lang_parser::parse;
+use lang_tokens::lex;
+use lang_tree::Program;
 use out_workload::{generate, generated_texts_read, summary};
 use std::alloc::Global;
 
 // How many improvements are made at most.
 const MOST_IMPROVEMENTS: u32 = 1000;
+
+// The program of the language that a generated text is. Each of them is one, so that it has no other fault than want of memory.
+fn generated_program(alloc: Global, text: &[u8]) -> Result<Program, Refusal>
+    requires { length text.now ≤ MOST_TEXT_BYTES }
+    ensures ok { IfOk result (λ program. ReadsAs text.now (Ok (program.names, program.body))) }
+    ensures err { IfErr result (λ refusal. refusal ≡ Refusal.NoMemory) }
+{
+    let tokens = match lex(alloc, text) {
+        Ok(tokens) => tokens,
+        Err(_) => return Err(Refusal::NoMemory),
+    };
+    match parse(alloc, &tokens, text) {
+        Ok(program) => Ok(program),
+        Err(_) => Err(Refusal::NoMemory),
+    }
+}
 
 /// The whole summary of the program with so many loops that is drawn from a seed (docs/FORMATS.md, "The generator and the summary").
 ///
@@ -36,7 +57,8 @@ pub fn bench_text<W: Watch>(
 {
     generated_texts_read();
     let text = generate(alloc, seed, loops)?;
-    let system = system_on(alloc, &text, Domain::Intervals)?;
+    let program = generated_program(alloc, &text)?;
+    let system = program_system(alloc, Domain::Intervals, &program)?;
     let solved = solve(alloc, &system, Policy::Best, MOST_IMPROVEMENTS, watch)?;
     Ok(summary(
         alloc,

@@ -7,6 +7,7 @@ mod bench;
 mod check;
 mod equations;
 mod form;
+mod functions;
 mod points;
 mod program;
 mod prove;
@@ -18,6 +19,7 @@ mod verify;
 // One call for each command that is asked of texts alone.
 pub use bench::bench_text;
 pub use equations::equations_text;
+pub use functions::functions_text;
 pub use points::points_text;
 pub use prove::prove_text;
 pub use transitions::transitions_text;

@@ -1,26 +1,28 @@
-//! The points of a text's program.
+//! The points of a program.
 
 ghost use Rattle.std.specs.Prelude.{◌≤◌, IfOk, IfErr, length};
+ghost use Rattle.ask_words.specs.Request.{source_text};
 ghost use Rattle.base_limits.specs.declared.limits.TheConstants.{MOST_TEXT_BYTES};
 ghost use Rattle.top_texts.specs.Outcomes.{IsUnread};
 ghost use Rattle.top_texts.specs.LeastReports.{ArePointsOf};
 
 use crate::program::{flow_of, program_of};
 use crate::refusal::Refusal;
+use ask_words::Source;
 use out_report::point_heads;
 use std::alloc::Global;
 
-/// The heads of the points of a text's program, each as its report has it (docs/FORMATS.md, "The points of a program").
+/// The heads of a program's points, each as its report has it (docs/FORMATS.md, "The points of a program").
 ///
 /// # Errors
 ///
 /// The first cause that stands: a fault of the text, or points and edges beyond the limits; or want of memory.
-pub fn points_text(alloc: Global, text: &[u8]) -> Result<Vec<u8>, Refusal>
-    requires { length text.now ≤ MOST_TEXT_BYTES }
-    ensures ok { IfOk result (λ bytes. ArePointsOf text.now bytes.items) }
-    ensures err { IfErr result (λ refusal. IsUnread text.now refusal) }
+pub fn points_text(alloc: Global, program: Source<&[u8]>) -> Result<Vec<u8>, Refusal>
+    requires { length program.text.now ≤ MOST_TEXT_BYTES }
+    ensures ok { IfOk result (λ bytes. ArePointsOf (source_text program.entry) bytes.items) }
+    ensures err { IfErr result (λ refusal. IsUnread (source_text program.entry) refusal) }
 {
-    let program = program_of(alloc, text)?;
-    let flow = flow_of(alloc, &program)?;
+    let core = program_of(alloc, program)?;
+    let flow = flow_of(alloc, &core)?;
     Ok(point_heads(alloc, &flow)?)
 }

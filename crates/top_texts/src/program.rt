@@ -1,27 +1,29 @@
-//! From the text of a program to its points and edges, or the cause for which it is refused.
+//! From a program to its core, and to its points and edges, or the cause for which it is refused.
 
-ghost use Rattle.std.specs.Prelude.{◌≡◌, ◌≤◌, ◌⊎◌, ℕ, List, IfOk, IfErr, Ok, Err, None, Some, length};
+ghost use Rattle.std.specs.Prelude.{◌≡◌, ◌≤◌, ◌⊎◌, IfOk, IfErr, Err, None, Some, length};
 ghost use Rattle.base_limits.specs.declared.limits.TheConstants.{MOST_TEXT_BYTES};
 ghost use Rattle.lang_tokens.specs.Faults.{HasFault};
-ghost use Rattle.lang_meaning.specs.Meaning.{Answer};
 ghost use Rattle.lang_tree.specs.Tree.{Statements};
 ghost use Rattle.flow_edges.specs.Edges.{edges_of_program};
 ghost use Rattle.flow_edges.specs.Faults.{fault_of_program};
 ghost use Rattle.flow_edges.specs.Points.{points_of_program};
-ghost use Rattle.top_texts.specs.Outcomes.{IsUnread};
-ghost use Rattle.top_texts.specs.Texts.{Reading};
+ghost use Rattle.source_file.specs.Meaning.{Answer};
+ghost use Rattle.ask_words.specs.Request.{source_text};
+ghost use Rattle.top_texts.specs.Outcomes.{HasNoFlow, IsUnread};
+ghost use Rattle.top_texts.specs.Texts.{HasCore, Program as ProgramText, Reading};
 
 use crate::refusal::Refusal;
+use ask_words::Source;
 use flow_edges::{Flow, FlowFault, flow};
-use lang_parser::{ParseFault, parse};
 use lang_tokens::{LexFault, lex};
 use lang_tree::Program;
+use source_file::{SourceFault, read};
 use std::alloc::Global;
 use top_status::TextCause;
 
-// The refusal of a text that has this fault instead of tokens.
+// The refusal of a program whose text has this fault instead of tokens.
 fn lex_refusal(fault: LexFault) -> Refusal
-    ensures { (text : List ℕ) → HasFault text fault ⊎ (fault ≡ LexFault.NoMemory) → IsUnread text result }
+    ensures { (program : ProgramText) → HasFault program.text fault ⊎ (fault ≡ LexFault.NoMemory) → IsUnread program result }
 {
     match fault {
         LexFault::NoMemory => Refusal::NoMemory,
@@ -29,21 +31,20 @@ fn lex_refusal(fault: LexFault) -> Refusal
     }
 }
 
-// The refusal of a text whose tokens have this fault.
-fn parse_refusal(fault: ParseFault) -> Refusal
-    ensures { (text : List ℕ) (answer : Answer) → Reading text answer
-        → ((fault ≡ ParseFault.NoMemory → ⊥) → answer ≡ Err fault) → IsUnread text result }
+// The refusal of a program that means this fault.
+fn source_refusal(fault: SourceFault) -> Refusal
+    ensures { (program : ProgramText) (answer : Answer) → Reading program answer
+        → ((fault ≡ SourceFault.NoMemory → ⊥) → answer ≡ Err fault) → IsUnread program result }
 {
     match fault {
-        ParseFault::NoMemory => Refusal::NoMemory,
-        _ => Refusal::Text(TextCause::Parse(fault)),
+        SourceFault::NoMemory => Refusal::NoMemory,
+        _ => Refusal::Text(TextCause::Source(fault)),
     }
 }
 
-// The refusal of a text whose program has this fault.
+// The refusal of a core that has this fault.
 fn flow_refusal(fault: FlowFault) -> Refusal
-    ensures { (text : List ℕ) (names : List (List ℕ)) (body : Statements) → Reading text (Ok (names, body))
-        → (fault ≡ FlowFault.NoMemory) ⊎ (fault_of_program body ≡ Some fault) → IsUnread text result }
+    ensures { (body : Statements) → (fault ≡ FlowFault.NoMemory) ⊎ (fault_of_program body ≡ Some fault) → HasNoFlow body result }
 {
     match fault {
         FlowFault::NoMemory => Refusal::NoMemory,
@@ -51,30 +52,29 @@ fn flow_refusal(fault: FlowFault) -> Refusal
     }
 }
 
-// The program that the text reads as.
-pub(crate) fn program_of(alloc: Global, text: &[u8]) -> Result<Program, Refusal>
-    requires { length text.now ≤ MOST_TEXT_BYTES }
-    ensures ok { IfOk result (λ program. Reading text.now (Ok (program.names, program.body))) }
-    ensures err { IfErr result (λ refusal. IsUnread text.now refusal) }
+// The core of the function that a program asks about.
+pub(crate) fn program_of(alloc: Global, program: Source<&[u8]>) -> Result<Program, Refusal>
+    requires { length program.text.now ≤ MOST_TEXT_BYTES }
+    ensures ok { IfOk result (λ core. HasCore (source_text program.entry) core.names core.body) }
+    ensures err { IfErr result (λ refusal. IsUnread (source_text program.entry) refusal) }
 {
-    let tokens = match lex(alloc, text) {
+    let tokens = match lex(alloc, program.text) {
         Ok(tokens) => tokens,
         Err(fault) => return Err(lex_refusal(fault)),
     };
-    match parse(alloc, &tokens, text) {
-        Ok(program) => Ok(program),
-        Err(fault) => Err(parse_refusal(fault)),
+    match read(alloc, &tokens, program.text, program.function) {
+        Ok(core) => Ok(core),
+        Err(fault) => Err(source_refusal(fault)),
     }
 }
 
-// The points and edges of a program.
+// The points and edges of a core.
 pub(crate) fn flow_of(alloc: Global, program: &Program) -> Result<Flow, Refusal>
     ensures names { IfOk result (λ flow. flow.names ≡ program.now.names) }
     ensures points { IfOk result (λ flow. flow.points ≡ points_of_program program.now.body) }
     ensures edges { IfOk result (λ flow. flow.edges ≡ edges_of_program program.now.body) }
     ensures within { IfOk result (λ _. fault_of_program program.now.body ≡ None) }
-    ensures err { IfErr result (λ refusal. (text : List ℕ) → Reading text (Ok (program.now.names, program.now.body))
-        → IsUnread text refusal) }
+    ensures err { IfErr result (λ refusal. HasNoFlow program.now.body refusal) }
 {
     match flow(alloc, program) {
         Ok(flow) => Ok(flow),

@@ -14,10 +14,10 @@ ghost use Rattle.ask_words.specs.declared.request.Policy.{Policy as PolicyValue}
 ghost use Rattle.top_texts.specs.ClaimTexts.{AreClaimsOf, AreVerdictsOf};
 ghost use Rattle.top_texts.specs.Exact.{exact};
 ghost use Rattle.top_texts.specs.Short.{HasShortRows};
-ghost use Rattle.ask_words.specs.Request.{domain_text};
+ghost use Rattle.ask_words.specs.Request.{domain_text, source_text};
 ghost use Rattle.top_texts.specs.Outcomes.{AreUnjudged, IsUnanswered};
 ghost use Rattle.top_texts.specs.Questions.{claims_question};
-ghost use Rattle.top_texts.specs.Texts.{IsSolvedSystem};
+ghost use Rattle.top_texts.specs.Texts.{IsSolvedSystem, Program as ProgramText};
 
 use crate::analyse::rounds::solve;
 use crate::analyse::system::system_on;
@@ -26,7 +26,7 @@ use ask_claims::{
     Claim, ClaimFault, ClaimsFault, Verdict, open_states_break, proved_verdicts_hold, read_claims,
     verdicts,
 };
-use ask_words::{Domain, Format, Policy};
+use ask_words::{Domain, Format, Policy, Source};
 use base_watch::Watch;
 use flow_systems::{Bounds, Site, Spot, System};
 use std::alloc::Global;
@@ -35,10 +35,10 @@ use top_written::written_claims;
 
 // The refusal of a text of claims that has this fault over a system's names and points.
 fn claim_refusal(fault: ClaimFault) -> Refusal
-    ensures { (text : List ℕ) (rows : DomainValue (List ℕ)) (given : List ℕ) (policy : PolicyValue) (limit : ℕ) (system : SystemValue)
-        → IsSolvedSystem text rows system
+    ensures { (program : ProgramText) (rows : DomainValue (List ℕ)) (given : List ℕ) (policy : PolicyValue) (limit : ℕ)
+        (system : SystemValue) → IsSolvedSystem program rows system
         → (fault ≢ ClaimFault.NoMemory → FileMeans given system.flow.names system.flow.points (Err fault))
-        → IsUnanswered (claims_question exact text rows given policy limit) result }
+        → IsUnanswered (claims_question exact program rows given policy limit) result }
 {
     match fault {
         ClaimFault::NoMemory => Refusal::NoMemory,
@@ -50,8 +50,8 @@ fn claim_refusal(fault: ClaimFault) -> Refusal
 fn claims_of(alloc: Global, given: &[u8], system: &System) -> Result<Vec<Claim>, Refusal>
     requires { length given.now ≤ MOST_TEXT_BYTES }
     ensures ok { IfOk result (λ claims. AreClaimsOf given.now system.now.flow.names system.now.flow.points claims.items) }
-    ensures err { IfErr result (λ refusal. (text : List ℕ) (rows : DomainValue (List ℕ)) (policy : PolicyValue) (limit : ℕ)
-        → IsSolvedSystem text rows system.now → IsUnanswered (claims_question exact text rows given.now policy limit) refusal) }
+    ensures err { IfErr result (λ refusal. (program : ProgramText) (rows : DomainValue (List ℕ)) (policy : PolicyValue) (limit : ℕ)
+        → IsSolvedSystem program rows system.now → IsUnanswered (claims_question exact program rows given.now policy limit) refusal) }
 {
     match read_claims(alloc, given, &system.flow) {
         Ok(claims) => Ok(claims),
@@ -97,7 +97,7 @@ fn verdicts_at(
     }
 }
 
-/// The verdicts of the least bounds of the program of `text`, over these rows, on the claims that `given` states, in a format, with the
+/// The verdicts of the least bounds of a program, over these rows, on the claims that `given` states, in a format, with the
 /// number of improvements by the policy, of which there may be `limit` (docs/FORMATS.md, "Verdicts").
 ///
 /// # Errors
@@ -106,7 +106,7 @@ fn verdicts_at(
 /// a joint problem that is too large, or want of memory.
 pub fn prove_text<W: Watch>(
     alloc: Global,
-    text: &[u8],
+    program: Source<&[u8]>,
     rows: Domain<&[u8]>,
     given: &[u8],
     policy: Policy,
@@ -114,17 +114,18 @@ pub fn prove_text<W: Watch>(
     format: Format,
     watch: &mut W,
 ) -> Result<Vec<u8>, Refusal>
-    requires short { length text.now ≤ MOST_TEXT_BYTES }
+    requires short { length program.text.now ≤ MOST_TEXT_BYTES }
     requires short_rows { HasShortRows (domain_text rows) }
     requires short_claims { length given.now ≤ MOST_TEXT_BYTES }
     requires limit { limit ≤ MOST_IMPROVEMENTS }
-    ensures ok { IfOk result (λ bytes. AreVerdictsOf exact text.now (domain_text rows.entry) given.now policy limit format bytes.items) }
-    ensures err { IfErr result (λ refusal. IsUnanswered (claims_question exact text.now (domain_text rows.entry) given.now policy limit)
-        refusal) }
+    ensures ok { IfOk result (λ bytes. AreVerdictsOf exact (source_text program.entry) (domain_text rows.entry) given.now policy limit
+        format bytes.items) }
+    ensures err { IfErr result (λ refusal. IsUnanswered (claims_question exact (source_text program.entry) (domain_text rows.entry)
+        given.now policy limit) refusal) }
 {
     proved_verdicts_hold();
     open_states_break();
-    let system = system_on(alloc, text, rows)?;
+    let system = system_on(alloc, program, rows)?;
     let claims = claims_of(alloc, given, &system)?;
     let solved = solve(alloc, &system, policy, limit, watch)?;
     let list = verdicts_at(alloc, &system, &solved.bounds, &claims)?;

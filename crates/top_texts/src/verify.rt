@@ -8,7 +8,7 @@ ghost use Rattle.flow_systems.specs.Equations.{Equations, Vector};
 ghost use Rattle.flow_systems.specs.View.{equations_of, vector_at, IsVectorOf};
 ghost use Rattle.ask_checks.specs.Verdicts.{AreCheckVerdicts, IsChecksFault};
 ghost use Rattle.ask_verdicts.specs.Breaking.{is_case};
-ghost use Rattle.ask_words.specs.Request.{domain_text};
+ghost use Rattle.ask_words.specs.Request.{domain_text, source_text};
 ghost use Rattle.top_texts.specs.CheckTexts.{AreCheckVerdictsOf, HasChecks, ending_of};
 ghost use Rattle.top_texts.specs.Exact.{exact};
 ghost use Rattle.top_texts.specs.Outcomes.{AreUnverified, IsRefusedBy, IsUnanswered};
@@ -22,7 +22,7 @@ use crate::program::program_of;
 use crate::refusal::Refusal;
 use ask_checks::{ChecksFault, check_verdicts, has_open, open_states_break, proved_verdicts_hold};
 use ask_verdicts::Verdict;
-use ask_words::{Domain, Format, Policy};
+use ask_words::{Domain, Format, Policy, Source};
 use base_watch::Watch;
 use flow_edges::{CheckCases, Checks};
 use flow_systems::{Bounds, Site, Spot, System};
@@ -46,16 +46,21 @@ pub(crate) struct Checked {
     pub checks: Checks,
 }
 
-// The system of the program of a text and of these rows, with its checks.
-fn checked_on(alloc: Global, text: &[u8], rows: Domain<&[u8]>) -> Result<Checked, Refusal>
-    requires short { length text.now ≤ MOST_TEXT_BYTES }
+// The system of a program and of these rows, with its checks.
+fn checked_on(
+    alloc: Global,
+    program: Source<&[u8]>,
+    rows: Domain<&[u8]>,
+) -> Result<Checked, Refusal>
+    requires short { length program.text.now ≤ MOST_TEXT_BYTES }
     requires short_rows { HasShortRows (domain_text rows) }
-    ensures ok { IfOk result (λ checked. HasChecks text.now (domain_text rows.entry) checked.system checked.checks) }
-    ensures err { IfErr result (λ refusal. IsRefusedBy text.now (domain_text rows.entry) refusal) }
+    ensures ok { IfOk result (λ checked. HasChecks (source_text program.entry) (domain_text rows.entry) checked.system
+        checked.checks) }
+    ensures err { IfErr result (λ refusal. IsRefusedBy (source_text program.entry) (domain_text rows.entry) refusal) }
 {
-    let program = program_of(alloc, text)?;
-    let checks = flow_edges::checks(alloc, &program)?;
-    let system = program_system(alloc, rows, &program)?;
+    let core = program_of(alloc, program)?;
+    let checks = flow_edges::checks(alloc, &core)?;
+    let system = program_system(alloc, rows, &core)?;
     Ok(Checked { system, checks })
 }
 
@@ -104,7 +109,7 @@ fn verdicts_of(
     }
 }
 
-/// The verdicts of the least bounds of the program of `text`, in the file of this name, over these rows, on the program's checks, in a
+/// The verdicts of the least bounds of a program, in the file of this name, over these rows, on the program's checks, in a
 /// format, with the number of improvements by the policy, of which there may be `limit` (docs/FORMATS.md, "Checks"); and whether a
 /// check is open.
 ///
@@ -115,23 +120,24 @@ fn verdicts_of(
 pub fn verify_text<W: Watch>(
     alloc: Global,
     file: &[u8],
-    text: &[u8],
+    program: Source<&[u8]>,
     rows: Domain<&[u8]>,
     policy: Policy,
     limit: u32,
     format: Format,
     watch: &mut W,
 ) -> Result<Judged, Refusal>
-    requires short { length text.now ≤ MOST_TEXT_BYTES }
+    requires short { length program.text.now ≤ MOST_TEXT_BYTES }
     requires short_rows { HasShortRows (domain_text rows) }
     requires limit { limit ≤ MOST_IMPROVEMENTS }
-    ensures ok { IfOk result (λ judged. AreCheckVerdictsOf exact file.now text.now (domain_text rows.entry) policy limit format
-        (ending_of judged.is_open) judged.bytes.items) }
-    ensures err { IfErr result (λ refusal. IsUnanswered (checks_question exact text.now (domain_text rows.entry) policy limit) refusal) }
+    ensures ok { IfOk result (λ judged. AreCheckVerdictsOf exact file.now (source_text program.entry) (domain_text rows.entry) policy limit
+        format (ending_of judged.is_open) judged.bytes.items) }
+    ensures err { IfErr result (λ refusal. IsUnanswered (checks_question exact (source_text program.entry) (domain_text rows.entry) policy
+        limit) refusal) }
 {
     proved_verdicts_hold();
     open_states_break();
-    let checked = checked_on(alloc, text, rows)?;
+    let checked = checked_on(alloc, program, rows)?;
     let system = &checked.system;
     let checks = checked.checks.as_slice();
     let solved = solve(alloc, system, policy, limit, watch)?;
@@ -141,7 +147,7 @@ pub fn verify_text<W: Watch>(
     let bytes = written_checks(
         alloc,
         file,
-        text,
+        program.text,
         names,
         checks,
         &list,

@@ -1,5 +1,7 @@
 -- How many tokens a text has, and where they begin.
-use Rattle.std.proofs.Common.{◌≤◌, ◌<◌, ◌+◌, ◌-◌, ◌^◌, ◌++◌, ◌∷◌, ℕ, zero, suc, List, [], length, get_or, subst, arith}
+use Rattle.std.proofs.Common.{◌≡◌, ◌∙◌, ◌≤◌, ◌<◌, ◌+◌, ◌-◌, ◌^◌, ◌++◌, ◌∷◌, ℕ, zero, suc, List, [], length, get_or, take, drop, sym, subst}
+use Rattle.std.proofs.Common.{arith}
+use Rattle.std.proofs.lemmas.List.{get_or-drop, get_or-take, length-drop, length-take}
 use Rattle.base_limits.specs.declared.limits.TheConstants.{MOST_TEXT_BYTES}
 use Rattle.lang_tokens.specs.declared.token.Token.{Token}
 use Rattle.lang_tokens.specs.Reading.{end_at}
@@ -34,3 +36,21 @@ within_text text ts tokens = let P : List Token → Type 0 = λ l. (k : ℕ) (d 
 -- a place of a text is a number of the code, and so is the next one
 pub fits_code : (n m : ℕ) → n ≤ m → m ≤ MOST_TEXT_BYTES → n < 2 ^ 32 - 1
 fits_code n m h i = omega arith
+
+-- ---- some of the tokens
+-- they are few
+pub few_between : (text : List ℕ) (ts : List Token) → AreTokensOf text ts → (count first k d : ℕ) → k < length (take count (drop first ts))
+    → d ≤ k → d ≤ length text
+few_between text ts tokens count first k d h i =
+    omega (arith, few_tokens text ts tokens, length-take count (drop first ts), length-drop first ts, h, i)
+
+-- and each begins in the text or at its end
+pub within_between : (text : List ℕ) (ts : List Token) → AreTokensOf text ts → (count first k : ℕ) (d : Token)
+    → k < length (take count (drop first ts)) → (get_or (take count (drop first ts)) k d).at ≤ length text
+within_between text ts tokens count first k d h =
+    let P : Token → Type 0 = λ t. t.at ≤ length text in
+    let few : k < count = omega (arith, length-take count (drop first ts), h) in
+    let there : first + k < length ts = omega (arith, length-take count (drop first ts), length-drop first ts, h) in
+    let same : get_or (take count (drop first ts)) k d ≡ get_or ts (first + k) d =
+    get_or-take count (drop first ts) k d few ∙ get_or-drop first ts k d in
+    subst P (sym same) (within_text text ts tokens (first + k) d there)

@@ -2,10 +2,12 @@
 use Rattle.std.proofs.Common.{◌≡◌, ◌∙◌, ◌++◌, ◌∷◌, ℕ, List, [], length, take, refl, ap, append_assoc}
 use Rattle.std.proofs.lemmas.List.{append-nil}
 use Rattle.std.proofs.Math.Seq.{take-append_seam}
-use Rattle.lang_grammar.specs.Grammar.{Declarators, declares, declares_more, ForFirst, no_first, declared_first, updated_first}
-use Rattle.lang_grammar.specs.Grammar.{Core, empty, block, if_alone, if_else, repeat, repeat_after, repeat_for, jumps, demands, updates}
-use Rattle.lang_grammar.specs.Grammar.{Sub, labelled, plain, Items, no_items, label, declaration, item}
-use Rattle.acsl_anchors.specs.Anchors.{Scope, declared_one, closing, scope_declarators, scope_first, scope_core, scope_sub, scope_items}
+use Rattle.source_grammar.specs.Grammar.{Initialiser, bare, given, sized, declarator, MoreDeclarators, last_declarator}
+use Rattle.source_grammar.specs.Grammar.{next_declarator, Declarators, declares, ForFirst, declared_first, updated_first}
+use Rattle.source_grammar.specs.Grammar.{Core, empty, block, if_alone, if_else, repeat, repeat_after, repeat_for, jumps, returns, demands}
+use Rattle.source_grammar.specs.Grammar.{calls, updates, Sub, labelled, plain, Items, no_items, label, declaration, item}
+use Rattle.acsl_anchors.specs.Anchors.{Scope, closing, scope_by, scope_more_declarators, scope_declarators}
+use Rattle.acsl_anchors.specs.Anchors.{scope_first, scope_core, scope_sub, scope_items}
 use Rattle.acsl_anchors.specs.Machine.{kept}
 
 -- the numbers of the list come first in the other one
@@ -20,17 +22,27 @@ extends_once xs ys zs (ms, h) (ns, i) = (ms ++ ns, i ∙ ap (λ l. l ++ ns) h �
 none_more : (xs : List ℕ) → Extends xs xs
 none_more xs = ([], rw append-nil refl)
 
--- Declarations make more names known,
+-- A declaration makes more names known, or an array none,
+by_extends : (i : Initialiser) (s : Scope) → Extends s.known (scope_by i s).known
+by_extends bare s = (s.declared ∷ [], refl)
+by_extends (given a e) s = (s.declared ∷ [], refl)
+by_extends (sized a n b c) s = none_more s.known
+
+-- so do declarators behind the first,
+more_extend : (xs : MoreDeclarators) (s : Scope) → Extends s.known (scope_more_declarators xs s).known
+more_extend last_declarator s = none_more s.known
+more_extend (next_declarator a (declarator x b i) xs) s = extends_once s.known (scope_by i s).known
+    (scope_more_declarators xs (scope_by i s)).known (by_extends i s) (more_extend xs (scope_by i s))
+
+-- and all of them,
 declarators_extend : (xs : Declarators) (s : Scope) → Extends s.known (scope_declarators xs s).known
-declarators_extend (declares x a) s = (s.declared ∷ [], refl)
-declarators_extend (declares_more x a xs) s = extends_once s.known (declared_one s).known (scope_declarators xs (declared_one s)).known
-    (s.declared ∷ [], refl) (declarators_extend xs (declared_one s))
+declarators_extend (declares (declarator x b i) xs) s = extends_once s.known (scope_by i s).known
+    (scope_more_declarators xs (scope_by i s)).known (by_extends i s) (more_extend xs (scope_by i s))
 
 -- also those in the head of a `for`,
 first_extends : (f : ForFirst) (s : Scope) → Extends s.known (scope_first f s).known
-first_extends (no_first a) s = none_more s.known
 first_extends (declared_first a xs) s = declarators_extend xs s
-first_extends (updated_first u a) s = none_more s.known
+first_extends (updated_first us) s = none_more s.known
 
 mutual
   -- but behind a statement no more are known than before it.
@@ -41,9 +53,11 @@ mutual
   core_known (if_else a b e c first d second) s = sub_known second (scope_sub first s) ∙ sub_known first s
   core_known (repeat a b e c body) s = sub_known body s
   core_known (repeat_after a body b c e d i) s = sub_known body s
-  core_known (repeat_for a b f t l body) s = refl
+  core_known (repeat_for a b f c t d us i body) s = refl
   core_known (jumps j a b) s = refl
+  core_known (returns a t b) s = refl
   core_known (demands k a b e c d) s = refl
+  core_known (calls x a b es c d) s = refl
   core_known (updates u c) s = refl
 
   -- the same under a loop, an `if` or a label
@@ -55,7 +69,7 @@ mutual
 items_extend : (is : Items) (s : Scope) → Extends s.known (scope_items is s).known
 items_extend no_items s = none_more s.known
 items_extend (label x a b is) s = items_extend is s
-items_extend (declaration a xs is) s = extends_once s.known (scope_declarators xs s).known (scope_items is (scope_declarators xs s)).known
+items_extend (declaration a xs b is) s = extends_once s.known (scope_declarators xs s).known (scope_items is (scope_declarators xs s)).known
     (declarators_extend xs s) (items_extend is (scope_declarators xs s))
 items_extend (item c is) s = let (more, h) = items_extend is (scope_core c s) in (more, h ∙ ap (λ l. l ++ more) (core_known c s))
 

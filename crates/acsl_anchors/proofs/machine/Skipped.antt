@@ -1,13 +1,17 @@
 -- Tokens that the machine passes over.
 use Rattle.std.proofs.Common.{◌≡◌, ◌∙◌, ◌++◌, ◌∷◌, ℕ, List, [], refl, ap, append_assoc}
-use Rattle.lang_grammar.specs.Grammar.{negative, positive, negation, Kind, infix_sign, left_paren, right_paren, left_brace}
-use Rattle.lang_grammar.specs.Grammar.{comma, semicolon, Token, token, Expr, number, variable, free, grouped, prefixed, joined}
-use Rattle.lang_grammar.specs.Grammar.{spell_expr, Declarator, bare, given, Declarators, declares, declares_more, spell_declarator}
-use Rattle.lang_grammar.specs.Grammar.{spell_declarators}
-use Rattle.lang_grammar.specs.Grammar.{Update, set, step_after, step_before, spell_update, ForFirst, no_first, declared_first}
-use Rattle.lang_grammar.specs.Grammar.{updated_first, spell_first}
-use Rattle.lang_grammar.specs.Grammar.{ForTest, no_test, given_test, spell_test, ForLast, no_last, updated_last, spell_last}
-use Rattle.acsl_anchors.specs.Anchors.{Scope, declared_one, scope_declarators, scope_first}
+use Rattle.source_grammar.specs.Tokens.{negative, positive, negation, Kind, infix_sign, left_paren, right_paren, right_bracket, semicolon}
+use Rattle.source_grammar.specs.Tokens.{comma, colon, Token, token}
+use Rattle.source_grammar.specs.Grammar.{Expr, number, variable, element, call, free, grouped, prefixed, joined, chosen, Arguments}
+use Rattle.source_grammar.specs.Grammar.{no_arguments, arguments, MoreArguments, last_argument, next_argument, Optional, absent, present}
+use Rattle.source_grammar.specs.Grammar.{Index, no_index, index, place, Effect, assigns, steps, Update, update, step_before}
+use Rattle.source_grammar.specs.Grammar.{MoreUpdates, last_update, next_update, Updates, no_updates, some_updates, bare, given}
+use Rattle.source_grammar.specs.Grammar.{sized, Declarator, declarator, MoreDeclarators, last_declarator, next_declarator, Declarators}
+use Rattle.source_grammar.specs.Grammar.{declares, ForFirst, declared_first, updated_first, spell_expr, spell_arguments}
+use Rattle.source_grammar.specs.Grammar.{spell_more_arguments}
+use Rattle.source_grammar.specs.Grammar.{spell_optional, spell_index, spell_effect, spell_update, spell_more_updates, spell_updates}
+use Rattle.source_grammar.specs.Grammar.{spell_declarator, spell_more_declarators, spell_declarators, spell_first}
+use Rattle.acsl_anchors.specs.Anchors.{Scope, scope_by, scope_declarator, scope_more_declarators, scope_declarators, scope_first}
 use Rattle.acsl_anchors.specs.Parts.{part_of}
 use Rattle.acsl_anchors.specs.Machine.{State, state, step, run}
 use Rattle.acsl_anchors.specs.declared.anchor.Anchor.{Anchor}
@@ -15,11 +19,9 @@ use Rattle.acsl_anchors.specs.declared.anchor.What.TheVariants as what
 use Rattle.acsl_anchors.specs.declared.goal.Goal.{Goal}
 use Rattle.acsl_anchors.specs.declared.goal.Goal.TheVariants as goal
 
--- a token that neither ends a declarator or a statement nor opens a block
+-- a token that doesn't end a statement
 abbrev pub IsInner : Kind → Type 0
-IsInner comma = ⊥
 IsInner semicolon = ⊥
-IsInner left_brace = ⊥
 IsInner _ = Unit {0}
 
 -- each of the tokens is one
@@ -28,68 +30,80 @@ AreInner [] = Unit {0}
 AreInner (token k a ∷ ts) = IsInner k × AreInner ts
 
 -- tokens in a row
-inner_append : (xs ys : List Token) → AreInner xs → AreInner ys → AreInner (xs ++ ys)
+pub inner_append : (xs ys : List Token) → AreInner xs → AreInner ys → AreInner (xs ++ ys)
 inner_append [] ys h i = i
 inner_append (token k a ∷ xs) ys h i = (h.0, inner_append xs ys h.1 i)
 
--- All tokens of an expression are inner ones.
-pub inner_expr : (e : Expr) → AreInner (spell_expr e)
-inner_expr (number n a) = (tt, tt)
-inner_expr (variable x a) = (tt, tt)
-inner_expr (free a b c) = (tt, (tt, (tt, tt)))
-inner_expr (grouped a e b) = (tt, inner_append (spell_expr e) (token right_paren b ∷ []) (inner_expr e) (tt, tt))
-inner_expr (prefixed negative a e) = (tt, inner_expr e)
-inner_expr (prefixed positive a e) = (tt, inner_expr e)
-inner_expr (prefixed negation a e) = (tt, inner_expr e)
-inner_expr (joined e o a f) = inner_append (spell_expr e) (token (infix_sign o) a ∷ spell_expr f) (inner_expr e) (tt, inner_expr f)
+mutual
+  -- All tokens of an expression are inner ones.
+  pub inner_expr : (e : Expr) → AreInner (spell_expr e)
+  inner_expr (number n a) = (tt, tt)
+  inner_expr (variable x a) = (tt, tt)
+  inner_expr (element x a b e c) = (tt, (tt, inner_append (spell_expr e) (token right_bracket c ∷ []) (inner_expr e) (tt, tt)))
+  inner_expr (call x a b es c) = (tt, (tt, inner_append (spell_arguments es) (token right_paren c ∷ []) (inner_arguments es) (tt, tt)))
+  inner_expr (free a b c) = (tt, (tt, (tt, tt)))
+  inner_expr (grouped a e b) = (tt, inner_append (spell_expr e) (token right_paren b ∷ []) (inner_expr e) (tt, tt))
+  inner_expr (prefixed negative a e) = (tt, inner_expr e)
+  inner_expr (prefixed positive a e) = (tt, inner_expr e)
+  inner_expr (prefixed negation a e) = (tt, inner_expr e)
+  inner_expr (joined e o a f) = inner_append (spell_expr e) (token (infix_sign o) a ∷ spell_expr f) (inner_expr e) (tt, inner_expr f)
+  inner_expr (chosen c a e b f) =
+      inner_append (spell_expr c) _ (inner_expr c)
+      (tt, inner_append (spell_expr e) (token colon b ∷ spell_expr f) (inner_expr e) (tt, inner_expr f))
 
--- those of a declarator
-inner_declarator : (x : Declarator) → AreInner (spell_declarator x)
-inner_declarator (bare x a) = (tt, tt)
-inner_declarator (given x a b e) = (tt, (tt, inner_expr e))
+  -- so are those of arguments,
+  pub inner_arguments : (es : Arguments) → AreInner (spell_arguments es)
+  inner_arguments no_arguments = tt
+  inner_arguments (arguments e es) = inner_append (spell_expr e) (spell_more_arguments es) (inner_expr e) (inner_more_arguments es)
 
--- those of an assignment or a step
+  -- of those behind the first,
+  inner_more_arguments : (es : MoreArguments) → AreInner (spell_more_arguments es)
+  inner_more_arguments last_argument = tt
+  inner_more_arguments (next_argument a e es) =
+      (tt, inner_append (spell_expr e) (spell_more_arguments es) (inner_expr e) (inner_more_arguments es))
+
+-- of an expression that may be absent,
+pub inner_optional : (t : Optional) → AreInner (spell_optional t)
+inner_optional absent = tt
+inner_optional (present e) = inner_expr e
+
+-- of an index,
+pub inner_index : (i : Index) → AreInner (spell_index i)
+inner_index no_index = tt
+inner_index (index a e b) = (tt, inner_append (spell_expr e) (token right_bracket b ∷ []) (inner_expr e) (tt, tt))
+
+-- of what is done to a place,
+pub inner_effect : (f : Effect) → AreInner (spell_effect f)
+inner_effect (assigns g a e) = (tt, inner_expr e)
+inner_effect (steps g a) = (tt, tt)
+
+-- of a change,
 pub inner_update : (u : Update) → AreInner (spell_update u)
-inner_update (set x a g b e) = (tt, (tt, inner_expr e))
-inner_update (step_after x a g b) = (tt, (tt, tt))
-inner_update (step_before g a x b) = (tt, (tt, tt))
+inner_update (update (place x a i) f) = (tt, inner_append (spell_index i) (spell_effect f) (inner_index i) (inner_effect f))
+inner_update (step_before g a (place x b i)) = (tt, (tt, inner_index i))
+
+-- and of those behind the first.
+pub inner_more_updates : (us : MoreUpdates) → AreInner (spell_more_updates us)
+inner_more_updates last_update = tt
+inner_more_updates (next_update a u us) =
+    (tt, inner_append (spell_update u) (spell_more_updates us) (inner_update u) (inner_more_updates us))
 
 -- The goal stays at each such token, and nothing else changes.
 abbrev pub Stays : Goal → Type 0
 Stays g = (k : Kind) → IsInner k → (a : ℕ) (gs : List Goal) (s : Scope) (found : List Anchor)
     → step (g ∷ gs) (part_of k) a s found ≡ state (g ∷ gs) s found
 
--- The goals that pass over all but few tokens: the rest of a statement,
+-- The goals that pass over them: the rest of a statement,
 pub rest_stays : (k : Kind) → IsInner k → (a : ℕ) (gs : List Goal) (s : Scope) (found : List Anchor)
     → step (goal.Rest ∷ gs) (part_of k) a s found ≡ state (goal.Rest ∷ gs) s found
-rest_stays comma h a gs s found = absurd h
 rest_stays semicolon h a gs s found = absurd h
-rest_stays left_brace h a gs s found = absurd h
 rest_stays _ h a gs s found = refl
 
--- what follows a declared name,
-declared_stays : (k : Kind) → IsInner k → (a : ℕ) (gs : List Goal) (s : Scope) (found : List Anchor)
-    → step (goal.Declared ∷ gs) (part_of k) a s found ≡ state (goal.Declared ∷ gs) s found
-declared_stays comma h a gs s found = absurd h
-declared_stays semicolon h a gs s found = absurd h
-declared_stays left_brace h a gs s found = absurd h
-declared_stays _ h a gs s found = refl
-
--- the condition of a `for`,
+-- and the condition of a `for`.
 test_stays : (start : ℕ) (k : Kind) → IsInner k → (a : ℕ) (gs : List Goal) (s : Scope) (found : List Anchor)
     → step (goal.Test start ∷ gs) (part_of k) a s found ≡ state (goal.Test start ∷ gs) s found
-test_stays start comma h a gs s found = absurd h
 test_stays start semicolon h a gs s found = absurd h
-test_stays start left_brace h a gs s found = absurd h
 test_stays start _ h a gs s found = refl
-
--- and what stands before the brace of `main`.
-pub front_stays : (k : Kind) → IsInner k → (a : ℕ) (gs : List Goal) (s : Scope) (found : List Anchor)
-    → step (goal.Front ∷ gs) (part_of k) a s found ≡ state (goal.Front ∷ gs) s found
-front_stays comma h a gs s found = absurd h
-front_stays semicolon h a gs s found = absurd h
-front_stays left_brace h a gs s found = absurd h
-front_stays _ h a gs s found = refl
 
 -- Such a goal stays over all of them.
 pub passes : (g : Goal) → Stays g → (ts : List Token) → AreInner ts → (gs : List Goal) (s : Scope) (found : List Anchor) (w : List Token)
@@ -98,58 +112,162 @@ passes g stays [] h gs s found w = refl
 passes g stays (token k a ∷ ts) h gs s found w = ap (λ (st : State). run st (ts ++ w)) (stays k h.0 a gs s found)
     ∙ passes g stays ts h.1 gs s found w
 
--- An expression in parentheses closes what it opens.
-paren_expr : (e : Expr) (gs : List Goal) (s : Scope) (found : List Anchor) (w : List Token)
-    → run (state (goal.Paren ∷ gs) s found) (spell_expr e ++ w) ≡ run (state (goal.Paren ∷ gs) s found) w
-paren_expr (number m a) gs s found w = refl
-paren_expr (variable x a) gs s found w = refl
-paren_expr (free i j k) gs s found w = refl
-paren_expr (grouped a e b) gs s found w = rw append_assoc (paren_expr e (goal.Paren ∷ gs) s found (token right_paren b ∷ w))
-paren_expr (prefixed negative a e) gs s found w = paren_expr e gs s found w
-paren_expr (prefixed positive a e) gs s found w = paren_expr e gs s found w
-paren_expr (prefixed negation a e) gs s found w = paren_expr e gs s found w
-paren_expr (joined e o a f) gs s found w = rw append_assoc (paren_expr e gs s found _ ∙ paren_expr f gs s found w)
+-- ---- what parentheses hold
+mutual
+  -- An expression closes what it opens.
+  paren_expr : (e : Expr) (gs : List Goal) (s : Scope) (found : List Anchor) (w : List Token)
+      → run (state (goal.Paren ∷ gs) s found) (spell_expr e ++ w) ≡ run (state (goal.Paren ∷ gs) s found) w
+  paren_expr (number m a) gs s found w = refl
+  paren_expr (variable x a) gs s found w = refl
+  paren_expr (element x a b e c) gs s found w = rw append_assoc (paren_expr e gs s found (token right_bracket c ∷ w))
+  paren_expr (call x a b es c) gs s found w = rw append_assoc (paren_arguments es (goal.Paren ∷ gs) s found (token right_paren c ∷ w))
+  paren_expr (free i j k) gs s found w = refl
+  paren_expr (grouped a e b) gs s found w = rw append_assoc (paren_expr e (goal.Paren ∷ gs) s found (token right_paren b ∷ w))
+  paren_expr (prefixed negative a e) gs s found w = paren_expr e gs s found w
+  paren_expr (prefixed positive a e) gs s found w = paren_expr e gs s found w
+  paren_expr (prefixed negation a e) gs s found w = paren_expr e gs s found w
+  paren_expr (joined e o a f) gs s found w = rw append_assoc (paren_expr e gs s found _ ∙ paren_expr f gs s found w)
+  paren_expr (chosen c a e b f) gs s found w =
+      rw (append_assoc (spell_expr c) _ w, append_assoc (spell_expr e) _ w)
+      (paren_expr c gs s found _ ∙ (paren_expr e gs s found _ ∙ paren_expr f gs s found w))
+
+  -- So do arguments.
+  paren_arguments : (es : Arguments) (gs : List Goal) (s : Scope) (found : List Anchor) (w : List Token)
+      → run (state (goal.Paren ∷ gs) s found) (spell_arguments es ++ w) ≡ run (state (goal.Paren ∷ gs) s found) w
+  paren_arguments no_arguments gs s found w = refl
+  paren_arguments (arguments e es) gs s found w =
+      rw append_assoc (paren_expr e gs s found _ ∙ paren_more_arguments es gs s found w)
+
+  -- So do those behind the first.
+  paren_more_arguments : (es : MoreArguments) (gs : List Goal) (s : Scope) (found : List Anchor) (w : List Token)
+      → run (state (goal.Paren ∷ gs) s found) (spell_more_arguments es ++ w) ≡ run (state (goal.Paren ∷ gs) s found) w
+  paren_more_arguments last_argument gs s found w = refl
+  paren_more_arguments (next_argument a e es) gs s found w =
+      rw append_assoc (paren_expr e gs s found _ ∙ paren_more_arguments es gs s found w)
+
+-- So does an index,
+paren_index : (i : Index) (gs : List Goal) (s : Scope) (found : List Anchor) (w : List Token)
+    → run (state (goal.Paren ∷ gs) s found) (spell_index i ++ w) ≡ run (state (goal.Paren ∷ gs) s found) w
+paren_index no_index gs s found w = refl
+paren_index (index a e b) gs s found w = rw append_assoc (paren_expr e gs s found (token right_bracket b ∷ w))
+
+-- what is done to a place,
+paren_effect : (f : Effect) (gs : List Goal) (s : Scope) (found : List Anchor) (w : List Token)
+    → run (state (goal.Paren ∷ gs) s found) (spell_effect f ++ w) ≡ run (state (goal.Paren ∷ gs) s found) w
+paren_effect (assigns g a e) gs s found w = paren_expr e gs s found w
+paren_effect (steps g a) gs s found w = refl
+
+-- a change,
+paren_update : (u : Update) (gs : List Goal) (s : Scope) (found : List Anchor) (w : List Token)
+    → run (state (goal.Paren ∷ gs) s found) (spell_update u ++ w) ≡ run (state (goal.Paren ∷ gs) s found) w
+paren_update (update (place x a i) f) gs s found w = rw append_assoc (paren_index i gs s found _ ∙ paren_effect f gs s found w)
+paren_update (step_before g a (place x b i)) gs s found w = paren_index i gs s found w
+
+-- those behind it,
+paren_more_updates : (us : MoreUpdates) (gs : List Goal) (s : Scope) (found : List Anchor) (w : List Token)
+    → run (state (goal.Paren ∷ gs) s found) (spell_more_updates us ++ w) ≡ run (state (goal.Paren ∷ gs) s found) w
+paren_more_updates last_update gs s found w = refl
+paren_more_updates (next_update a u us) gs s found w =
+    rw append_assoc (paren_update u gs s found _ ∙ paren_more_updates us gs s found w)
+
+-- and changes in order.
+paren_updates : (us : Updates) (gs : List Goal) (s : Scope) (found : List Anchor) (w : List Token)
+    → run (state (goal.Paren ∷ gs) s found) (spell_updates us ++ w) ≡ run (state (goal.Paren ∷ gs) s found) w
+paren_updates no_updates gs s found w = refl
+paren_updates (some_updates u us) gs s found w =
+    rw append_assoc (paren_update u gs s found _ ∙ paren_more_updates us gs s found w)
 
 -- A condition is passed over.
 pub condition_run : (b : ℕ) (e : Expr) (c : ℕ) (gs : List Goal) (s : Scope) (found : List Anchor) (w : List Token)
     → run (state (goal.Condition ∷ gs) s found) (token left_paren b ∷ (spell_expr e ++ token right_paren c ∷ w)) ≡ run (state gs s found) w
 condition_run b e c gs s found w = paren_expr e gs s found (token right_paren c ∷ w)
 
+-- ---- declarations
+-- The value of a declared name is passed over.
+declared_expr : (e : Expr) (gs : List Goal) (s : Scope) (found : List Anchor) (w : List Token)
+    → run (state (goal.Declared ∷ gs) s found) (spell_expr e ++ w) ≡ run (state (goal.Declared ∷ gs) s found) w
+declared_expr (number m a) gs s found w = refl
+declared_expr (variable x a) gs s found w = refl
+declared_expr (element x a b e c) gs s found w = rw append_assoc (declared_expr e gs s found (token right_bracket c ∷ w))
+declared_expr (call x a b es c) gs s found w = rw append_assoc (paren_arguments es (goal.Declared ∷ gs) s found (token right_paren c ∷ w))
+declared_expr (free i j k) gs s found w = refl
+declared_expr (grouped a e b) gs s found w = rw append_assoc (paren_expr e (goal.Declared ∷ gs) s found (token right_paren b ∷ w))
+declared_expr (prefixed negative a e) gs s found w = declared_expr e gs s found w
+declared_expr (prefixed positive a e) gs s found w = declared_expr e gs s found w
+declared_expr (prefixed negation a e) gs s found w = declared_expr e gs s found w
+declared_expr (joined e o a f) gs s found w = rw append_assoc (declared_expr e gs s found _ ∙ declared_expr f gs s found w)
+declared_expr (chosen c a e b f) gs s found w =
+    rw (append_assoc (spell_expr c) _ w, append_assoc (spell_expr e) _ w)
+    (declared_expr c gs s found _ ∙ (declared_expr e gs s found _ ∙ declared_expr f gs s found w))
+
+-- what stands behind a declarator that is not the last one
+abbrev Follows : List Token → Type 0
+Follows [] = ⊥
+Follows (token comma a ∷ ts) = Unit {0}
+Follows (token semicolon a ∷ ts) = Unit {0}
+Follows (token k a ∷ ts) = ⊥
+
+-- A declarator is declared.
+declarator_run : (x : Declarator) (gs : List Goal) (s : Scope) (found : List Anchor) (w : List Token) → Follows w
+    → run (state (goal.Declaring ∷ gs) s found) (spell_declarator x ++ w)
+    ≡ run (state (goal.Declared ∷ gs) (scope_declarator x s) found) w
+declarator_run (declarator x a bare) gs s found [] h = absurd h
+declarator_run (declarator x a bare) gs s found (token comma b ∷ ts) h = refl
+declarator_run (declarator x a bare) gs s found (token semicolon b ∷ ts) h = refl
+declarator_run (declarator x a bare) gs s found (token _ b ∷ ts) h = absurd h
+declarator_run (declarator x a (given b e)) gs s found w h = declared_expr e gs (scope_by (given b e) s) found w
+declarator_run (declarator x a (sized b n c d)) gs s found w h = refl
+
+-- So are those behind the first, up to the end of the declaration.
+more_declarators_run : (xs : MoreDeclarators) (c : ℕ) (gs : List Goal) (s : Scope) (found : List Anchor) (w : List Token)
+    → run (state (goal.Declared ∷ gs) s found) (spell_more_declarators xs ++ token semicolon c ∷ w)
+    ≡ run (state gs (scope_more_declarators xs s) found) w
+more_declarators_run last_declarator c gs s found w = refl
+more_declarators_run (next_declarator a x xs) c gs s found w =
+    rw append_assoc (declarator_run x gs s found _ (follows xs) ∙ more_declarators_run xs c gs (scope_declarator x s) found w) where
+      follows : (ys : MoreDeclarators) → Follows (spell_more_declarators ys ++ token semicolon c ∷ w)
+      follows last_declarator = tt
+      follows (next_declarator b y ys) = tt
+
 -- The declarators behind `int` are declared.
-pub declarators_run : (xs : Declarators) (gs : List Goal) (s : Scope) (found : List Anchor) (w : List Token)
-    → run (state (goal.Declared ∷ gs) (declared_one s) found) (spell_declarators xs ++ w) ≡ run (state gs (scope_declarators xs s) found) w
-declarators_run (declares x a) gs s found w = rw append_assoc (passes goal.Declared declared_stays (spell_declarator x) (inner_declarator x)
-    gs (declared_one s) found (token semicolon a ∷ w))
-declarators_run (declares_more x a xs) gs s found w = rw append_assoc (passes goal.Declared declared_stays (spell_declarator x)
-    (inner_declarator x) gs (declared_one s) found (token comma a ∷ (spell_declarators xs ++ w))
-    ∙ declarators_run xs gs (declared_one s) found w)
+pub declarators_run : (xs : Declarators) (c : ℕ) (gs : List Goal) (s : Scope) (found : List Anchor) (w : List Token)
+    → run (state (goal.Declaring ∷ gs) s found) (spell_declarators xs ++ token semicolon c ∷ w)
+    ≡ run (state gs (scope_declarators xs s) found) w
+declarators_run (declares x xs) c gs s found w =
+    rw append_assoc (declarator_run x gs s found _ (follows xs) ∙ more_declarators_run xs c gs (scope_declarator x s) found w) where
+      follows : (ys : MoreDeclarators) → Follows (spell_more_declarators ys ++ token semicolon c ∷ w)
+      follows last_declarator = tt
+      follows (next_declarator b y ys) = tt
 
 -- ---- the head of a `for`
 -- What the first part declares is known at the condition.
-pub first_run : (x : ForFirst) (start : ℕ) (gs : List Goal) (s : Scope) (found : List Anchor) (w : List Token)
-    → run (state (goal.First start ∷ gs) s found) (spell_first x ++ w) ≡ run (state (goal.Test start ∷ gs) (scope_first x s) found) w
-first_run (no_first a) start gs s found w = refl
-first_run (declared_first a xs) start gs s found w = declarators_run xs (goal.Test start ∷ gs) s found w
-first_run (updated_first (set x a g b e) c) start gs s found w = rw append_assoc
-    (passes goal.Rest rest_stays (spell_expr e) (inner_expr e) (goal.Test start ∷ gs) s found (token semicolon c ∷ w))
-first_run (updated_first (step_after x a g b) c) start gs s found w = refl
-first_run (updated_first (step_before g a x b) c) start gs s found w = refl
+pub first_run : (x : ForFirst) (start c : ℕ) (gs : List Goal) (s : Scope) (found : List Anchor) (w : List Token)
+    → run (state (goal.First start ∷ gs) s found) (spell_first x ++ token semicolon c ∷ w)
+    ≡ run (state (goal.Test start ∷ gs) (scope_first x s) found) w
+first_run (declared_first a xs) start c gs s found w = declarators_run xs c (goal.Test start ∷ gs) s found w
+first_run (updated_first no_updates) start c gs s found w = refl
+first_run (updated_first (some_updates (update (place x a i) f) us)) start c gs s found w =
+    passes goal.Rest rest_stays ((spell_index i ++ spell_effect f) ++ spell_more_updates us)
+    (inner_append (spell_index i ++ spell_effect f) (spell_more_updates us)
+    (inner_append (spell_index i) (spell_effect f) (inner_index i) (inner_effect f)) (inner_more_updates us))
+    (goal.Test start ∷ gs) s found (token semicolon c ∷ w)
+first_run (updated_first (some_updates (step_before g a (place x b i)) us)) start c gs s found w =
+    passes goal.Rest rest_stays (spell_index i ++ spell_more_updates us)
+    (inner_append (spell_index i) (spell_more_updates us) (inner_index i) (inner_more_updates us))
+    (goal.Test start ∷ gs) s found (token semicolon c ∷ w)
 
 -- a loop that is found here
 abbrev pub with_loop : ℕ → Scope → List Anchor → List Anchor
 with_loop a s found = found ++ record { what = what.Loop; first = a; place = a; known = s.known } ∷ []
 
 -- The loop is found at the end of its condition.
-pub test_run : (t : ForTest) (start : ℕ) (gs : List Goal) (s : Scope) (found : List Anchor) (w : List Token)
-    → run (state (goal.Test start ∷ gs) s found) (spell_test t ++ w) ≡ run (state (goal.Paren ∷ gs) s (with_loop start s found)) w
-test_run (no_test a) start gs s found w = refl
-test_run (given_test e a) start gs s found w = rw append_assoc (passes (goal.Test start) (test_stays start) (spell_expr e) (inner_expr e) gs
-    s found (token semicolon a ∷ w))
+pub test_run : (t : Optional) (start c : ℕ) (gs : List Goal) (s : Scope) (found : List Anchor) (w : List Token)
+    → run (state (goal.Test start ∷ gs) s found) (spell_optional t ++ token semicolon c ∷ w)
+    ≡ run (state (goal.Paren ∷ gs) s (with_loop start s found)) w
+test_run t start c gs s found w =
+    passes (goal.Test start) (test_stays start) (spell_optional t) (inner_optional t) gs s found (token semicolon c ∷ w)
 
 -- The last part is passed over.
-pub last_run : (l : ForLast) (gs : List Goal) (s : Scope) (found : List Anchor) (w : List Token)
-    → run (state (goal.Paren ∷ gs) s found) (spell_last l ++ w) ≡ run (state gs s found) w
-last_run (no_last a) gs s found w = refl
-last_run (updated_last (set x a g b e) c) gs s found w = rw append_assoc (paren_expr e gs s found (token right_paren c ∷ w))
-last_run (updated_last (step_after x a g b) c) gs s found w = refl
-last_run (updated_last (step_before g a x b) c) gs s found w = refl
+pub last_run : (us : Updates) (c : ℕ) (gs : List Goal) (s : Scope) (found : List Anchor) (w : List Token)
+    → run (state (goal.Paren ∷ gs) s found) (spell_updates us ++ token right_paren c ∷ w) ≡ run (state gs s found) w
+last_run us c gs s found w = paren_updates us gs s found (token right_paren c ∷ w)

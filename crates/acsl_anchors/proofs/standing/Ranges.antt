@@ -1,12 +1,18 @@
 -- Tokens and anchors in order, and what holds of the places at which tokens begin and colons end.
 use Rattle.std.proofs.Common.{◌≡◌, ◌≤◌, ◌+◌, ◌++◌, ◌∷◌, ℕ, Bool, true, false, List, [], arith}
-use Rattle.lang_grammar.specs.Grammar.{Kind, colon, left_paren, right_paren, the_end, Token, token, Expr, spell_expr}
+use Rattle.source_grammar.specs.Tokens.{Kind, colon, left_paren, right_paren, right_brace, while_word, do_word, for_word, return_word}
+use Rattle.source_grammar.specs.Tokens.{Token, token}
+use Rattle.source_grammar.specs.Grammar.{Expr, spell_expr}
 use Rattle.acsl_anchors.specs.Anchors.{Anchor}
 
--- the token behind the last byte
-abbrev pub is_end : Kind → Bool
-is_end the_end = true
-is_end _ = false
+-- a token that may stand behind an anchor
+abbrev pub is_anchor : Kind → Bool
+is_anchor while_word = true
+is_anchor do_word = true
+is_anchor for_word = true
+is_anchor return_word = true
+is_anchor right_brace = true
+is_anchor _ = false
 
 -- a colon
 abbrev pub is_colon : Kind → Bool
@@ -14,10 +20,10 @@ is_colon colon = true
 is_colon _ = false
 
 module _ (P : ℕ → Type 0) where
-  -- It holds of the token's place if this isn't the end, and behind it if it is a colon.
+  -- It holds of the token's place if an anchor may stand there, and behind it if it is a colon.
   pub record HoldsAt (k : Kind) (a : ℕ) : Type 0 where
-    -- it holds of the token's place, if the token isn't the end
-    pub begin : is_end k ≡ false → P a
+    -- it holds of the token's place, if an anchor may stand before it
+    pub begin : is_anchor k ≡ true → P a
     -- it holds of the place after the token, if the token is a colon
     pub behind : is_colon k ≡ true → P (a + 1)
 

@@ -1,8 +1,9 @@
--- The tokens of a text stand in order, and a colon has one byte.
-use Rattle.std.proofs.Common.{◌≡◌, ◌∙◌, ◌≤◌, ◌<◌, ◌+◌, ◌-◌, ◌++◌, ◌∷◌, ℕ, zero, suc, true, false, List, [], length, map, get_or, drop, inl}
+-- The tokens of a function stand in order in its text, a colon has one byte, and no anchor stands right behind a `/`.
+use Rattle.std.proofs.Common.{◌≡◌, ◌∙◌, ◌≤◌, ◌<◌, ◌+◌, ◌-◌, ◌++◌, ◌∷◌, ℕ, zero, suc, true, false, List, [], length, map, get_or, drop, take}
+use Rattle.std.proofs.Common.{inl}
 use Rattle.std.proofs.Common.{inr, refl, sym, ap, subst, append_assoc, arith, Contains}
 use Rattle.std.specs.List.{slice_range}
-use Rattle.std.proofs.lemmas.List.{length-take-le, length-drop}
+use Rattle.std.proofs.lemmas.List.{length-take-le, length-drop, length-append, take-append-drop}
 use Rattle.std.proofs.lemmas.List.Elements.{Contains-append_right}
 use Rattle.lang_tokens.specs.declared.word.Word as lex_word
 use Rattle.lang_tokens.specs.declared.sign.Sign as lex_sign
@@ -11,15 +12,18 @@ use Rattle.lang_tokens.specs.declared.token.Token as lex_token
 use Rattle.lang_tokens.specs.Lexemes.{IsToken}
 use Rattle.lang_tokens.specs.Reading as lex
 use Rattle.lang_tokens.specs.Reading.{end_at}
-use Rattle.lang_tokens.specs.TokenLists.{IsTokenAfter, AreTokensAfter, AreTokensOf}
+use Rattle.lang_tokens.specs.TokenLists.{AreTokensAfter}
 use Rattle.lang_tokens.proofs.reading.Placed.{placed_tokens}
-use Rattle.lang_grammar.specs.Grammar.{Token, token, Program, Reads}
-use Rattle.lang_grammar.specs.View.{word_kind, kind_of, tokens_of}
-use Rattle.acsl_comments.specs.Places.{Ascend, IsEdge}
+use Rattle.source_grammar.specs.Tokens.{Token, token}
+use Rattle.source_grammar.specs.Grammar.{Function, Reads}
+use Rattle.source_tokens.specs.View.{word_kind, kind_of, bytes_of, tokens_of}
+use Rattle.acsl_comments.specs.Places.{Ascend, IsEdge, IsBehindNoSlash}
 use Rattle.acsl_anchors.specs.Anchors.{Anchor, anchors_of}
 use Rattle.acsl_anchors.specs.Laws.{AnchorsStandIn}
-use Rattle.acsl_anchors.proofs.standing.Ranges.{is_colon, HoldsAt, Standing, Placed}
-use Rattle.acsl_anchors.proofs.standing.Anchors.{program_placed}
+use Rattle.acsl_anchors.proofs.standing.Ranges.{is_anchor, is_colon, HoldsAt, Standing, Placed}
+use Rattle.acsl_anchors.proofs.standing.Ends.{IsSlash, EndsApart, behind_no_slash, apart_end, after_token, before_token, token_in, next_in}
+use Rattle.acsl_anchors.proofs.standing.Slashes.{is_over, AllApart, AreApart, reads_apart}
+use Rattle.acsl_anchors.proofs.standing.Anchors.{function_placed}
 
 -- A word is no colon,
 word_is_none : (w : lex_word.Word) → is_colon (word_kind w) ≡ false
@@ -40,6 +44,15 @@ colon_is_one lex_kind.TheVariants.Name bytes h i = cc
 colon_is_one (lex_kind.TheVariants.Number n) bytes h i = cc
 colon_is_one lex_kind.TheVariants.End bytes h i = cc
 
+-- A `/` is one to the grammar,
+slash_is_over : (text : List ℕ) (t : lex_token.Token) → IsSlash t → is_over (kind_of (bytes_of text t) t.kind) ≡ true
+slash_is_over text t s = ap (λ (k : lex_kind.Kind). is_over (kind_of (bytes_of text t) k)) s
+
+-- and no colon.
+slash_no_colon : (text : List ℕ) (t : lex_token.Token) → is_colon (kind_of (bytes_of text t) t.kind) ≡ true → IsSlash t → ⊥
+slash_no_colon text t e s =
+    let f = ap (λ (k : lex_kind.Kind). is_colon (kind_of (bytes_of text t) k)) s in cc
+
 -- the bytes of a range within a text
 range_length : (text : List ℕ) (at len : ℕ) → at + len ≤ length text → length (slice_range text at (at + len)) ≡ len
 range_length text at len h = length-take-le ((at + len) - at) (drop at text) (omega (arith, length-drop at text)) ∙ omega arith
@@ -49,58 +62,133 @@ listed : (tokens before rest : List lex_token.Token) (t : lex_token.Token) → b
 listed tokens before rest t e = let P : List lex_token.Token → Type 0 = λ l. Contains l t in
     subst P e (Contains-append_right before (t ∷ rest) t (0, omega arith, refl))
 
-module _ (text : List ℕ) (tokens : List lex_token.Token) where
-  -- an edge of these tokens
-  abbrev Edge : ℕ → Type 0
-  Edge place = IsEdge tokens place
+-- all but the last are the same where the last are
+init_same : (z : lex_token.Token) (xs ys : List lex_token.Token) → xs ++ z ∷ [] ≡ ys ++ z ∷ [] → xs ≡ ys
+init_same z [] [] e = refl
+init_same z [] (y ∷ ys) e =
+    absurd (omega (arith, ap (λ (l : List lex_token.Token). length l) e, length-append ys (z ∷ [])))
+init_same z (x ∷ xs) [] e =
+    absurd (omega (arith, ap (λ (l : List lex_token.Token). length l) e, length-append xs (z ∷ [])))
+init_same z (x ∷ xs) (y ∷ ys) e = let i = init_same z xs ys cc in cc
 
-  -- A token begins at an edge, and what follows a colon begins at one.
-  edges : (t : lex_token.Token) (place : ℕ) → Contains tokens t → IsTokenAfter text place t
-      → HoldsAt Edge (kind_of (slice_range text t.at (t.at + t.len)) t.kind) t.at
-  edges t place h i = record {
-    begin = λ e. record { token = t; listed = h; some = i.some; edge = inl refl };
-    behind = λ e. let one : length (slice_range text t.at (t.at + t.len)) ≡ 1 =
-        colon_is_one t.kind (slice_range text t.at (t.at + t.len)) e i.is_token in
-        record { token = t; listed = h; some = i.some; edge = inr (omega (arith, one, range_length text t.at t.len i.within)) };
-  }
+module _ (text : List ℕ) (tokens front : List lex_token.Token) (ended : front ++ end_at (length text) ∷ [] ≡ tokens)
+    (placed : AreTokensAfter text 0 front) where
+  -- an edge of these tokens, right behind which no `/` ends
+  abbrev Edge : ℕ → Type 0
+  Edge place = IsEdge tokens place × IsBehindNoSlash tokens place
+
+  -- no `/` of the tokens ends at the place
+  apart_in : (place : ℕ) (ts : List lex_token.Token) → ts ≡ front → EndsApart place ts → IsBehindNoSlash tokens place
+  apart_in place ts e h =
+      let P : List lex_token.Token → Type 0 = λ l. IsBehindNoSlash l place in
+      subst P (ap (λ (l : List lex_token.Token). l ++ end_at (length text) ∷ []) e ∙ ended)
+      (behind_no_slash place (ts ++ end_at (length text) ∷ []) (apart_end place (length text) ts h))
+
+  -- the tokens in order, as these
+  placed_as : (ts : List lex_token.Token) → ts ≡ front → AreTokensAfter text 0 ts
+  placed_as ts e = let P : List lex_token.Token → Type 0 = λ l. AreTokensAfter text 0 l in subst P (sym e) placed
+
+  -- one of them is listed
+  in_tokens : (xs : List lex_token.Token) (t : lex_token.Token) (ys : List lex_token.Token) → xs ++ t ∷ ys ≡ front → Contains tokens t
+  in_tokens xs t ys e = listed tokens xs (ys ++ end_at (length text) ∷ []) t
+      (sym (append_assoc xs (t ∷ ys) (end_at (length text) ∷ []))
+      ∙ ap (λ (l : List lex_token.Token). l ++ end_at (length text) ∷ []) e ∙ ended)
+
+  -- What follows a colon begins at such an edge.
+  behind_colon : (xs : List lex_token.Token) (t : lex_token.Token) (ys : List lex_token.Token) → xs ++ t ∷ ys ≡ front
+      → is_colon (kind_of (bytes_of text t) t.kind) ≡ true → Edge (t.at + 1)
+  behind_colon xs t ys e c =
+      let (place, i) = token_in text xs t ys 0 (placed_as (xs ++ t ∷ ys) e) in
+      let bytes = slice_range text t.at (t.at + t.len) in
+      let one : length bytes ≡ 1 = colon_is_one t.kind bytes c i.is_token in
+      let len : t.len ≡ 1 = omega (arith, one, range_length text t.at t.len i.within) in
+      let apart = apart_in (t.at + t.len) (xs ++ t ∷ ys) e
+      (after_token text xs t ys 0 (placed_as (xs ++ t ∷ ys) e) (slash_no_colon text t c) i.some) in (
+        record { token = t; listed = in_tokens xs t ys e; some = i.some; edge = inr (omega (arith, len)) },
+        (let P : ℕ → Type 0 = λ n. IsBehindNoSlash tokens (t.at + n) in subst P len apart),
+      )
+
+  -- A token behind another one holds.
+  holds : (xs : List lex_token.Token) (u t : lex_token.Token) (ys : List lex_token.Token) → xs ++ u ∷ t ∷ ys ≡ front
+      → (is_over (kind_of (bytes_of text u) u.kind) ≡ true → is_anchor (kind_of (bytes_of text t) t.kind) ≡ true → ⊥)
+      → HoldsAt Edge (kind_of (bytes_of text t) t.kind) t.at
+  holds xs u t ys e apart =
+      let i = next_in text xs u t ys 0 (placed_as (xs ++ u ∷ t ∷ ys) e) in
+      let before : (xs ++ u ∷ []) ++ t ∷ ys ≡ front = append_assoc xs (u ∷ []) (t ∷ ys) ∙ e in
+      record {
+        begin = λ a. (
+          record { token = t; listed = in_tokens (xs ++ u ∷ []) t ys before; some = i.some; edge = inl refl },
+          apart_in t.at (xs ++ u ∷ t ∷ ys) e
+              (before_token text xs u t ys 0 (placed_as (xs ++ u ∷ t ∷ ys) e) (λ s. apart (slash_is_over text u s) a)),
+        );
+        behind = λ c. behind_colon (xs ++ u ∷ []) t ys before c;
+      }
 
   -- Tokens behind a place are behind any earlier one.
   from_before : (ts : List Token) (low from to : ℕ) → low ≤ from → Standing Edge from ts to → Standing Edge low ts to
-  from_before [] low from to h s = omega arith
-  from_before (token k a ∷ ts) low from to h s = (omega (arith, s.0), s.1, s.2)
+  from_before [] low from to h s = omega (arith, h, s)
+  from_before (token k a ∷ ts) low from to h s = (omega (arith, s.0, h), s.1, s.2)
 
-  -- tokens behind others, with the end
-  stand_after : (before ts : List lex_token.Token) (place : ℕ) → before ++ (ts ++ end_at (length text) ∷ []) ≡ tokens → place ≤ length text
-      → AreTokensAfter text place ts → Standing Edge place (tokens_of text (ts ++ end_at (length text) ∷ [])) (length text + 1)
-  stand_after before [] place e h i = (h, record { begin = λ f. cc; behind = λ f. cc }, omega arith)
-  stand_after before (t ∷ ts) place e h i = (
-    i.0.after,
-    edges t place (listed tokens before (ts ++ end_at (length text) ∷ []) t e) i.0,
-    from_before (tokens_of text (ts ++ end_at (length text) ∷ [])) (t.at + 1) (t.at + t.len) (length text + 1) (omega (arith, i.0.some))
-        (stand_after (before ++ t ∷ []) ts (t.at + t.len) (append_assoc before (t ∷ []) (ts ++ end_at (length text) ∷ []) ∙ e) i.0.within
-        i.1),
-  )
+  -- tokens behind another one
+  stand_after : (xs : List lex_token.Token) (u : lex_token.Token) (mid post : List lex_token.Token)
+      → xs ++ u ∷ (mid ++ post) ≡ front → u.at + u.len ≤ length text → AllApart (kind_of (bytes_of text u) u.kind) (tokens_of text mid)
+      → Standing Edge (u.at + u.len) (tokens_of text mid) (length text + 1)
+  stand_after xs u [] post e h a = omega (arith, h)
+  stand_after xs u (t ∷ mid) post e h a =
+      let i = next_in text xs u t (mid ++ post) 0 (placed_as (xs ++ u ∷ t ∷ (mid ++ post)) e) in (
+        i.after,
+        holds xs u t (mid ++ post) e a.0,
+        from_before (tokens_of text mid) (t.at + 1) (t.at + t.len) (length text + 1) (omega (arith, i.some))
+            (stand_after (xs ++ u ∷ []) t mid post (append_assoc xs (u ∷ []) (t ∷ (mid ++ post)) ∙ e) i.within a.1),
+      )
 
-  -- All tokens of the text stand so.
-  all_stand : AreTokensOf text tokens → Standing Edge 0 (tokens_of text tokens) (length text + 1)
-  all_stand h = let P : List lex_token.Token → Type 0 = λ l. Standing Edge 0 (tokens_of text l) (length text + 1) in
-      subst P h.ended (stand_after [] h.front 0 h.ended (omega arith) h.placed)
+  -- the tokens of a function
+  stand : (pre mid post : List lex_token.Token) → pre ++ (mid ++ post) ≡ front → AreApart (tokens_of text mid)
+      → Standing Edge 0 (tokens_of text mid) (length text + 1)
+  stand pre [] post e a = omega arith
+  stand pre (t ∷ mid) post e a =
+      let (place, i) = token_in text pre t (mid ++ post) 0 (placed_as (pre ++ t ∷ (mid ++ post)) e) in (
+        omega arith,
+        record { begin = λ h. absurd (a.0 h); behind = λ c. behind_colon pre t (mid ++ post) e c },
+        from_before (tokens_of text mid) (t.at + 1) (t.at + t.len) (length text + 1) (omega (arith, i.some))
+            (stand_after pre t mid post e i.within a.1),
+      )
 
   -- Anchors in order are in order,
   ascending : (xs : List Anchor) (from to : ℕ) → Placed Edge from xs to → Ascend from to (map (λ a. a.place) xs)
   ascending [] from to h = h
   ascending (x ∷ xs) from to h = (h.0, ascending xs x.place to h.2)
 
-  -- and each stands at an edge.
+  -- and each stands at such an edge.
   all_edges : (xs : List Anchor) (from to : ℕ) → Placed Edge from xs to → (k : ℕ) (d : Anchor) → k < length xs → Edge (get_or xs k d).place
-  all_edges [] from to h k d i = absurd (omega arith)
+  all_edges [] from to h k d i = absurd (omega (arith, i))
   all_edges (x ∷ xs) from to h zero d i = h.1
-  all_edges (x ∷ xs) from to h (suc k) d i = all_edges xs x.place to h.2 k d (omega arith)
+  all_edges (x ∷ xs) from to h (suc k) d i = all_edges xs x.place to h.2 k d (omega (arith, i))
 
-  -- So do those of the program that the tokens read as.
-  pub anchors_stand_in : (p : Program) → lex.Reads text tokens → Reads (tokens_of text tokens) p → AnchorsStandIn text tokens (anchors_of p)
-  anchors_stand_in p h reads =
-      let placed : Placed Edge 0 (anchors_of p) (length text) = program_placed Edge p (length text)
-      (let P : List Token → Type 0 = λ l. Standing Edge 0 l (length text + 1) in
-      subst P (sym reads.spelled) (all_stand (placed_tokens text tokens h))) in
-      record { order = ascending (anchors_of p) 0 (length text) placed; edges = all_edges (anchors_of p) 0 (length text) placed }
+  -- So do those of the function that some of the tokens read as.
+  pub anchors_stand_in : (first end : ℕ) (f : Function) → Reads (tokens_of text (slice_range front first end)) f
+      → AnchorsStandIn text tokens (anchors_of f)
+  anchors_stand_in first end f reads =
+      let mid = slice_range front first end in
+      let post = drop (end - first) (drop first front) in
+      let whole : take first front ++ (mid ++ post) ≡ front =
+      ap (λ (l : List lex_token.Token). take first front ++ l) (take-append-drop (end - first) (drop first front))
+      ∙ take-append-drop first front in
+      let standing = stand (take first front) mid post whole (reads_apart (tokens_of text mid) f reads) in
+      let here : Placed Edge 0 (anchors_of f) (length text) = function_placed Edge f (length text)
+      (let P : List Token → Type 0 = λ l. Standing Edge 0 l (length text + 1) in subst P (sym reads.spelled) standing) in
+      record {
+        order = ascending (anchors_of f) 0 (length text) here;
+        edges = λ k d i. (all_edges (anchors_of f) 0 (length text) here k d i).0;
+        apart = λ k d i. (all_edges (anchors_of f) 0 (length text) here k d i).1;
+      }
+
+-- The anchors of a function stand in its text.
+pub anchors_stand : (text : List ℕ) (tokens front : List lex_token.Token) (first end : ℕ) (f : Function) → lex.Reads text tokens
+    → front ++ end_at (length text) ∷ [] ≡ tokens → Reads (tokens_of text (slice_range front first end)) f
+    → AnchorsStandIn text tokens (anchors_of f)
+anchors_stand text tokens front first end f h ended reads =
+    let all = placed_tokens text tokens h in
+    let P : List lex_token.Token → Type 0 = λ l. AreTokensAfter text 0 l in
+    let placed = subst P (init_same (end_at (length text)) all.front front (all.ended ∙ sym ended)) all.placed in
+    anchors_stand_in text tokens front ended placed first end f reads

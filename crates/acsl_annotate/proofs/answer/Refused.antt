@@ -17,7 +17,7 @@ use Rattle.top_texts.specs.Analyses.{IsFoundIn, IsRefusedText, IsUnput}
 use Rattle.top_texts.specs.Exact.{exact}
 use Rattle.top_texts.specs.Outcomes.{QuestionAnswer}
 use Rattle.top_texts.specs.Questions.{analysis_question, is_refused}
-use Rattle.top_texts.specs.Texts.{IsSolvable}
+use Rattle.top_texts.specs.Texts.{IsSolvable, Program}
 use Rattle.top_texts.specs.declared.analyse.least.LeastBounds.{LeastBounds}
 use Rattle.acsl_annotate.specs.Annotated.{IsAnnotatedOf, annotating}
 
@@ -37,17 +37,19 @@ refused_says a format Memory h u = refl
 refused_says a format Write h u = absurd (u.unwritten refl)
 
 -- where bounds were found, the improvements end
-pub solvable : (text : List ℕ) (rows : Domain (List ℕ)) (policy : Policy) (limit : ℕ) (bounds : LeastBounds)
-    → IsFoundIn text rows policy limit bounds → IsSolvable text rows policy limit
-solvable text rows policy limit bounds h =
+pub solvable : (program : Program) (rows : Domain (List ℕ)) (policy : Policy) (limit : ℕ) (bounds : LeastBounds)
+    → IsFoundIn program rows policy limit bounds → IsSolvable program rows policy limit
+solvable program rows policy limit bounds h =
     (bounds.system, h.solved, (bounds.solved.improvements, h.within, vector_at bounds.system bounds.solved.bounds, h.has_rounds))
 
 -- where they were, the annotated text is written
-pub annotated_says : (a : Analysis (List ℕ)) (format : Format) (text : List ℕ) (bounds : LeastBounds) (bytes : List ℕ) → a.program ≡ text
+pub annotated_says : (a : Analysis (List ℕ)) (format : Format) (program : Program) (bounds : LeastBounds) (bytes : List ℕ)
+    → a.program ≡ program
     → IsFoundIn a.program a.domain a.policy a.improvements bounds
-    → ((rows : Domain (List ℕ)) (policy : Policy) (limit : ℕ) → IsFoundIn text rows policy limit bounds → IsAnnotatedOf text rows bytes)
+    → ((rows : Domain (List ℕ)) (policy : Policy) (limit : ℕ) → IsFoundIn program rows policy limit bounds
+    → IsAnnotatedOf program rows bytes)
     → Says (annotating exact (Analyse Report a format)) Done bytes
-annotated_says a format text bounds bytes e found annotated = (
+annotated_says a format program bounds bytes e found annotated = (
   solvable a.program a.domain a.policy a.improvements bounds found,
   subst (λ t. IsAnnotatedOf t a.domain bytes) (sym e)
       (annotated a.domain a.policy a.improvements (subst (λ t. IsFoundIn t a.domain a.policy a.improvements bounds) e found)),
@@ -60,7 +62,8 @@ plain_names a format s message m h = record {
   line = 0;
   rows = 0;
   is_message = m;
-  line_is = ⊎_elim (λ e. subst (λ x. 0 ≡ line_in a.program x) (sym e) refl) (λ e. subst (λ x. 0 ≡ line_in a.program x) (sym e) refl) h;
+  line_is = ⊎_elim (λ e. subst (λ x. 0 ≡ line_in a.program.text x) (sym e) refl)
+      (λ e. subst (λ x. 0 ≡ line_in a.program.text x) (sym e) refl) h;
   rows_are = λ count has. ⊎_elim (λ e. subst (λ x. 0 ≡ rows_of count x) (sym e) refl)
       (λ e. subst (λ x. 0 ≡ rows_of count x) (sym e) refl) h;
 }

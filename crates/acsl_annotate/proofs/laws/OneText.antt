@@ -1,12 +1,23 @@
--- The texts of a program and of its rows have one annotated text: annotations depend on the bounds at the points and the rows alone.
+-- The texts of a file and of rows have one annotated text: annotations depend on the bounds at the points and the rows alone.
 use Rattle.std.proofs.Common.{◌≡◌, ◌∙◌, ◌++◌, ◌+◌, ◌<◌, ◌≤◌, ℕ, suc, List, [], ◌∷◌, length, refl, sym, ap, ap₂, subst, arith}
-use Rattle.std.specs.Prelude.{ℤ, Bool, Ok, if◌then◌else◌}
+use Rattle.std.specs.Prelude.{ℤ, Bool, Ok, Option, Some, if◌then◌else◌}
+use Rattle.std.proofs.lemmas.List.{append_cancel_right}
 use Rattle.base_numbers.specs.Extended.{Ext, neg_inf, fin, pos_inf}
+use Rattle.lang_tokens.specs.Reading as lex
+use Rattle.lang_tokens.specs.declared.token.Token as lex_token
 use Rattle.lang_tokens.proofs.reading.Once.{one_token_list}
-use Rattle.lang_grammar.specs.Grammar.{Program, Reads}
-use Rattle.lang_grammar.specs.View.{tokens_of}
-use Rattle.lang_grammar.proofs.grammar.Once.{reads_once}
 use Rattle.lang_tree.specs.Tree.{Statements}
+use Rattle.source_items.specs.declared.item.Item.{Item}
+use Rattle.source_items.specs.Divisions as file
+use Rattle.source_items.proofs.files.Lemmas.{one_outcome}
+use Rattle.source_grammar.specs.Grammar.{Function, Reads}
+use Rattle.source_grammar.proofs.grammar.Once.{reads_once}
+use Rattle.source_tree.specs.Statements as c
+use Rattle.source_tokens.specs.View.{marks_of}
+use Rattle.source_file.specs.Choice.{chosen}
+use Rattle.source_file.specs.Functions.{functions_of}
+use Rattle.source_file.specs.Meaning.{IsChosen, item_of}
+use Rattle.source_file.specs.declared.functions.Defined.{Defined}
 use Rattle.flow_edges.specs.Points.{points_of_program}
 use Rattle.flow_edges.specs.declared.point.Point.{Point}
 use Rattle.flow_edges.proofs.points.Numbering.{numbering}
@@ -20,9 +31,10 @@ use Rattle.acsl_anchors.specs.Laws.{is_anchored}
 use Rattle.acsl_notes.specs.Clauses.{Bounded, bounded_from, clauses, clauses_from, clauses_unless}
 use Rattle.acsl_notes.specs.Texts.{annotated, comment_at, comment_unless_silent, comments_from}
 use Rattle.ask_words.specs.declared.request.Domain.{Domain}
-use Rattle.top_texts.specs.Texts.{HasTemplate}
+use Rattle.top_texts.specs.Texts.{HasTemplate, Program}
+use Rattle.top_texts.proofs.by_c.InSource.{some_names}
 use Rattle.top_texts.proofs.texts.Readings.{program_once, rows_once}
-use Rattle.top_answer.proofs.outputs.Templates.{program_names, some_row}
+use Rattle.top_answer.proofs.outputs.Templates.{some_row}
 use Rattle.acsl_annotate.specs.Annotated.{IsAnnotatedOf, IsTreeOf}
 
 -- ---- vectors that agree say the same
@@ -76,19 +88,45 @@ annotated_agree text names body template v w anchors some a b =
     at_most_one system v w a b.solves b.below p r (omega (arith, (numbering body).count)) in
     ap (with_comments 0 text) (comments_agree text names template some v w 0 (points_of_program body) anchors agree)
 
--- ---- texts mean one tree
+-- ---- a file has one function that is asked about, and it has one tree
 
-trees_agree : (text : List ℕ) (names others : List (List ℕ)) (body statements : Statements) (one other : Program)
-    → IsTreeOf text names body one → IsTreeOf text others statements other → one ≡ other
-trees_agree text names others body statements one other a b =
-    reads_once (tokens_of text a.tokens) one other a.tree_is
-    (subst (λ ts. Reads (tokens_of text ts) other) (one_token_list text b.tokens a.tokens b.reads a.reads) b.tree_is)
+one_list : (items others : List Item) → file.divided items ≡ file.divided others → items ≡ others
+one_list items others e = cc
 
--- the texts of a program and of its rows have one annotated text
-pub one_annotated : (text : List ℕ) (rows : Domain (List ℕ)) (one other : List ℕ) → IsAnnotatedOf text rows one
-    → IsAnnotatedOf text rows other → one ≡ other
-one_annotated text rows one other a b =
-    let same = program_once text (b.names, b.body) (a.names, a.body) b.ready.system.analysed.reading a.ready.system.analysed.reading in
+some_one : (d e : Defined) (o : Option Defined) → Some d ≡ o → Some e ≡ o → d ≡ e
+some_one d e o h k = cc
+
+defined_agree : (text : List ℕ) (asked : Option (List ℕ)) (front : List lex_token.Token) (d e : Defined) → IsChosen text asked front d
+    → IsChosen text asked front e → d ≡ e
+defined_agree text asked front d e h k =
+    let items : h.are.items ≡ k.are.items =
+    one_list h.are.items k.are.items (one_outcome (marks_of front) (file.divided h.are.items) (file.divided k.are.items) h.are.found
+    k.are.found) in
+    let functions : h.functions ≡ k.functions =
+    h.are.are ∙ ap (λ (l : List Item). functions_of text front l) items ∙ sym k.are.are in
+    some_one d e (chosen asked k.functions) (h.picked ∙ ap (λ (l : List Defined). chosen asked l) functions) k.picked
+
+trees_agree : (program : Program) (names others : List (List ℕ)) (statements body : c.Statements) (one other : Function)
+    → IsTreeOf program names statements one → IsTreeOf program others body other → one ≡ other
+trees_agree program names others statements body one other a b =
+    let last = lex.end_at (length program.text) ∷ [] in
+    let fronts : b.front ≡ a.front =
+    append_cancel_right b.front a.front last (one_token_list program.text (b.front ++ last) (a.front ++ last) b.reads a.reads) in
+    let there : IsChosen program.text program.function a.front b.defined =
+    subst (λ (l : List lex_token.Token). IsChosen program.text program.function l b.defined) fronts b.is_chosen in
+    let same : b.defined ≡ a.defined = defined_agree program.text program.function a.front b.defined a.defined there a.is_chosen in
+    let reads : Reads (item_of program.text a.front a.defined) other =
+    subst (λ (d : Defined). Reads (item_of program.text a.front d) other) same
+    (subst (λ (l : List lex_token.Token). Reads (item_of program.text l b.defined) other) fronts b.tree_is) in
+    reads_once (item_of program.text a.front a.defined) one other a.tree_is reads
+
+-- the texts of a file and of rows have one annotated text
+pub one_annotated : (program : Program) (rows : Domain (List ℕ)) (one other : List ℕ) → IsAnnotatedOf program rows one
+    → IsAnnotatedOf program rows other → one ≡ other
+one_annotated program rows one other a b =
+    let text = program.text in
+    let core = a.ready.system.analysed.has_core in
+    let same = program_once program (b.names, b.body) (a.names, a.body) b.ready.system.analysed.has_core core in
     let template : b.template ≡ a.template =
     rows_once rows a.names b.template a.template (subst (λ (x : List (List ℕ) × Statements). HasTemplate rows x.0 (Ok b.template)) same
     b.ready.system.template_is) a.ready.system.template_is in
@@ -101,8 +139,8 @@ one_annotated text rows one other a b =
     (anchors_of b.annotated.tree)) same b.annotated.written) in
     a.annotated.written
     ∙ annotated_agree text a.names a.body a.template a.vector b.vector (anchors_of a.annotated.tree)
-    (some_row rows a.names a.template (program_names text a.names a.body a.ready.system.analysed.reading) a.ready.system.template_is)
-    a.least least
+    (some_row rows a.names a.template (some_names program a.names a.body core) a.ready.system.template_is) a.least least
     ∙ ap (λ tree. annotated text a.names (points_of_program a.body) a.template b.vector (anchors_of tree))
-    (trees_agree text a.names b.names a.body b.body a.annotated.tree b.annotated.tree a.annotated.is_tree b.annotated.is_tree)
+    (trees_agree program a.names b.names a.annotated.has_core.statements b.annotated.has_core.statements a.annotated.tree
+    b.annotated.tree a.annotated.is_tree b.annotated.is_tree)
     ∙ sym written

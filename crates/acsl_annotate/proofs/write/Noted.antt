@@ -1,16 +1,21 @@
--- The comments of a program whose least bounds were found, and its text with them.
-use Rattle.std.proofs.Common.{◌≡◌, ◌∙◌, ◌<◌, ℕ, List, IsTrue, ap, length, map, sym, subst, arith, inl, inr}
-use Rattle.std.specs.Prelude.{ℤ, IfOk, Result, Ok, Err, ◌&&◌, nat_le}
+-- The comments of a function whose least bounds were found, and the text of its file with them.
+use Rattle.std.proofs.Common.{◌≡◌, ◌∙◌, ◌++◌, ◌∷◌, ◌-◌, ◌≤◌, ◌<◌, ℕ, List, [], IsTrue, ap, length, map, take, drop, sym, subst, arith, inl}
+use Rattle.std.proofs.Common.{inr}
+use Rattle.std.specs.Prelude.{ℤ, IfOk, Result, Ok, Err, ◌&&◌, nat_le, slice_range}
 use Rattle.std.specs.List.{All}
 use Rattle.std.proofs.lemmas.Bool.{leb-true}
+use Rattle.std.proofs.lemmas.List.{drop-append-le, length-append, length-drop, take-append-le}
 use Rattle.lang_tokens.specs.Lines.{line_at}
 use Rattle.lang_tokens.specs.Reading as lex
 use Rattle.lang_tokens.specs.declared.token.Token as lex_token
-use Rattle.lang_grammar.specs.Grammar.{Program, Reads}
-use Rattle.lang_grammar.specs.View.{tokens_of}
-use Rattle.lang_meaning.specs.Meaning.{Means}
 use Rattle.lang_tree.specs.Tree.{Statements}
 use Rattle.lang_tree.specs.Word.{is_word}
+use Rattle.source_grammar.specs.Grammar.{Function, Reads}
+use Rattle.source_tree.specs.Statements as c
+use Rattle.source_meaning.specs.Walk.{walk}
+use Rattle.source_tokens.specs.View.{tokens_of}
+use Rattle.source_file.specs.Meaning.{Answer, FunctionMeans, IsChosen, Means, item_of}
+use Rattle.source_file.specs.declared.functions.Defined.{Defined}
 use Rattle.flow_edges.specs.declared.point.Point.{Point}
 use Rattle.flow_edges.specs.Points.{points_of_program}
 use Rattle.flow_templates.specs.Rows.{is_template}
@@ -24,107 +29,165 @@ use Rattle.acsl_comments.specs.Law.{CommentsComeOut, ProgramsStay}
 use Rattle.acsl_comments.specs.Places.{Ascend, MayStand}
 use Rattle.acsl_comments.specs.Texts.{with_comments, without_comments}
 use Rattle.acsl_comments.specs.declared.comment.Comment.{Comment}
+use Rattle.acsl_comments.proofs.pieces.Programs.{walked_ok}
 use Rattle.acsl_anchors.specs.Anchors.{Anchor, anchors_of}
-use Rattle.acsl_anchors.specs.Laws.{AnchorsArePoints}
+use Rattle.acsl_anchors.specs.Laws.{AnchorsArePoints, anchored}
 use Rattle.acsl_anchors.specs.View.{plain_anchors}
 use Rattle.acsl_anchors.specs.declared.anchor.Anchor as code_anchor
-use Rattle.acsl_notes.specs.Laws.{ClausesHold, CommentsMayStand}
+use Rattle.acsl_notes.specs.Clauses.{IsTrueAt}
+use Rattle.acsl_notes.specs.Laws.{ClausesHold, CommentsMayStand, SaysTruth}
 use Rattle.acsl_notes.specs.Texts.{comments_from}
 use Rattle.ask_words.specs.declared.request.Domain.{Domain}
 use Rattle.ask_words.specs.declared.request.Policy.{Policy}
 use Rattle.top_texts.specs.Analyses.{IsFoundIn}
+use Rattle.top_texts.specs.Texts.{HasCore, Program}
 use Rattle.top_texts.specs.declared.analyse.least.LeastBounds.{LeastBounds}
+use Rattle.top_texts.proofs.by_c.InSource.{kept_in_source}
 use Rattle.top_texts.proofs.texts.Once.{equations_are, rows_over}
-use Rattle.acsl_annotate.specs.Annotated.{IsAnnotatedOf, IsTreeOf, notes}
+use Rattle.acsl_annotate.specs.Annotated.{IsAnnotatedOf, IsTreeOf, SaysTruthByC, notes}
 
--- tokens that mean a program have a tree that does
-tree_in : (text : List ℕ) (tokens : List lex_token.Token) (names : List (List ℕ)) (body : Statements) → lex.Reads text tokens
-    → Means text (tokens_of text tokens) (Ok (names, body)) → (tree : Program) × IsTreeOf text names body tree
-    × Reads (tokens_of text tokens) tree
-tree_in text tokens names body reads (inl (at, finds, e)) = cc
-tree_in text tokens names body reads (inr (inl (at, finds, e))) = cc
-tree_in text tokens names body reads (inr (inr (tree, is, fine, e))) =
-    (tree, record { tokens = tokens; reads = reads; tree_is = is; means = sym e }, is)
+-- some tokens of a text are those of all but its end
+range_front : (front : List lex_token.Token) (end : lex_token.Token) (first last : ℕ) → first ≤ last → last ≤ length front
+    → slice_range (front ++ end ∷ []) first last ≡ slice_range front first last
+range_front front end first last order within =
+    let here : first ≤ length front = omega arith in
+    let few : last - first ≤ length (drop first front) = omega (arith, length-drop first front) in
+    ap (λ (l : List lex_token.Token). take (last - first) l) (drop-append-le first front (end ∷ []) here)
+    ∙ take-append-le (last - first) (drop first front) (end ∷ []) few
+
+-- what tokens mean that are a function is what its tree does
+tree_in : (text : List ℕ) (front : List lex_token.Token) (d : Defined) (names : List (List ℕ)) (statements : c.Statements)
+    → FunctionMeans text (item_of text front d) (Ok (names, statements))
+    → (tree : Function) × Reads (item_of text front d) tree × (walk (line_at text) tree ≡ Ok (names, statements))
+tree_in text front d names statements (inl (at, finds, e)) = cc
+tree_in text front d names statements (inr (inl (at, finds, e))) = cc
+tree_in text front d names statements (inr (inr (tree, is, fine, e))) =
+    (tree, is, walked_ok (walk (line_at text) tree) (names, statements) e)
 
 -- a text has one list of tokens
 abbrev pub OneReading : Type 0
 OneReading = (text : List ℕ) (tokens others : List lex_token.Token) → lex.Reads text tokens → lex.Reads text others → tokens ≡ others
 
--- what the code found of a program: its tokens, its anchors by their tree, and its comments by its anchors
-pub record IsNoted (text : List ℕ) (bounds : LeastBounds) (tokens : List lex_token.Token) (places : List code_anchor.Anchor)
-    (list : List Comment) : Type 0 where
+-- what the code found of a function: the tokens of the file, those that are the function, its anchors by its tree, and its comments by its
+-- anchors
+pub record IsNoted (program : Program) (bounds : LeastBounds) (tokens : List lex_token.Token) (d : Defined)
+    (places : List code_anchor.Anchor) (list : List Comment) : Type 0 where
   -- the text reads as the tokens
-  pub reads : lex.Reads text tokens
+  pub reads : lex.Reads program.text tokens
   -- the names of the variables are words
   pub words : All (λ name. IsTrue (is_word name)) bounds.system.flow.names
-  -- the anchors are those of the tokens' tree
-  pub anchors : (p : Program) → Reads (tokens_of text tokens) p → places ≡ plain_anchors (anchors_of p)
+  -- the function's tokens are in order
+  pub order : d.first ≤ d.end
+  -- and before the end
+  pub within : d.end < length tokens
+  -- it is the one that is asked about
+  pub found : (front : List lex_token.Token) → front ++ lex.end_at (length program.text) ∷ [] ≡ tokens
+      → IsChosen program.text program.function front d
+  -- what the file means is what its tokens do
+  pub means : (front : List lex_token.Token) → front ++ lex.end_at (length program.text) ∷ [] ≡ tokens → (wanted : Answer)
+      → Means program.text program.function front wanted → FunctionMeans program.text (item_of program.text front d) wanted
+  -- the anchors are those of its tree
+  pub anchors : (f : Function) → Reads (tokens_of program.text (slice_range tokens d.first d.end)) f → places ≡ plain_anchors (anchors_of f)
   -- the comments are those of the anchors with the bounds found
   pub comments : (l : List Anchor) → places ≡ plain_anchors l
-      → list ≡ comments_from text bounds.system.flow.names bounds.system.template (vector_at bounds.system bounds.solved.bounds) 0
+      → list ≡ comments_from program.text bounds.system.flow.names bounds.system.template (vector_at bounds.system bounds.solved.bounds) 0
       bounds.system.flow.points l
 
--- the same of texts, tokens, names and anchors that are borrowed
-pub noted_by : (text : List ℕ) (bounds : LeastBounds) (tokens tokens2 : List lex_token.Token) (places places2 : List code_anchor.Anchor)
-    (list : List Comment) (t1 t2 t3 : List ℕ)
-    (names : List (List ℕ)) → t1 ≡ text → t2 ≡ text → t3 ≡ text → tokens2 ≡ tokens → places2 ≡ places → names ≡ bounds.system.flow.names
-    → lex.Reads t1 tokens → All (λ name. IsTrue (is_word name)) names →
-    ((p : Program) → Reads (tokens_of t2 tokens2) p → places ≡ plain_anchors (anchors_of p))
+-- the same of tokens, names and anchors that are borrowed
+pub noted_by : (program : Program) (bounds : LeastBounds) (tokens tokens1 tokens2 : List lex_token.Token) (d : Defined)
+    (places places2 : List code_anchor.Anchor) (list : List Comment) (names : List (List ℕ)) → tokens1 ≡ tokens → tokens2 ≡ tokens
+    → places2 ≡ places → names ≡ bounds.system.flow.names → lex.Reads program.text tokens → All (λ name. IsTrue (is_word name)) names
+    → d.first ≤ d.end → d.end < length tokens1
+    → ((front : List lex_token.Token) → front ++ lex.end_at (length program.text) ∷ [] ≡ tokens1
+    → IsChosen program.text program.function front d)
+    → ((front : List lex_token.Token) → front ++ lex.end_at (length program.text) ∷ [] ≡ tokens1 → (wanted : Answer)
+    → Means program.text program.function front wanted → FunctionMeans program.text (item_of program.text front d) wanted)
+    → ((f : Function) → Reads (tokens_of program.text (slice_range tokens2 d.first d.end)) f → places ≡ plain_anchors (anchors_of f))
     → ((l : List Anchor) → places2 ≡ plain_anchors l
-    → list ≡ comments_from t3 bounds.system.flow.names bounds.system.template (vector_at bounds.system bounds.solved.bounds) 0
+    → list ≡ comments_from program.text bounds.system.flow.names bounds.system.template (vector_at bounds.system bounds.solved.bounds) 0
     bounds.system.flow.points l)
-    → IsNoted text bounds tokens places list
-noted_by text bounds tokens tokens2 places places2 list t1 t2 t3 names e1 e2 e3 f g h reads words anchors comments = record {
-  reads = subst (λ t. lex.Reads t tokens) e1 reads;
-  words = subst (λ (ns : List (List ℕ)). All (λ name. IsTrue (is_word name)) ns) h words;
-  anchors = λ p is. anchors p
-      (subst (λ t. Reads (tokens_of t tokens2) p) (sym e2) (subst (λ (ts : List lex_token.Token). Reads (tokens_of text ts) p) (sym f) is));
-  comments = λ l e.
-      subst (λ t. list ≡ comments_from t bounds.system.flow.names bounds.system.template (vector_at bounds.system bounds.solved.bounds) 0
-      bounds.system.flow.points l) e3
-      (comments l (g ∙ e));
-}
+    → IsNoted program bounds tokens d places list
+noted_by program bounds tokens tokens1 tokens2 d places places2 list names e1 e2 e3 e4 reads words order within found means anchors said =
+    record {
+      reads = reads;
+      words = subst (λ (ns : List (List ℕ)). All (λ name. IsTrue (is_word name)) ns) e4 words;
+      order = order;
+      within = subst (λ (l : List lex_token.Token). d.end < length l) e1 within;
+      found = λ front e. found front (e ∙ sym e1);
+      means = λ front e wanted m. means front (e ∙ sym e1) wanted m;
+      anchors = λ f is. anchors f
+          (subst (λ (l : List lex_token.Token). Reads (tokens_of program.text (slice_range l d.first d.end)) f) (sym e2) is);
+      comments = λ l e. said l (e3 ∙ e);
+    }
 
 -- an answer that is done says more
 pub for_ok : {A E : Type 0} (P Q : A → Type 0) (r : Result A E) → ((a : A) → P a → Q a) → IfOk r P → IfOk r Q
 for_ok P Q (Ok a) f h = f a h
 for_ok P Q (Err e) f h = tt
 
-module _ (text : List ℕ) (rows : Domain (List ℕ)) (policy : Policy) (limit : ℕ) (bounds : LeastBounds) (tokens : List lex_token.Token)
-    (places : List code_anchor.Anchor) (list : List Comment) (found : IsFoundIn text rows policy limit bounds)
-    (noted : IsNoted text bounds tokens places list)
-    (one : OneReading) (stand : CommentsMayStand) where
+module _ (program : Program) (rows : Domain (List ℕ)) (policy : Policy) (limit : ℕ) (bounds : LeastBounds)
+    (tokens : List lex_token.Token) (d : Defined) (places : List code_anchor.Anchor) (list : List Comment)
+    (found : IsFoundIn program rows policy limit bounds) (noted : IsNoted program bounds tokens d places list) (one : OneReading)
+    (stand : CommentsMayStand) where
+  -- the core of the function
+  abbrev core : HasCore program found.solved.names found.solved.body
+  core = found.solved.ready.system.analysed.has_core
+
   -- what they are by the definitions
   pub record Stands : Type 0 where
-    -- the tree of the program
-    pub tree : Program
-    -- the tree is that of the program found
-    pub is_tree : IsTreeOf text found.solved.names found.solved.body tree
-    -- the tokens mean the program found
-    pub means : Means text (tokens_of text tokens) (Ok (found.solved.names, found.solved.body))
+    -- all tokens but the end
+    pub front : List lex_token.Token
+    -- with it they are the tokens
+    pub ended : front ++ lex.end_at (length program.text) ∷ [] ≡ tokens
+    -- they mean the function found
+    pub means : Means program.text program.function front (Ok (found.solved.names, core.statements))
+    -- the tree of the function
+    pub tree : Function
+    -- the tree is that of the function found
+    pub is_tree : IsTreeOf program found.solved.names core.statements tree
     -- the comments are those of the definition
-    pub list_is : list ≡ notes text found.solved.names found.solved.body found.solved.template
+    pub list_is : list ≡ notes program.text found.solved.names found.solved.body found.solved.template
         (vector_at bounds.system bounds.solved.bounds) tree
     -- the comments may stand where they do
-    pub may_stand : MayStand text tokens (notes text found.solved.names found.solved.body found.solved.template
+    pub may_stand : MayStand program.text tokens (notes program.text found.solved.names found.solved.body found.solved.template
         (vector_at bounds.system bounds.solved.bounds) tree)
 
-  -- what was found of the program is what the definitions say
+  -- what was found of the function is what the definitions say
   pub stands : Stands
   stands =
       let s = found.solved in
       let v : Vector = vector_at bounds.system bounds.solved.bounds in
-      let reading = s.ready.system.analysed.reading in
-      let means : Means text (tokens_of text tokens) (Ok (s.names, s.body)) =
-      subst (λ (ts : List lex_token.Token). Means text (tokens_of text ts) (Ok (s.names, s.body)))
-      (one text reading.0 tokens reading.1 noted.reads) reading.2 in
-      let found_tree = tree_in text tokens s.names s.body noted.reads means in
-      let tree = found_tree.0 in
-      let by_system = noted.comments (anchors_of tree) (noted.anchors tree found_tree.2) in
+      let text = program.text in
+      let (front, reads, means) = core.reading in
+      let end = lex.end_at (length text) in
+      let ended : front ++ end ∷ [] ≡ tokens = one text (front ++ end ∷ []) tokens reads noted.reads in
+      let (tree, tree_is, walked) = tree_in text front d s.names core.statements
+      (noted.means front ended (Ok (s.names, core.statements)) means) in
+      let last : d.end ≤ length front = omega (
+        arith,
+        noted.within,
+        ap (λ (l : List lex_token.Token). length l) ended,
+        length-append front (end ∷ []),
+      ) in
+      let range : slice_range front d.first d.end ≡ slice_range tokens d.first d.end =
+      sym (range_front front end d.first d.end noted.order last)
+      ∙ ap (λ (l : List lex_token.Token). slice_range l d.first d.end) ended in
+      let among : Reads (tokens_of text (slice_range tokens d.first d.end)) tree =
+      subst (λ (l : List lex_token.Token). Reads (tokens_of text l) tree) range tree_is in
+      let by_system = noted.comments (anchors_of tree) (noted.anchors tree among) in
       record {
-        tree = tree;
-        is_tree = found_tree.1;
+        front = front;
+        ended = ended;
         means = means;
+        tree = tree;
+        is_tree = record {
+          front = front;
+          reads = reads;
+          defined = d;
+          is_chosen = noted.found front ended;
+          tree_is = tree_is;
+          means = walked;
+        };
         list_is =
             subst (λ (t : List (List ℤ)). list ≡ comments_from text s.names t v 0 (points_of_program s.body) (anchors_of tree))
             s.system_for.template_is
@@ -132,25 +195,38 @@ module _ (text : List ℕ) (rows : Domain (List ℕ)) (policy : Policy) (limit :
             s.system_for.points_are
             (subst (λ (names : List (List ℕ)). list ≡ comments_from text names bounds.system.template v 0 bounds.system.flow.points
             (anchors_of tree)) s.system_for.names_are by_system));
-        may_stand = stand text tokens tree s.names (points_of_program s.body) s.template v noted.reads found_tree.2
+        may_stand = stand text tokens front d.first d.end tree s.names (points_of_program s.body) s.template v noted.reads ended tree_is
             (subst (λ (names : List (List ℕ)). All (λ name. IsTrue (is_word name)) names) s.system_for.names_are noted.words);
       }
 
   -- they stand in order
-  pub in_order : Ascend 0 (length text) (map (λ c. c.place) list)
-  in_order = subst (λ (cs : List Comment). Ascend 0 (length text) (map (λ c. c.place) cs)) (sym stands.list_is) stands.may_stand.order
+  pub in_order : Ascend 0 (length program.text) (map (λ c. c.place) list)
+  in_order = subst (λ (cs : List Comment). Ascend 0 (length program.text) (map (λ c. c.place) cs)) (sym stands.list_is)
+      stands.may_stand.order
+
+  -- what they say is so by C
+  said_by_c : (v : Vector) → SaysTruth (length found.solved.names) found.solved.body found.solved.template v
+      → SaysTruthByC (length found.solved.names) core.statements found.solved.template v
+  said_by_c v truth p known clause listed =
+      kept_in_source program found.solved.names found.solved.body core p (λ state. IsTrueAt clause state)
+      (λ run now is among at. truth p known clause listed run now is among at) core.statements core.reading
 
   -- and the text with them is that of the definition
-  pub annotated_of : (bytes : List ℕ) → bytes ≡ with_comments 0 text list → 0 < length bounds.system.template → AnchorsArePoints
+  pub annotated_of : (bytes : List ℕ) → bytes ≡ with_comments 0 program.text list → 0 < length bounds.system.template → AnchorsArePoints
       → CommentsComeOut → ProgramsStay → ClausesHold
-      → ProgramPostSolutionsHold → IsAnnotatedOf text rows bytes
+      → ProgramPostSolutionsHold → IsAnnotatedOf program rows bytes
   annotated_of bytes written some points come stay hold post =
       let s = found.solved in
       let v : Vector = vector_at bounds.system bounds.solved.bounds in
+      let text = program.text in
       let said = notes text s.names s.body s.template v stands.tree in
       let least : Least (equations_of_program (length s.names) s.body s.template) v =
       subst (λ (q : Equations). Least q v) (equations_are s.names s.body s.template bounds.system s.system_for) found.least in
       let spelled : bytes ≡ with_comments 0 text said = written ∙ ap (with_comments 0 text) stands.list_is in
+      let truth : SaysTruth (length s.names) s.body s.template v =
+      hold (length s.names) s.body s.template v (subst (λ (t : List (List ℤ)). 0 < length t) s.system_for.template_is some)
+      (post (length s.names) s.body s.template v
+      (rows_over s.names s.body s.template bounds.system s.system_for) least.solves.post) in
       record {
         names = s.names;
         body = s.body;
@@ -159,15 +235,17 @@ module _ (text : List ℕ) (rows : Domain (List ℕ)) (policy : Policy) (limit :
         vector = v;
         least = least;
         annotated = record {
+          has_core = core;
           tree = stands.tree;
           is_tree = stands.is_tree;
-          points = points (line_at text) stands.tree s.names s.body stands.is_tree.means;
+          points = points (line_at text) stands.tree s.names core.statements stands.is_tree.means
+              ∙ ap (λ (b : Statements). anchored (points_of_program b)) (sym core.core);
           written = spelled;
           comes_out = ap (λ b. without_comments 0 b said) spelled ∙ come text said stands.may_stand.order;
-          means = stay text tokens said s.names s.body noted.reads stands.means stands.may_stand;
-          truth = hold (length s.names) s.body s.template v (subst (λ (t : List (List ℤ)). 0 < length t) s.system_for.template_is some)
-              (post (length s.names) s.body s.template v
-              (rows_over s.names s.body s.template bounds.system s.system_for) least.solves.post);
+          means = stay text tokens stands.front said program.function s.names core.statements noted.reads stands.ended stands.means
+              stands.may_stand;
+          truth = truth;
+          by_c = said_by_c v truth;
         };
       }
 

@@ -7,8 +7,6 @@ use Rattle.lang_tokens.specs.declared.token.Token.{Token}
 use Rattle.lang_tokens.specs.Reading.{Piece, blank, line_comment, block_comment, token, piece_bytes, spelling, AllFit, piece_tokens}
 use Rattle.lang_tokens.specs.Reading.{tokens_from, behind, behind_all}
 use Rattle.lang_tokens.specs.declared.before.Before.{Before}
-use Rattle.lang_grammar.specs.Grammar as g
-use Rattle.lang_grammar.specs.View.{kind_of, token_of, tokens_of}
 
 -- a token with its bytes at its place
 pub record Placed : Type 0 where
@@ -39,9 +37,9 @@ placed_from at (piece ∷ pieces) = piece_placed at piece ++ placed_from (at + l
 abbrev pub lexed : Placed → Token
 lexed placed = record { kind = placed.kind; at = placed.at; len = length placed.bytes }
 
--- the token as the grammar sees it
-abbrev pub parsed : Placed → g.Token
-parsed placed = g.token (kind_of placed.bytes placed.kind) placed.at
+-- a token with its bytes in a text
+abbrev pub placed_of : List ℕ → Token → Placed
+placed_of text t = record { kind = t.kind; bytes = slice_range text t.at (t.at + t.len); at = t.at }
 
 -- the same of one piece
 piece_lexed : (at : ℕ) (piece : Piece) → piece_tokens at piece ≡ map lexed (piece_placed at piece)
@@ -59,35 +57,35 @@ tokens_lexed at (piece ∷ pieces) =
     ∙ sym (map-append lexed (piece_placed at piece) (placed_from next pieces))
 
 -- the bytes between what stands before and what stands after
-range_is : (front bytes after : List ℕ) (at end : ℕ) → length front ≡ at → at + length bytes ≡ end
+pub range_is : (front bytes after : List ℕ) (at end : ℕ) → length front ≡ at → at + length bytes ≡ end
     → slice_range (front ++ (bytes ++ after)) at end ≡ bytes
 range_is front bytes after at end e f =
     let len : end - at ≡ length bytes = omega arith in
     rw (drop_at front (bytes ++ after) at e, len) (take_at bytes after (length bytes) refl)
 
 -- the bytes of one piece
-piece_parsed : (text front after : List ℕ) (at : ℕ) (piece : Piece) → front ++ (piece_bytes piece ++ after) ≡ text → length front ≡ at
-    → tokens_of text (map lexed (piece_placed at piece)) ≡ map parsed (piece_placed at piece)
-piece_parsed text front after at (token kind bytes) e f =
-    rw (← e) (ap (λ (bs : List ℕ). g.token (kind_of bs kind) at ∷ []) (range_is front bytes after at (at + length bytes) f refl))
-piece_parsed text front after at (blank b) e f = refl
-piece_parsed text front after at (line_comment body) e f = refl
-piece_parsed text front after at (block_comment body) e f = refl
+piece_found : (text front after : List ℕ) (at : ℕ) (piece : Piece) → front ++ (piece_bytes piece ++ after) ≡ text → length front ≡ at
+    → map (placed_of text) (map lexed (piece_placed at piece)) ≡ piece_placed at piece
+piece_found text front after at (token kind bytes) e f =
+    rw (← e) (ap (λ (bs : List ℕ). let p : Placed = record { kind = kind; bytes = bs; at = at } in p ∷ [])
+    (range_is front bytes after at (at + length bytes) f refl))
+piece_found text front after at (blank b) e f = refl
+piece_found text front after at (line_comment body) e f = refl
+piece_found text front after at (block_comment body) e f = refl
 
 -- and their bytes are those that stand there
-pub tokens_parsed : (text front : List ℕ) (at : ℕ) (pieces : List Piece) → front ++ spelling pieces ≡ text → length front ≡ at
-    → tokens_of text (map lexed (placed_from at pieces)) ≡ map parsed (placed_from at pieces)
-tokens_parsed text front at [] e f = refl
-tokens_parsed text front at (piece ∷ pieces) e f =
+pub tokens_found : (text front : List ℕ) (at : ℕ) (pieces : List Piece) → front ++ spelling pieces ≡ text → length front ≡ at
+    → map (placed_of text) (map lexed (placed_from at pieces)) ≡ placed_from at pieces
+tokens_found text front at [] e f = refl
+tokens_found text front at (piece ∷ pieces) e f =
     let bytes = piece_bytes piece in
     let next = at + length bytes in
     let here = piece_placed at piece in
     let there = placed_from next pieces in
-    let more = tokens_parsed text (front ++ bytes) next pieces (append_assoc front bytes (spelling pieces) ∙ e)
+    let more = tokens_found text (front ++ bytes) next pieces (append_assoc front bytes (spelling pieces) ∙ e)
     (omega (arith, length-append front bytes)) in
-    ap (tokens_of text) (map-append lexed here there) ∙ (map-append (token_of text) (map lexed here) (map lexed there)
-    ∙ (ap₂ (λ (xs ys : List g.Token). xs ++ ys) (piece_parsed text front (spelling pieces) at piece e f) more
-    ∙ sym (map-append parsed here there)))
+    ap (map (placed_of text)) (map-append lexed here there) ∙ (map-append (placed_of text) (map lexed here) (map lexed there)
+    ∙ ap₂ (λ (xs ys : List Placed). xs ++ ys) (piece_found text front (spelling pieces) at piece e f) more)
 
 -- no tokens of a piece and of what follows
 piece_told : (at : ℕ) (piece : Piece) (more : List Token) → piece_tokens at piece ++ more ≡ [] → (piece_placed at piece ≡ []) × (more ≡ [])

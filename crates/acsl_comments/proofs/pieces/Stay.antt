@@ -1,14 +1,15 @@
 -- The tokens of a text stay when comments are put in.
 use Rattle.std.proofs.Common.{Contains, inl}
-use Rattle.std.proofs.Common.{◌≡◌, inr, ℕ, false, List, [], ◌∷◌, ◌++◌, length, map, refl, ap, ap₂, sym, ◌∙◌, subst₂, arith}
+use Rattle.std.proofs.Common.{◌≡◌, ◌+◌, subst, inr, ℕ, false, List, [], ◌∷◌, ◌++◌, length, map, refl, ap, ap₂, sym, ◌∙◌, subst₂, arith}
 use Rattle.std.proofs.lemmas.List.{append-nil, map-append}
 use Rattle.std.proofs.lemmas.List.Elements.{recursion_from_All, All-weaker, Contains-append_left}
 use Rattle.std.specs.List.{AllByRecursion}
 use Rattle.lang_tokens.specs.declared.token.Token.{Token}
 use Rattle.lang_tokens.specs.declared.before.Before.TheVariants.{Blanks}
 use Rattle.lang_tokens.specs.Reading.{Piece, spelling, AllFit, tokens_from, end_at, Reads}
-use Rattle.lang_grammar.specs.Grammar as g
-use Rattle.lang_grammar.specs.View.{token_of, tokens_of}
+use Rattle.lang_tokens.specs.declared.token.Kind.TheVariants.{End}
+use Rattle.source_grammar.specs.Tokens as g
+use Rattle.source_tokens.specs.View.{bytes_of, kind_of, tokens_of}
 use Rattle.acsl_shift.specs.Moves.{move, moved}
 use Rattle.acsl_comments.specs.Law.{TokensStay, ReadsWith, token_moved_by}
 use Rattle.acsl_comments.specs.Places.{IsEdge, IsGap, IsBehindNoSlash, MayStand}
@@ -16,7 +17,7 @@ use Rattle.acsl_comments.specs.Texts.{moved_by}
 use Rattle.acsl_comments.specs.declared.comment.Comment.{Comment}
 use Rattle.acsl_comments.proofs.pieces.Edges.{MayHold, edge_in, IsClearIn, clear_in}
 use Rattle.acsl_comments.proofs.pieces.Places.{length-with_comments}
-use Rattle.acsl_comments.proofs.pieces.Placed.{Placed, place_at, placed_from, lexed, parsed, tokens_lexed, tokens_parsed}
+use Rattle.acsl_comments.proofs.pieces.Placed.{Placed, place_at, placed_from, lexed, placed_of, tokens_lexed, tokens_found, range_is}
 use Rattle.acsl_comments.proofs.pieces.Steps.{Mixed}
 use Rattle.acsl_comments.proofs.pieces.Whole.{mixed_from}
 
@@ -24,9 +25,9 @@ use Rattle.acsl_comments.proofs.pieces.Whole.{mixed_from}
 abbrev all_tokens : List Piece → List Token
 all_tokens pieces = tokens_from 0 pieces ++ end_at (length (spelling pieces)) ∷ []
 
--- the same as the grammar sees them
-abbrev all_parsed : List Piece → List g.Token
-all_parsed pieces = map parsed (placed_from 0 pieces) ++ g.token g.the_end (length (spelling pieces)) ∷ []
+-- the same, each with its bytes
+abbrev all_placed : List Piece → List Placed
+all_placed pieces = placed_from 0 pieces ++ record { kind = End; bytes = []; at = length (spelling pieces) } ∷ []
 
 -- tokens at other places, as the lexer sees them
 lexed_moved : (comments : List Comment) (ps : List Placed) → map lexed (map (place_at (moved_by comments)) ps)
@@ -34,20 +35,43 @@ lexed_moved : (comments : List Comment) (ps : List Placed) → map lexed (map (p
 lexed_moved comments [] = refl
 lexed_moved comments (p ∷ ps) = ap (λ (ts : List Token). token_moved_by comments (lexed p) ∷ ts) (lexed_moved comments ps)
 
--- tokens at other places, as the grammar sees them
-parsed_moved : (comments : List Comment) (ps : List Placed) → map parsed (map (place_at (moved_by comments)) ps)
-    ≡ moved (moved_by comments) (map parsed ps)
-parsed_moved comments [] = refl
-parsed_moved comments (p ∷ ps) = ap (λ (ts : List g.Token). move (moved_by comments) (parsed p) ∷ ts) (parsed_moved comments ps)
+-- the end of a text has no bytes
+end_bytes : (text : List ℕ) → bytes_of text (end_at (length text)) ≡ []
+end_bytes text = let P : List ℕ → Type 0 = λ l. bytes_of l (end_at (length text)) ≡ [] in
+    subst P (append-nil text) (range_is text [] [] (length text) (length text + 0) refl refl)
 
--- what the tokens are to the grammar
-all_tokens_parsed : (pieces : List Piece) → tokens_of (spelling pieces) (all_tokens pieces) ≡ all_parsed pieces
-all_tokens_parsed pieces =
+-- what the tokens are with their bytes
+all_tokens_placed : (pieces : List Piece) → map (placed_of (spelling pieces)) (all_tokens pieces) ≡ all_placed pieces
+all_tokens_placed pieces =
     let text = spelling pieces in
-    let first : tokens_of text (tokens_from 0 pieces) ≡ map parsed (placed_from 0 pieces) =
-    ap (tokens_of text) (tokens_lexed 0 pieces) ∙ tokens_parsed text [] 0 pieces refl refl in
-    map-append (token_of text) (tokens_from 0 pieces) (end_at (length text) ∷ [])
-    ∙ ap (λ (ts : List g.Token). ts ++ g.token g.the_end (length text) ∷ []) first
+    let first : map (placed_of text) (tokens_from 0 pieces) ≡ placed_from 0 pieces =
+    ap (map (placed_of text)) (tokens_lexed 0 pieces) ∙ tokens_found text [] 0 pieces refl refl in
+    map-append (placed_of text) (tokens_from 0 pieces) (end_at (length text) ∷ [])
+    ∙ ap₂ (λ (ps : List Placed) (bs : List ℕ). ps ++ record { kind = End; bytes = bs; at = length text } ∷ []) first (end_bytes text)
+
+-- the bytes of tokens that stand so
+bytes_placed : (text : List ℕ) (ts : List Token) → map (bytes_of text) ts ≡ map (λ (p : Placed). p.bytes) (map (placed_of text) ts)
+bytes_placed text [] = refl
+bytes_placed text (t ∷ ts) = ap (λ (bs : List (List ℕ)). bytes_of text t ∷ bs) (bytes_placed text ts)
+
+-- tokens at other places have their bytes
+bytes_moved : (to : ℕ → ℕ) (ps : List Placed) → map (λ (p : Placed). p.bytes) (map (place_at to) ps) ≡ map (λ (p : Placed). p.bytes) ps
+bytes_moved to [] = refl
+bytes_moved to (p ∷ ps) = ap (λ (bs : List (List ℕ)). p.bytes ∷ bs) (bytes_moved to ps)
+
+-- a token as the grammar sees it
+abbrev parsed : Placed → g.Token
+parsed p = g.token (kind_of p.bytes p.kind) p.at
+
+-- tokens as the grammar sees them
+parsed_placed : (text : List ℕ) (ts : List Token) → tokens_of text ts ≡ map parsed (map (placed_of text) ts)
+parsed_placed text [] = refl
+parsed_placed text (t ∷ ts) = ap (λ (ps : List g.Token). parsed (placed_of text t) ∷ ps) (parsed_placed text ts)
+
+-- tokens at other places, as the grammar sees them
+parsed_moved : (to : ℕ → ℕ) (ps : List Placed) → map parsed (map (place_at to) ps) ≡ moved to (map parsed ps)
+parsed_moved to [] = refl
+parsed_moved to (p ∷ ps) = ap (λ (ts : List g.Token). move to (parsed p) ∷ ts) (parsed_moved to ps)
 
 module _ (pieces : List Piece) (comments : List Comment) (fit : AllFit Blanks pieces [])
     (stand : MayStand (spelling pieces) (all_tokens pieces) comments) where
@@ -98,14 +122,12 @@ module _ (pieces : List Piece) (comments : List Comment) (fit : AllFit Blanks pi
       ap₂ (λ (ts : List Token) (n : ℕ). ts ++ end_at n ∷ []) front end_moved
       ∙ sym (map-append (token_moved_by comments) (tokens_from 0 pieces) (end_at (length (spelling pieces)) ∷ []))
 
-  -- and so are the grammar's
-  parsed_too : all_parsed mixed.now ≡ moved (moved_by comments) (all_parsed pieces)
-  parsed_too =
-      let front : map parsed (placed_from 0 mixed.now) ≡ moved (moved_by comments) (map parsed (placed_from 0 pieces)) =
-      ap (map parsed) told ∙ parsed_moved comments (placed_from 0 pieces) in
-      ap₂ (λ (ts : List g.Token) (n : ℕ). ts ++ g.token g.the_end n ∷ []) front end_moved
-      ∙ sym (map-append (move (moved_by comments)) (map parsed (placed_from 0 pieces))
-      (g.token g.the_end (length (spelling pieces)) ∷ []))
+  -- and so are they with their bytes
+  placed_too : all_placed mixed.now ≡ map (place_at (moved_by comments)) (all_placed pieces)
+  placed_too =
+      ap₂ (λ (ps : List Placed) (n : ℕ). ps ++ record { kind = End; bytes = []; at = n } ∷ []) told end_moved
+      ∙ sym (map-append (place_at (moved_by comments)) (placed_from 0 pieces)
+      (record { kind = End; bytes = []; at = length (spelling pieces) } ∷ []))
 
   -- they read as their tokens
   reads_now : Reads (spelling mixed.now) (all_tokens mixed.now)
@@ -116,16 +138,32 @@ module _ (pieces : List Piece) (comments : List Comment) (fit : AllFit Blanks pi
   }
 
   -- the text of the pieces has the tokens that were there before, moved
-  same_now : tokens_of (spelling mixed.now) (all_tokens mixed.now) ≡ moved (moved_by comments)
-      (tokens_of (spelling pieces) (all_tokens pieces))
-  same_now = all_tokens_parsed mixed.now ∙ (parsed_too ∙ ap (moved (moved_by comments)) (sym (all_tokens_parsed pieces)))
+  same_now : map (placed_of (spelling mixed.now)) (all_tokens mixed.now)
+      ≡ map (place_at (moved_by comments)) (map (placed_of (spelling pieces)) (all_tokens pieces))
+  same_now = all_tokens_placed mixed.now ∙ (placed_too ∙ ap (map (place_at (moved_by comments))) (sym (all_tokens_placed pieces)))
+
+  -- their bytes are the same
+  bytes_now : map (bytes_of (spelling mixed.now)) (all_tokens mixed.now) ≡ map (bytes_of (spelling pieces)) (all_tokens pieces)
+  bytes_now = bytes_placed (spelling mixed.now) (all_tokens mixed.now)
+      ∙ (ap (map (λ (p : Placed). p.bytes)) same_now
+      ∙ (bytes_moved (moved_by comments) (map (placed_of (spelling pieces)) (all_tokens pieces))
+      ∙ sym (bytes_placed (spelling pieces) (all_tokens pieces))))
+
+  -- so are they to the grammar, but for their places
+  parsed_now : tokens_of (spelling mixed.now) (all_tokens mixed.now)
+      ≡ moved (moved_by comments) (tokens_of (spelling pieces) (all_tokens pieces))
+  parsed_now = parsed_placed (spelling mixed.now) (all_tokens mixed.now)
+      ∙ (ap (map parsed) same_now ∙ (parsed_moved (moved_by comments) (map (placed_of (spelling pieces)) (all_tokens pieces))
+      ∙ ap (moved (moved_by comments)) (sym (parsed_placed (spelling pieces) (all_tokens pieces)))))
 
   -- the tokens of a text that is given by its pieces stay
   stay_spelled : ReadsWith (spelling pieces) (all_tokens pieces) comments
   stay_spelled = record {
     reads = subst₂ Reads mixed.spelled tokens_moved reads_now;
+    bytes = subst₂ (λ (text : List ℕ) (tokens : List Token). map (bytes_of text) tokens
+        ≡ map (bytes_of (spelling pieces)) (all_tokens pieces)) mixed.spelled tokens_moved bytes_now;
     same = subst₂ (λ (text : List ℕ) (tokens : List Token). tokens_of text tokens
-        ≡ moved (moved_by comments) (tokens_of (spelling pieces) (all_tokens pieces))) mixed.spelled tokens_moved same_now;
+        ≡ moved (moved_by comments) (tokens_of (spelling pieces) (all_tokens pieces))) mixed.spelled tokens_moved parsed_now;
   }
 
 -- The tokens of a text stay.

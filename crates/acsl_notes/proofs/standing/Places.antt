@@ -7,7 +7,7 @@ use Rattle.flow_systems.specs.Equations.{Vector}
 use Rattle.flow_edges.specs.declared.point.Point.{Point}
 use Rattle.lang_tokens.specs.declared.token.Token.{Token}
 use Rattle.lang_tree.specs.Word.{is_word}
-use Rattle.acsl_comments.specs.Places.{Ascend, IsEdge, IsGap}
+use Rattle.acsl_comments.specs.Places.{Ascend, IsEdge, IsGap, IsBehindNoSlash}
 use Rattle.acsl_comments.specs.declared.comment.Comment.{Comment}
 use Rattle.acsl_anchors.specs.Anchors.{Anchor, anchors_of}
 use Rattle.acsl_anchors.specs.Laws.{AnchorsStand, is_anchored}
@@ -15,7 +15,6 @@ use Rattle.acsl_notes.specs.Clauses.{Clause, clauses}
 use Rattle.acsl_notes.specs.Laws.{CommentsMayStand}
 use Rattle.acsl_notes.specs.Texts.{comment_unless_silent, comment_at, comments_from, indentation}
 use Rattle.acsl_notes.proofs.standing.Plain.{ArePlain, word_plain}
-use Rattle.acsl_notes.proofs.standing.Slashes.{no_slash}
 use Rattle.acsl_notes.proofs.standing.Said.{comment_gap, indented}
 
 -- ---- order
@@ -90,6 +89,13 @@ module _ (text : List ℕ) (names : List (List ℕ)) (template : List (List ℤ)
   unless_edges tokens anchor [] comments e h = h
   unless_edges tokens anchor (clause ∷ said) comments e h = All-cons (λ c. IsEdge tokens c.place) _ comments e h
 
+  -- none stands right behind a `/`, as the anchor doesn't
+  unless_apart : (tokens : List Token) (anchor : Anchor) (said : List Clause) (comments : List Comment)
+      → IsBehindNoSlash tokens anchor.place → All (λ c. IsBehindNoSlash tokens c.place) comments
+      → All (λ c. IsBehindNoSlash tokens c.place) (comment_unless_silent text names anchor said ++ comments)
+  unless_apart tokens anchor [] comments e h = h
+  unless_apart tokens anchor (clause ∷ said) comments e h = All-cons (λ c. IsBehindNoSlash tokens c.place) _ comments e h
+
   -- its bytes are a gap
   unless_gaps : ArePlain names → (anchor : Anchor) (said : List Clause) (comments : List Comment) → Unit {0}
       → All (λ c. IsGap c.bytes) comments → All (λ c. IsGap c.bytes) (comment_unless_silent text names anchor said ++ comments)
@@ -106,13 +112,14 @@ words_plain (name ∷ names) h =
 
 -- where anchors stand, comments may
 pub comments_stand : AnchorsStand → CommentsMayStand
-comments_stand stand text tokens p names points template v reads means words =
-    let s = stand text tokens p reads means in
+comments_stand stand text tokens front first end f names points template v reads ended means words =
+    let s = stand text tokens front first end f reads ended means in
     record {
-      order = comments_order text names template v 0 points (anchors_of p) 0 (length text) s.order;
+      order = comments_order text names template v 0 points (anchors_of f) 0 (length text) s.order;
       edges = comments_all text names template v (λ a. IsEdge tokens a.place) (λ c. IsEdge tokens c.place)
-          (unless_edges text names template v tokens) 0 points (anchors_of p) s.edges;
+          (unless_edges text names template v tokens) 0 points (anchors_of f) s.edges;
       gaps = comments_all text names template v (λ a. Unit {0}) (λ c. IsGap c.bytes)
-          (unless_gaps text names template v (words_plain names words)) 0 points (anchors_of p) (λ k d lt. tt);
-      apart = λ k d lt t listed slash end. no_slash text tokens p means t listed slash;
+          (unless_gaps text names template v (words_plain names words)) 0 points (anchors_of f) (λ k d lt. tt);
+      apart = comments_all text names template v (λ a. IsBehindNoSlash tokens a.place) (λ c. IsBehindNoSlash tokens c.place)
+          (unless_apart text names template v tokens) 0 points (anchors_of f) s.apart;
     }

@@ -1,7 +1,7 @@
 -- Texts without the byte `/`, which is 47, and with `\`, which is 92, before an `f` alone.
 use Rattle.std.proofs.Common.{◌≡◌, ◌==◌, ◌+◌, ◌/◌, ◌%◌, ℕ, suc, zero, ℤ, pos, negsuc, nat_abs, Bool, true, false, not, ◌&&◌, ◌||◌, ◌<◌}
 use Rattle.std.proofs.Common.{◌≤◌, List, [], ◌∷◌}
-use Rattle.std.proofs.Common.{◌++◌, length, refl, ap, sym, ◌∙◌, arith, ne_eqb, subst, decimal}
+use Rattle.std.proofs.Common.{◌++◌, length, refl, ap, sym, arith, ne_eqb, subst, decimal}
 use Rattle.std.specs.Prelude.{if◌then◌else◌, nat_le}
 use Rattle.std.specs.Fmt.{digits, digits_onto, digit_glyph, signed_decimal}
 use Rattle.std.specs.Bool.{nat_lt}

@@ -17,7 +17,7 @@ use Rattle.lang_tokens.specs.Lines.{line_at}
 use Rattle.lang_tokens.specs.Reading.{Reads, spelling, tokens_from, end_at}
 use Rattle.lang_tokens.proofs.lexemes.Heads.{heads}
 use Rattle.lang_grammar.specs.Grammar as g
-use Rattle.lang_grammar.specs.Grammar.{Expr, spell_expr, Relation}
+use Rattle.lang_grammar.specs.Grammar.{spell_expr, Relation}
 use Rattle.lang_grammar.specs.View.{token_of, tokens_of}
 use Rattle.lang_grammar.specs.Machine.{run}
 use Rattle.lang_grammar.specs.Depth.{opens_expr}

@@ -1,24 +1,40 @@
 -- A tree declares as many variables at other places.
-use Rattle.std.proofs.Common.{◌≡◌, ℕ, suc, refl, ap, arith}
-use Rattle.lang_grammar.specs.Grammar.{Declarators, declares, declares_more, ForFirst, no_first, declared_first, updated_first, Core, empty}
-use Rattle.lang_grammar.specs.Grammar.{block, if_alone}
-use Rattle.lang_grammar.specs.Grammar.{if_else, repeat, repeat_after, repeat_for, jumps, demands, updates, Sub, labelled, plain, Items}
-use Rattle.lang_grammar.specs.Grammar.{no_items, label}
-use Rattle.lang_grammar.specs.Grammar.{declaration, item}
-use Rattle.lang_meaning.specs.Walk.{declared_in, declared_before, declared_core, declared_sub, declared_items}
-use Rattle.acsl_shift.proofs.moves.Trees.{move_declarators, move_first, move_core, move_sub, move_items}
+use Rattle.std.proofs.Common.{◌≡◌, ◌+◌, ℕ, suc, min, refl, ap, ap₂}
+use Rattle.lang_tree.specs.declared.limits.TheConstants.{MOST_VARIABLES}
+use Rattle.source_grammar.specs.Grammar.{Initialiser, bare, given, sized, Declarator, declarator, MoreDeclarators, last_declarator}
+use Rattle.source_grammar.specs.Grammar.{next_declarator, Declarators, declares, ForFirst, declared_first, updated_first, Core, Sub, Items}
+use Rattle.source_grammar.specs.Grammar.{empty, block, if_alone, if_else, repeat, repeat_after, repeat_for, jumps, returns, demands, calls}
+use Rattle.source_grammar.specs.Grammar.{updates, labelled, plain, no_items, label, declaration, item, MoreParameters, last_parameter}
+use Rattle.source_grammar.specs.Grammar.{next_parameter, Parameters, no_parameters, void_parameters, int_parameters, Function, function}
+use Rattle.source_meaning.specs.Walk.{declared_by, declared_one, declared_more, declared_in, declared_before, declared_core, declared_sub}
+use Rattle.source_meaning.specs.Walk.{declared_items, declared_after, declared_parameters, width_of}
+use Rattle.acsl_shift.proofs.moves.Trees.{move_initialiser, move_declarator, move_more_declarators, move_declarators, move_first, move_core}
+use Rattle.acsl_shift.proofs.moves.Trees.{move_sub, move_items, move_more_parameters, move_parameters, move_function}
 
 module _ (to : ℕ → ℕ) where
-  -- declarators
-  same_in : (xs : Declarators) → declared_in (move_declarators to xs) ≡ declared_in xs
-  same_in (declares x c) = refl
-  same_in (declares_more x c xs) = ap suc (same_in xs)
+  -- what stands behind a declared name
+  same_by : (i : Initialiser) → declared_by (move_initialiser to i) ≡ declared_by i
+  same_by bare = refl
+  same_by (given a e) = refl
+  same_by (sized a n b c) = refl
 
-  -- the first part of a `for`
+  -- a name
+  same_one : (x : Declarator) → declared_one (move_declarator to x) ≡ declared_one x
+  same_one (declarator x a i) = same_by i
+
+  -- those behind the first
+  same_more : (xs : MoreDeclarators) → declared_more (move_more_declarators to xs) ≡ declared_more xs
+  same_more last_declarator = refl
+  same_more (next_declarator a x xs) = ap₂ (λ (y z : ℕ). y + z) (same_one x) (same_more xs)
+
+  -- names
+  same_in : (xs : Declarators) → declared_in (move_declarators to xs) ≡ declared_in xs
+  same_in (declares x xs) = ap₂ (λ (y z : ℕ). y + z) (same_one x) (same_more xs)
+
+  -- the first part of a `for`'s head
   same_before : (f : ForFirst) → declared_before (move_first to f) ≡ declared_before f
-  same_before (no_first a) = refl
   same_before (declared_first a xs) = same_in xs
-  same_before (updated_first u a) = refl
+  same_before (updated_first us) = refl
 
   mutual
     -- a statement without labels
@@ -26,12 +42,14 @@ module _ (to : ℕ → ℕ) where
     same_core (empty a) = refl
     same_core (block a is b) = same_items is
     same_core (if_alone a b e c s) = same_sub s
-    same_core (if_else a b e c s d t) = omega (arith, same_sub s, same_sub t)
+    same_core (if_else a b e c s d t) = ap₂ (λ (y z : ℕ). y + z) (same_sub s) (same_sub t)
     same_core (repeat a b e c s) = same_sub s
     same_core (repeat_after a s b c e d i) = same_sub s
-    same_core (repeat_for a b f t l s) = omega (arith, same_before f, same_sub s)
+    same_core (repeat_for a b f c t d us i s) = ap₂ (λ (y z : ℕ). y + z) (same_before f) (same_sub s)
     same_core (jumps j a b) = refl
+    same_core (returns a t b) = refl
     same_core (demands k a b e c d) = refl
+    same_core (calls x a b es c d) = refl
     same_core (updates u c) = refl
 
     -- a statement with its labels
@@ -39,9 +57,24 @@ module _ (to : ℕ → ℕ) where
     same_sub (labelled x a b s) = same_sub s
     same_sub (plain c) = same_core c
 
-    -- the items of a block
-    pub same_items : (is : Items) → declared_items (move_items to is) ≡ declared_items is
+    -- the statements of a block
+    same_items : (is : Items) → declared_items (move_items to is) ≡ declared_items is
     same_items no_items = refl
     same_items (label x a b is) = same_items is
-    same_items (declaration a xs is) = omega (arith, same_in xs, same_items is)
-    same_items (item c is) = omega (arith, same_core c, same_items is)
+    same_items (declaration a xs b is) = ap₂ (λ (y z : ℕ). y + z) (same_in xs) (same_items is)
+    same_items (item c is) = ap₂ (λ (y z : ℕ). y + z) (same_core c) (same_items is)
+
+  -- the parameters behind the first
+  same_after : (ps : MoreParameters) → declared_after (move_more_parameters to ps) ≡ declared_after ps
+  same_after last_parameter = refl
+  same_after (next_parameter a b x c ps) = ap suc (same_after ps)
+
+  -- parameters
+  same_parameters : (ps : Parameters) → declared_parameters (move_parameters to ps) ≡ declared_parameters ps
+  same_parameters no_parameters = refl
+  same_parameters (void_parameters a) = refl
+  same_parameters (int_parameters a x b ps) = ap suc (same_after ps)
+
+  -- a function
+  pub same_width : (f : Function) → width_of (move_function to f) ≡ width_of f
+  same_width (function ss f a ps b c is d) = ap₂ (λ (y z : ℕ). min MOST_VARIABLES (y + z)) (same_parameters ps) (same_items is)

@@ -1,28 +1,32 @@
 -- A tree at other places is spelled by the tokens at those places, and is good where it was.
 use Rattle.std.proofs.Common.{◌≡◌, ◌∙◌, ◌++◌, ℕ, suc, List, [], ◌∷◌, refl, ap, ap₂, sym}
 use Rattle.std.proofs.lemmas.List.{map-append}
-use Rattle.lang_grammar.specs.Grammar.{level, a_name, a_number, infix_sign, change_sign, replaces, left_paren, right_paren, left_brace}
-use Rattle.lang_grammar.specs.Grammar.{right_brace, comma, semicolon, colon}
-use Rattle.lang_grammar.specs.Grammar.{int_word, main_word, if_word, else_word, while_word, do_word, for_word, demand_word, the_end, Token}
-use Rattle.lang_grammar.specs.Grammar.{token}
-use Rattle.lang_grammar.specs.Grammar.{Expr, number, variable, free, grouped, prefixed, joined, spell_expr, Groups, sign_of}
-use Rattle.lang_grammar.specs.Grammar.{Declarator, bare, given, Declarators, declares, declares_more, spell_declarator, spell_declarators}
-use Rattle.lang_grammar.specs.Grammar.{GoodDeclarator}
-use Rattle.lang_grammar.specs.Grammar.{GoodDeclarators, Update, set, step_after, step_before, ForFirst, no_first, declared_first}
-use Rattle.lang_grammar.specs.Grammar.{updated_first, ForTest}
-use Rattle.lang_grammar.specs.Grammar.{no_test, given_test, ForLast, no_last, updated_last, spell_update, spell_first, spell_test}
-use Rattle.lang_grammar.specs.Grammar.{spell_last, GoodUpdate}
-use Rattle.lang_grammar.specs.Grammar.{GoodFirst, GoodTest, GoodLast, Core, empty, block, if_alone, if_else, repeat, repeat_after}
-use Rattle.lang_grammar.specs.Grammar.{repeat_for, jumps}
-use Rattle.lang_grammar.specs.Grammar.{demands, updates, Sub, labelled, plain, Items, no_items, label, declaration, item, spell_core}
-use Rattle.lang_grammar.specs.Grammar.{spell_sub, spell_items}
-use Rattle.lang_grammar.specs.Grammar.{ending_core, ending_sub, GoodCore, GoodSub, GoodItems, Parameters, nothing, void_at, Return}
-use Rattle.lang_grammar.specs.Grammar.{no_return, returns}
-use Rattle.lang_grammar.specs.Grammar.{returns_minus, spell_parameters, spell_return, Program, program, spell, Good, Reads}
+use Rattle.source_grammar.specs.Tokens.{a_name, a_number, infix_sign, question, colon, left_paren, right_paren, left_brace, right_brace}
+use Rattle.source_grammar.specs.Tokens.{left_bracket, right_bracket, comma, semicolon, change_sign, step_sign, int_word, void_word}
+use Rattle.source_grammar.specs.Tokens.{main_word, storage_word, if_word, else_word, while_word, do_word, for_word, jump_word, return_word}
+use Rattle.source_grammar.specs.Tokens.{demand_word, nondet_word, Token, token, sign_of, level, replaces}
+use Rattle.source_grammar.specs.Grammar.{Expr, Arguments, MoreArguments, Optional, Index, Place, Effect, Update, MoreUpdates, Updates}
+use Rattle.source_grammar.specs.Grammar.{Initialiser, Declarator, MoreDeclarators, Declarators, ForFirst, Core, Sub, Items, Specifiers}
+use Rattle.source_grammar.specs.Grammar.{FunctionName, MoreParameters, Parameters, Function, number, variable, element, call, free, grouped}
+use Rattle.source_grammar.specs.Grammar.{prefixed, joined, chosen, no_arguments, arguments, last_argument, next_argument, absent, present}
+use Rattle.source_grammar.specs.Grammar.{no_index, index, place, assigns, steps, update, step_before, last_update, next_update, no_updates}
+use Rattle.source_grammar.specs.Grammar.{some_updates, bare, given, sized, declarator, last_declarator, next_declarator, declares}
+use Rattle.source_grammar.specs.Grammar.{declared_first, updated_first, empty, block, if_alone, if_else, repeat, repeat_after, repeat_for}
+use Rattle.source_grammar.specs.Grammar.{jumps, returns, demands, calls, updates, labelled, plain, no_items, label, declaration, item}
+use Rattle.source_grammar.specs.Grammar.{gives_int, gives_void, storage, called, called_main, last_parameter, next_parameter, no_parameters}
+use Rattle.source_grammar.specs.Grammar.{void_parameters, int_parameters, function, spell_expr, spell_arguments, spell_more_arguments}
+use Rattle.source_grammar.specs.Grammar.{spell_optional, spell_index, spell_place, spell_effect, spell_update, spell_more_updates}
+use Rattle.source_grammar.specs.Grammar.{spell_updates, spell_initialiser, spell_declarator, spell_more_declarators, spell_declarators}
+use Rattle.source_grammar.specs.Grammar.{spell_first, spell_core, spell_sub, spell_items, spell_specifiers, spell_function_name}
+use Rattle.source_grammar.specs.Grammar.{spell_more_parameters, spell_parameters, spell, Groups, GoodArguments, GoodMoreArguments}
+use Rattle.source_grammar.specs.Grammar.{GoodOptional, GoodIndex, GoodPlace, GoodEffect, GoodUpdate, GoodMoreUpdates, GoodUpdates}
+use Rattle.source_grammar.specs.Grammar.{GoodInitialiser, GoodDeclarator, GoodMoreDeclarators, GoodDeclarators, GoodFirst, GoodCore}
+use Rattle.source_grammar.specs.Grammar.{GoodSub, GoodItems, Good, ending_core, ending_sub, Reads}
 use Rattle.acsl_shift.specs.Moves.{move, moved}
-use Rattle.acsl_shift.proofs.moves.Trees.{move_expr, move_declarator, move_declarators, move_update, move_first, move_test, move_last}
-use Rattle.acsl_shift.proofs.moves.Trees.{move_core}
-use Rattle.acsl_shift.proofs.moves.Trees.{move_sub, move_items, move_parameters, move_return, move_program}
+use Rattle.acsl_shift.proofs.moves.Trees.{move_expr, move_arguments, move_more_arguments, move_optional, move_index, move_place}
+use Rattle.acsl_shift.proofs.moves.Trees.{move_effect, move_update, move_more_updates, move_updates, move_initialiser, move_declarator}
+use Rattle.acsl_shift.proofs.moves.Trees.{move_more_declarators, move_declarators, move_first, move_core, move_sub, move_items}
+use Rattle.acsl_shift.proofs.moves.Trees.{move_specifiers, move_function_name, move_more_parameters, move_parameters, move_function}
 
 -- tokens, and the same at other places
 record Moved (to : ℕ → ℕ) (tokens now : List Token) : Type 0 where
@@ -42,187 +46,297 @@ module _ (to : ℕ → ℕ) where
   after {xs = xs} {ys = ys} e f = record { same = ap₂ (λ x y. x ++ y) e.same f.same ∙ sym (map-append (move to) xs ys) }
 
   -- ---- spelling
-  -- an expression
-  spelled_expr : (e : Expr) → Moved to (spell_expr e) (spell_expr (move_expr to e))
-  spelled_expr (number n a) = behind (token (a_number n) a) none
-  spelled_expr (variable x a) = behind (token (a_name x) a) none
-  spelled_expr (free a b c) = record { same = refl }
-  spelled_expr (grouped a e b) = behind (token left_paren a) (after (spelled_expr e) (behind (token right_paren b) none))
-  spelled_expr (prefixed p a e) = behind (token (sign_of p) a) (spelled_expr e)
-  spelled_expr (joined e o a f) = after (spelled_expr e) (behind (token (infix_sign o) a) (spelled_expr f))
+  mutual
+    -- an expression
+    spelled_expr : (x : Expr) → Moved to (spell_expr x) (spell_expr (move_expr to x))
+    spelled_expr (number n a) = behind (token (a_number n) a) none
+    spelled_expr (variable x a) = behind (token (a_name x) a) none
+    spelled_expr (element x a b e c) =
+        behind (token (a_name x) a) (behind (token left_bracket b) (after (spelled_expr e) (behind (token right_bracket c) none)))
+    spelled_expr (call x a b es c) =
+        behind (token (a_name x) a) (behind (token left_paren b) (after (spelled_arguments es) (behind (token right_paren c) none)))
+    spelled_expr (free a b c) = behind (token nondet_word a) (behind (token left_paren b) (behind (token right_paren c) none))
+    spelled_expr (grouped a e b) = behind (token left_paren a) (after (spelled_expr e) (behind (token right_paren b) none))
+    spelled_expr (prefixed p a e) = behind (token (sign_of p) a) (spelled_expr e)
+    spelled_expr (joined e o a f) = after (spelled_expr e) (behind (token (infix_sign o) a) (spelled_expr f))
+    spelled_expr (chosen c a e b f) =
+        after (spelled_expr c) (behind (token question a) (after (spelled_expr e) (behind (token colon b) (spelled_expr f))))
 
-  -- a declarator
+    -- arguments
+    spelled_arguments : (x : Arguments) → Moved to (spell_arguments x) (spell_arguments (move_arguments to x))
+    spelled_arguments no_arguments = none
+    spelled_arguments (arguments e es) = after (spelled_expr e) (spelled_more_arguments es)
+
+    -- the arguments behind the first
+    spelled_more_arguments : (x : MoreArguments) → Moved to (spell_more_arguments x) (spell_more_arguments (move_more_arguments to x))
+    spelled_more_arguments last_argument = none
+    spelled_more_arguments (next_argument a e es) = behind (token comma a) (after (spelled_expr e) (spelled_more_arguments es))
+
+  -- an expression that may be absent
+  spelled_optional : (x : Optional) → Moved to (spell_optional x) (spell_optional (move_optional to x))
+  spelled_optional absent = none
+  spelled_optional (present e) = spelled_expr e
+
+  -- the brackets of an element
+  spelled_index : (x : Index) → Moved to (spell_index x) (spell_index (move_index to x))
+  spelled_index no_index = none
+  spelled_index (index a e b) = behind (token left_bracket a) (after (spelled_expr e) (behind (token right_bracket b) none))
+
+  -- a variable or an element that is changed
+  spelled_place : (x : Place) → Moved to (spell_place x) (spell_place (move_place to x))
+  spelled_place (place x a i) = behind (token (a_name x) a) (spelled_index i)
+
+  -- what is done to it
+  spelled_effect : (x : Effect) → Moved to (spell_effect x) (spell_effect (move_effect to x))
+  spelled_effect (assigns g a e) = behind (token (change_sign g) a) (spelled_expr e)
+  spelled_effect (steps g a) = behind (token (step_sign g) a) none
+
+  -- a change
+  spelled_update : (x : Update) → Moved to (spell_update x) (spell_update (move_update to x))
+  spelled_update (update p f) = after (spelled_place p) (spelled_effect f)
+  spelled_update (step_before g a p) = behind (token (step_sign g) a) (spelled_place p)
+
+  -- the changes behind the first
+  spelled_more_updates : (x : MoreUpdates) → Moved to (spell_more_updates x) (spell_more_updates (move_more_updates to x))
+  spelled_more_updates last_update = none
+  spelled_more_updates (next_update a u us) = behind (token comma a) (after (spelled_update u) (spelled_more_updates us))
+
+  -- changes in order
+  spelled_updates : (x : Updates) → Moved to (spell_updates x) (spell_updates (move_updates to x))
+  spelled_updates no_updates = none
+  spelled_updates (some_updates u us) = after (spelled_update u) (spelled_more_updates us)
+
+  -- what stands behind a declared name
+  spelled_initialiser : (x : Initialiser) → Moved to (spell_initialiser x) (spell_initialiser (move_initialiser to x))
+  spelled_initialiser bare = none
+  spelled_initialiser (given a e) = behind (token (change_sign replaces) a) (spelled_expr e)
+  spelled_initialiser (sized a n b c) = behind (token left_bracket a) (behind (token (a_number n) b) (behind (token right_bracket c) none))
+
+  -- a name that is declared
   spelled_declarator : (x : Declarator) → Moved to (spell_declarator x) (spell_declarator (move_declarator to x))
-  spelled_declarator (bare x a) = record { same = refl }
-  spelled_declarator (given x a b e) = behind (token (a_name x) a) (behind (token (change_sign replaces) b) (spelled_expr e))
+  spelled_declarator (declarator x a i) = behind (token (a_name x) a) (spelled_initialiser i)
 
-  -- declarators
-  spelled_declarators : (xs : Declarators) → Moved to (spell_declarators xs) (spell_declarators (move_declarators to xs))
-  spelled_declarators (declares x a) = after (spelled_declarator x) (behind (token semicolon a) none)
-  spelled_declarators (declares_more x a xs) = after (spelled_declarator x) (behind (token comma a) (spelled_declarators xs))
+  -- the names behind the first
+  spelled_more_declarators : (x : MoreDeclarators) → Moved to (spell_more_declarators x)
+      (spell_more_declarators (move_more_declarators to x))
+  spelled_more_declarators last_declarator = none
+  spelled_more_declarators (next_declarator a x xs) = behind (token comma a) (after (spelled_declarator x) (spelled_more_declarators xs))
 
-  -- an assignment or a step
-  spelled_update : (u : Update) → Moved to (spell_update u) (spell_update (move_update to u))
-  spelled_update (set x a g b e) = behind (token (a_name x) a) (behind (token (change_sign g) b) (spelled_expr e))
-  spelled_update (step_after x a g b) = record { same = refl }
-  spelled_update (step_before g a x b) = record { same = refl }
+  -- names that are declared
+  spelled_declarators : (x : Declarators) → Moved to (spell_declarators x) (spell_declarators (move_declarators to x))
+  spelled_declarators (declares x xs) = after (spelled_declarator x) (spelled_more_declarators xs)
 
-  -- the first part of a `for`
-  spelled_first : (f : ForFirst) → Moved to (spell_first f) (spell_first (move_first to f))
-  spelled_first (no_first a) = record { same = refl }
+  -- the first part of a `for`'s head
+  spelled_first : (x : ForFirst) → Moved to (spell_first x) (spell_first (move_first to x))
   spelled_first (declared_first a xs) = behind (token int_word a) (spelled_declarators xs)
-  spelled_first (updated_first u a) = after (spelled_update u) (behind (token semicolon a) none)
-
-  -- the condition of a `for`
-  spelled_test : (t : ForTest) → Moved to (spell_test t) (spell_test (move_test to t))
-  spelled_test (no_test a) = record { same = refl }
-  spelled_test (given_test e a) = after (spelled_expr e) (behind (token semicolon a) none)
-
-  -- the change of a `for`
-  spelled_last : (l : ForLast) → Moved to (spell_last l) (spell_last (move_last to l))
-  spelled_last (no_last a) = record { same = refl }
-  spelled_last (updated_last u a) = after (spelled_update u) (behind (token right_paren a) none)
+  spelled_first (updated_first us) = spelled_updates us
 
   mutual
     -- a statement without labels
-    spelled_core : (c : Core) → Moved to (spell_core c) (spell_core (move_core to c))
-    spelled_core (empty a) = record { same = refl }
+    spelled_core : (x : Core) → Moved to (spell_core x) (spell_core (move_core to x))
+    spelled_core (empty a) = behind (token semicolon a) none
     spelled_core (block a is b) = behind (token left_brace a) (after (spelled_items is) (behind (token right_brace b) none))
     spelled_core (if_alone a b e c s) =
         behind (token if_word a) (behind (token left_paren b) (after (spelled_expr e) (behind (token right_paren c) (spelled_sub s))))
-    spelled_core (if_else a b e c s d t) =
-        behind (token if_word a) (behind (token left_paren b) (after (spelled_expr e) (behind (token right_paren c)
-        (after (spelled_sub s) (behind (token else_word d) (spelled_sub t))))))
+    spelled_core (if_else a b e c s d t) = behind (token if_word a)
+        (behind (token left_paren b) (after (spelled_expr e)
+        (behind (token right_paren c) (after (spelled_sub s) (behind (token else_word d) (spelled_sub t))))))
     spelled_core (repeat a b e c s) =
         behind (token while_word a) (behind (token left_paren b) (after (spelled_expr e) (behind (token right_paren c) (spelled_sub s))))
-    spelled_core (repeat_after a s b c e d i) =
-        behind (token do_word a) (after (spelled_sub s) (behind (token while_word b) (behind (token left_paren c)
+    spelled_core (repeat_after a s b c e d i) = behind (token do_word a)
+        (after (spelled_sub s) (behind (token while_word b) (behind (token left_paren c)
         (after (spelled_expr e) (behind (token right_paren d) (behind (token semicolon i) none))))))
-    spelled_core (repeat_for a b f t l s) =
-        behind (token for_word a) (behind (token left_paren b)
-        (after (spelled_first f) (after (spelled_test t) (after (spelled_last l) (spelled_sub s)))))
-    spelled_core (jumps j a b) = record { same = refl }
-    spelled_core (demands k a b e c d) =
-        behind (token (demand_word k) a) (behind (token left_paren b) (after (spelled_expr e)
-        (behind (token right_paren c) (behind (token semicolon d) none))))
+    spelled_core (repeat_for a b f c t d us i s) = behind (token for_word a)
+        (behind (token left_paren b) (after (spelled_first f)
+        (behind (token semicolon c) (after (spelled_optional t)
+        (behind (token semicolon d) (after (spelled_updates us) (behind (token right_paren i) (spelled_sub s))))))))
+    spelled_core (jumps j a b) = behind (token (jump_word j) a) (behind (token semicolon b) none)
+    spelled_core (returns a t b) = behind (token return_word a) (after (spelled_optional t) (behind (token semicolon b) none))
+    spelled_core (demands k a b e c d) = behind (token (demand_word k) a)
+        (behind (token left_paren b) (after (spelled_expr e) (behind (token right_paren c) (behind (token semicolon d) none))))
+    spelled_core (calls x a b es c d) = behind (token (a_name x) a)
+        (behind (token left_paren b) (after (spelled_arguments es) (behind (token right_paren c) (behind (token semicolon d) none))))
     spelled_core (updates u c) = after (spelled_update u) (behind (token semicolon c) none)
 
     -- a statement with its labels
-    spelled_sub : (s : Sub) → Moved to (spell_sub s) (spell_sub (move_sub to s))
+    spelled_sub : (x : Sub) → Moved to (spell_sub x) (spell_sub (move_sub to x))
     spelled_sub (labelled x a b s) = behind (token (a_name x) a) (behind (token colon b) (spelled_sub s))
     spelled_sub (plain c) = spelled_core c
 
-    -- the items of a block
-    spelled_items : (is : Items) → Moved to (spell_items is) (spell_items (move_items to is))
-    spelled_items no_items = record { same = refl }
+    -- the statements of a block
+    spelled_items : (x : Items) → Moved to (spell_items x) (spell_items (move_items to x))
+    spelled_items no_items = none
     spelled_items (label x a b is) = behind (token (a_name x) a) (behind (token colon b) (spelled_items is))
-    spelled_items (declaration a xs is) = behind (token int_word a) (after (spelled_declarators xs) (spelled_items is))
+    spelled_items (declaration a xs b is) =
+        behind (token int_word a) (after (spelled_declarators xs) (behind (token semicolon b) (spelled_items is)))
     spelled_items (item c is) = after (spelled_core c) (spelled_items is)
 
-  -- what stands between the parentheses of `main`
-  spelled_parameters : (ps : Parameters) → Moved to (spell_parameters ps) (spell_parameters (move_parameters to ps))
-  spelled_parameters nothing = record { same = refl }
-  spelled_parameters (void_at a) = record { same = refl }
+  -- what stands before a function's name
+  spelled_specifiers : (x : Specifiers) → Moved to (spell_specifiers x) (spell_specifiers (move_specifiers to x))
+  spelled_specifiers (gives_int a) = behind (token int_word a) none
+  spelled_specifiers (gives_void a) = behind (token void_word a) none
+  spelled_specifiers (storage a ss) = behind (token storage_word a) (spelled_specifiers ss)
 
-  -- how `main` ends
-  spelled_return : (r : Return) → Moved to (spell_return r) (spell_return (move_return to r))
-  spelled_return no_return = record { same = refl }
-  spelled_return (returns a n b c) = record { same = refl }
-  spelled_return (returns_minus a b n c d) = record { same = refl }
+  -- a function's name
+  spelled_function_name : (x : FunctionName) → Moved to (spell_function_name x) (spell_function_name (move_function_name to x))
+  spelled_function_name (called x a) = behind (token (a_name x) a) none
+  spelled_function_name (called_main a) = behind (token main_word a) none
 
-  -- a program
-  spelled_program : (p : Program) → Moved to (spell p) (spell (move_program to p))
-  spelled_program (program a b c ps d e is r f g) =
-      behind (token int_word a) (behind (token main_word b) (behind (token left_paren c) (after (spelled_parameters ps)
-      (behind (token right_paren d) (behind (token left_brace e) (after (spelled_items is)
-      (after (spelled_return r) (behind (token right_brace f) (behind (token the_end g) none)))))))))
+  -- the parameters behind the first
+  spelled_more_parameters : (x : MoreParameters) → Moved to (spell_more_parameters x) (spell_more_parameters (move_more_parameters to x))
+  spelled_more_parameters last_parameter = none
+  spelled_more_parameters (next_parameter a b x c ps) =
+      behind (token comma a) (behind (token int_word b) (behind (token (a_name x) c) (spelled_more_parameters ps)))
+
+  -- parameters
+  spelled_parameters : (x : Parameters) → Moved to (spell_parameters x) (spell_parameters (move_parameters to x))
+  spelled_parameters no_parameters = none
+  spelled_parameters (void_parameters a) = behind (token void_word a) none
+  spelled_parameters (int_parameters a x b ps) = behind (token int_word a) (behind (token (a_name x) b) (spelled_more_parameters ps))
+
+  -- a function
+  spelled_function : (x : Function) → Moved to (spell x) (spell (move_function to x))
+  spelled_function (function ss n a ps b c is d) = after (spelled_specifiers ss)
+      (after (spelled_function_name n) (behind (token left_paren a)
+      (after (spelled_parameters ps) (behind (token right_paren b)
+      (behind (token left_brace c) (after (spelled_items is) (behind (token right_brace d) none)))))))
 
   -- ---- grouping
-  -- an expression
-  moved_groups : (l : ℕ) (e : Expr) → Groups l e → Groups l (move_expr to e)
-  moved_groups l (number n a) g = tt
-  moved_groups l (variable x a) g = tt
-  moved_groups l (free a b c) g = tt
-  moved_groups l (grouped a e b) g = moved_groups 0 e g
-  moved_groups l (prefixed p a e) g = moved_groups 6 e g
-  moved_groups l (joined e o a f) g = (g.0, moved_groups (level o) e g.1, moved_groups (suc (level o)) f g.2)
+  mutual
+    -- an expression
+    moved_groups : (l : ℕ) (x : Expr) → Groups l x → Groups l (move_expr to x)
+    moved_groups l (number n a) h = tt
+    moved_groups l (variable x a) h = tt
+    moved_groups l (element x a b e c) h = moved_groups 0 e h
+    moved_groups l (call x a b es c) h = good_arguments es h
+    moved_groups l (free a b c) h = tt
+    moved_groups l (grouped a e b) h = moved_groups 0 e h
+    moved_groups l (prefixed p a e) h = moved_groups 7 e h
+    moved_groups l (joined e o a f) h = (h.0, moved_groups (level o) e h.1, moved_groups (suc (level o)) f h.2)
+    moved_groups l (chosen c a e b f) h = (h.0, moved_groups 1 c h.1, moved_groups 0 e h.2, moved_groups 0 f h.3)
 
-  -- a declarator
+    -- arguments
+    good_arguments : (x : Arguments) → GoodArguments x → GoodArguments (move_arguments to x)
+    good_arguments no_arguments h = tt
+    good_arguments (arguments e es) h = (moved_groups 0 e h.0, good_more_arguments es h.1)
+
+    -- the arguments behind the first
+    good_more_arguments : (x : MoreArguments) → GoodMoreArguments x → GoodMoreArguments (move_more_arguments to x)
+    good_more_arguments last_argument h = tt
+    good_more_arguments (next_argument a e es) h = (moved_groups 0 e h.0, good_more_arguments es h.1)
+
+  -- an expression that may be absent
+  good_optional : (x : Optional) → GoodOptional x → GoodOptional (move_optional to x)
+  good_optional absent h = tt
+  good_optional (present e) h = moved_groups 0 e h
+
+  -- the brackets of an element
+  good_index : (x : Index) → GoodIndex x → GoodIndex (move_index to x)
+  good_index no_index h = tt
+  good_index (index a e b) h = moved_groups 0 e h
+
+  -- a variable or an element that is changed
+  good_place : (x : Place) → GoodPlace x → GoodPlace (move_place to x)
+  good_place (place x a i) h = good_index i h
+
+  -- what is done to it
+  good_effect : (x : Effect) → GoodEffect x → GoodEffect (move_effect to x)
+  good_effect (assigns g a e) h = moved_groups 0 e h
+  good_effect (steps g a) h = tt
+
+  -- a change
+  good_update : (x : Update) → GoodUpdate x → GoodUpdate (move_update to x)
+  good_update (update p f) h = (good_place p h.0, good_effect f h.1)
+  good_update (step_before g a p) h = good_place p h
+
+  -- the changes behind the first
+  good_more_updates : (x : MoreUpdates) → GoodMoreUpdates x → GoodMoreUpdates (move_more_updates to x)
+  good_more_updates last_update h = tt
+  good_more_updates (next_update a u us) h = (good_update u h.0, good_more_updates us h.1)
+
+  -- changes in order
+  good_updates : (x : Updates) → GoodUpdates x → GoodUpdates (move_updates to x)
+  good_updates no_updates h = tt
+  good_updates (some_updates u us) h = (good_update u h.0, good_more_updates us h.1)
+
+  -- what stands behind a declared name
+  good_initialiser : (x : Initialiser) → GoodInitialiser x → GoodInitialiser (move_initialiser to x)
+  good_initialiser bare h = tt
+  good_initialiser (given a e) h = moved_groups 0 e h
+  good_initialiser (sized a n b c) h = tt
+
+  -- a name that is declared
   good_declarator : (x : Declarator) → GoodDeclarator x → GoodDeclarator (move_declarator to x)
-  good_declarator (bare x a) g = tt
-  good_declarator (given x a b e) g = moved_groups 0 e g
+  good_declarator (declarator x a i) h = good_initialiser i h
 
-  -- declarators
-  good_declarators : (xs : Declarators) → GoodDeclarators xs → GoodDeclarators (move_declarators to xs)
-  good_declarators (declares x a) g = good_declarator x g
-  good_declarators (declares_more x a xs) g = (good_declarator x g.0, good_declarators xs g.1)
+  -- the names behind the first
+  good_more_declarators : (x : MoreDeclarators) → GoodMoreDeclarators x → GoodMoreDeclarators (move_more_declarators to x)
+  good_more_declarators last_declarator h = tt
+  good_more_declarators (next_declarator a x xs) h = (good_declarator x h.0, good_more_declarators xs h.1)
 
-  -- an assignment or a step
-  good_update : (u : Update) → GoodUpdate u → GoodUpdate (move_update to u)
-  good_update (set x a h b e) g = moved_groups 0 e g
-  good_update (step_after x a h b) g = tt
-  good_update (step_before h a x b) g = tt
+  -- names that are declared
+  good_declarators : (x : Declarators) → GoodDeclarators x → GoodDeclarators (move_declarators to x)
+  good_declarators (declares x xs) h = (good_declarator x h.0, good_more_declarators xs h.1)
 
-  -- the first part of a `for`
-  good_first : (f : ForFirst) → GoodFirst f → GoodFirst (move_first to f)
-  good_first (no_first a) g = tt
-  good_first (declared_first a xs) g = good_declarators xs g
-  good_first (updated_first u a) g = good_update u g
-
-  -- the condition of a `for`
-  good_test : (t : ForTest) → GoodTest t → GoodTest (move_test to t)
-  good_test (no_test a) g = tt
-  good_test (given_test e a) g = moved_groups 0 e g
-
-  -- the change of a `for`
-  good_last : (l : ForLast) → GoodLast l → GoodLast (move_last to l)
-  good_last (no_last a) g = tt
-  good_last (updated_last u a) g = good_update u g
+  -- the first part of a `for`'s head
+  good_first : (x : ForFirst) → GoodFirst x → GoodFirst (move_first to x)
+  good_first (declared_first a xs) h = good_declarators xs h
+  good_first (updated_first us) h = good_updates us h
 
   mutual
-    -- whether an `if` at the very end of a statement has no `else`
-    same_ending_core : (c : Core) → ending_core (move_core to c) ≡ ending_core c
+    -- whether an `if` at the very end of a statement without labels has no `else`
+    same_ending_core : (x : Core) → ending_core (move_core to x) ≡ ending_core x
+    same_ending_core (empty a) = refl
+    same_ending_core (block a is b) = refl
+    same_ending_core (if_alone a b e c s) = refl
     same_ending_core (if_else a b e c s d t) = same_ending_sub t
     same_ending_core (repeat a b e c s) = same_ending_sub s
-    same_ending_core (repeat_for a b f t l s) = same_ending_sub s
-    same_ending_core _ = refl
+    same_ending_core (repeat_after a s b c e d i) = refl
+    same_ending_core (repeat_for a b f c t d us i s) = same_ending_sub s
+    same_ending_core (jumps j a b) = refl
+    same_ending_core (returns a t b) = refl
+    same_ending_core (demands k a b e c d) = refl
+    same_ending_core (calls x a b es c d) = refl
+    same_ending_core (updates u c) = refl
 
-    -- the same behind labels
-    same_ending_sub : (s : Sub) → ending_sub (move_sub to s) ≡ ending_sub s
+    -- whether an `if` at the very end of a statement with its labels has no `else`
+    same_ending_sub : (x : Sub) → ending_sub (move_sub to x) ≡ ending_sub x
     same_ending_sub (labelled x a b s) = same_ending_sub s
     same_ending_sub (plain c) = same_ending_core c
 
   mutual
     -- a statement without labels
-    good_core : (c : Core) → GoodCore c → GoodCore (move_core to c)
-    good_core (empty a) g = tt
-    good_core (block a is b) g = good_items is g
-    good_core (if_alone a b e c s) g = (moved_groups 0 e g.0, good_sub s g.1)
-    good_core (if_else a b e c s d t) g = (moved_groups 0 e g.0, good_sub s g.1, same_ending_sub s ∙ g.2, good_sub t g.3)
-    good_core (repeat a b e c s) g = (moved_groups 0 e g.0, good_sub s g.1)
-    good_core (repeat_after a s b c e d i) g = (good_sub s g.0, moved_groups 0 e g.1)
-    good_core (repeat_for a b f t l s) g = (good_first f g.0, good_test t g.1, good_last l g.2, good_sub s g.3)
-    good_core (jumps j a b) g = tt
-    good_core (demands k a b e c d) g = moved_groups 0 e g
-    good_core (updates u c) g = good_update u g
+    good_core : (x : Core) → GoodCore x → GoodCore (move_core to x)
+    good_core (empty a) h = tt
+    good_core (block a is b) h = good_items is h
+    good_core (if_alone a b e c s) h = (moved_groups 0 e h.0, good_sub s h.1)
+    good_core (if_else a b e c s d t) h = (moved_groups 0 e h.0, good_sub s h.1, same_ending_sub s ∙ h.2, good_sub t h.3)
+    good_core (repeat a b e c s) h = (moved_groups 0 e h.0, good_sub s h.1)
+    good_core (repeat_after a s b c e d i) h = (good_sub s h.0, moved_groups 0 e h.1)
+    good_core (repeat_for a b f c t d us i s) h = (good_first f h.0, good_optional t h.1, good_updates us h.2, good_sub s h.3)
+    good_core (jumps j a b) h = tt
+    good_core (returns a t b) h = good_optional t h
+    good_core (demands k a b e c d) h = moved_groups 0 e h
+    good_core (calls x a b es c d) h = good_arguments es h
+    good_core (updates u c) h = good_update u h
 
     -- a statement with its labels
-    good_sub : (s : Sub) → GoodSub s → GoodSub (move_sub to s)
-    good_sub (labelled x a b s) g = good_sub s g
-    good_sub (plain c) g = good_core c g
+    good_sub : (x : Sub) → GoodSub x → GoodSub (move_sub to x)
+    good_sub (labelled x a b s) h = good_sub s h
+    good_sub (plain c) h = good_core c h
 
-    -- the items of a block
-    good_items : (is : Items) → GoodItems is → GoodItems (move_items to is)
-    good_items no_items g = tt
-    good_items (label x a b is) g = good_items is g
-    good_items (declaration a xs is) g = (good_declarators xs g.0, good_items is g.1)
-    good_items (item c is) g = (good_core c g.0, good_items is g.1)
+    -- the statements of a block
+    good_items : (x : Items) → GoodItems x → GoodItems (move_items to x)
+    good_items no_items h = tt
+    good_items (label x a b is) h = good_items is h
+    good_items (declaration a xs b is) h = (good_declarators xs h.0, good_items is h.1)
+    good_items (item c is) h = (good_core c h.0, good_items is h.1)
 
-  -- a program
-  good_program : (p : Program) → Good p → Good (move_program to p)
-  good_program (program a b c ps d e is r f g) h = good_items is h
+  -- a function
+  good_function : (f : Function) → Good f → Good (move_function to f)
+  good_function (function ss n a ps b c is d) h = good_items is h
 
   -- Tokens at other places read as the tree at those places.
-  pub moved_reads : (tokens : List Token) (p : Program) → Reads tokens p → Reads (moved to tokens) (move_program to p)
-  moved_reads tokens p r =
-      record { spelled = (spelled_program p).same ∙ ap (λ (x : List Token). moved to x) r.spelled; good = good_program p r.good }
+  pub moved_reads : (tokens : List Token) (f : Function) → Reads tokens f → Reads (moved to tokens) (move_function to f)
+  moved_reads tokens f r =
+      record { spelled = (spelled_function f).same ∙ ap (λ (x : List Token). moved to x) r.spelled; good = good_function f r.good }

@@ -1,62 +1,109 @@
--- Tokens at other places mean the same program, but for its lines and the places of its checks.
-use Rattle.std.proofs.Common.{◌≡◌, ◌∙◌, ◌∷◌, inl, inr, ℕ, false, List, [], min, Result, Ok, Err, refl, sym, ap}
-use Rattle.lang_tokens.specs.Lines.{line_at}
-use Rattle.lang_grammar.specs.Grammar.{Program, program}
-use Rattle.lang_tree.specs.Tree.{Statements}
-use Rattle.lang_tree.specs.declared.limits.TheConstants.{MOST_VARIABLES}
-use Rattle.lang_meaning.specs.declared.fault.ParseFault.{ParseFault}
-use Rattle.lang_meaning.specs.declared.fault.ParseFault.TheVariants as fault
-use Rattle.lang_meaning.specs.Results.{◌>>=◌}
-use Rattle.lang_meaning.specs.Walk.{State, start_state, walk_items, declared_items, program_of, walk}
-use Rattle.acsl_shift.specs.Moves.{without_lines}
-use Rattle.acsl_shift.specs.Law.{TokensMayMove}
-use Rattle.acsl_shift.proofs.moves.Trees.{move_items, move_program}
+-- Tokens at other places mean the same function, but for its lines and places.
+use Rattle.std.proofs.Common.{◌≡◌, ◌∙◌, ◌∷◌, ℕ, false, List, [], length, reverse, Result, Ok, Err, refl, sym, ap, subst}
+use Rattle.source_grammar.specs.Grammar.{MoreParameters, last_parameter, next_parameter, Parameters, no_parameters, void_parameters}
+use Rattle.source_grammar.specs.Grammar.{int_parameters, Function, function}
+use Rattle.source_tree.specs.Statements.{Statements}
+use Rattle.source_core.specs.Core.{core_in}
+use Rattle.source_meaning.specs.declared.fault.FunctionFault.{FunctionFault}
+use Rattle.source_meaning.specs.declared.fault.FunctionFault.TheVariants.{NoVariables}
+use Rattle.source_meaning.specs.Results.{◌>>=◌}
+use Rattle.source_meaning.specs.Names.{State, start_state, with_variable}
+use Rattle.source_meaning.specs.Limits.{counted}
+use Rattle.source_meaning.specs.Statements.{followed_by, read_items}
+use Rattle.source_meaning.specs.Walk.{variables_of, width_of, read_parameter, read_more_parameters, read_parameters, function_of, walk}
+use Rattle.acsl_shift.specs.Sources.{without_places}
+use Rattle.acsl_shift.specs.Law.{Stays, TokensMayMove}
+use Rattle.acsl_shift.proofs.moves.Trees.{move_items, move_more_parameters, move_parameters, move_function}
+use Rattle.acsl_shift.proofs.moves.Twice.{nowhere, twice_function}
 use Rattle.acsl_shift.proofs.moves.Spelled.{moved_reads}
-use Rattle.acsl_shift.proofs.moves.Nesting.{moved_fine}
-use Rattle.acsl_shift.proofs.moves.Kept.{Kept, kept_ok, kept_err, alike_then, kept_answer}
-use Rattle.acsl_shift.proofs.moves.Declared.{same_items}
-use Rattle.acsl_shift.proofs.moves.Walked.{kept_items}
+use Rattle.acsl_shift.proofs.moves.Declared.{same_width}
+use Rattle.acsl_shift.proofs.moves.Seen.{seen, Seen, seen_ok, seen_then, seen_counted}
+use Rattle.acsl_shift.proofs.moves.Parts.{followed_without, lines, seen_with_variable}
+use Rattle.acsl_shift.proofs.moves.Cores.{cores_same}
+use Rattle.acsl_shift.proofs.moves.Walked.{seen_items}
 
--- the same variables, and statements that are the same but for their lines and the places of their checks
-abbrev AlikeNamed : List (List ℕ) × Statements → List (List ℕ) × Statements → Type 0
-AlikeNamed x y = (y.0 ≡ x.0) × (without_lines y.1 ≡ without_lines x.1)
+-- variables, and statements without their lines and places
+abbrev named : List (List ℕ) × Statements → List (List ℕ) × Statements
+named r = (r.0, without_places r.1)
 
--- there has to be a variable
-kept_program : (st : State) (ns ms : Statements) → without_lines ms ≡ without_lines ns
-    → Kept AlikeNamed (program_of (st, ns)) (program_of (st, ms))
-kept_program st ns ms h = by_names st.names where
-  by_names : (names : List (List ℕ)) → Kept AlikeNamed
-      (elim names as (λ z. Result (List (List ℕ) × Statements) ParseFault) [ [] ↦ Err fault.NoVariables | x ∷ xs ↦ Ok (x ∷ xs, ns) ])
-      (elim names as (λ z. Result (List (List ℕ) × Statements) ParseFault) [ [] ↦ Err fault.NoVariables | x ∷ xs ↦ Ok (x ∷ xs, ms) ])
-  by_names [] = kept_err AlikeNamed fault.NoVariables (Err fault.NoVariables)
-  by_names (x ∷ xs) = kept_ok AlikeNamed (x ∷ xs, ns) (x ∷ xs, ms) (refl, h)
+module _ (line : ℕ → ℕ) where
+  -- a parameter
+  seen_parameter : (st : State) (x : List ℕ) (at : ℕ) → Seen lines (read_parameter line st x at) (read_parameter nowhere st x 0)
+  seen_parameter st x at =
+      seen_then (λ z. z) lines (with_variable x at st) (with_variable x 0 st) _ _ (seen_with_variable x at st) (λ now.
+      seen_then (λ z. z) lines (counted at 1 now) (counted 0 1 now) _ _ (seen_counted at 1 1 now refl) (λ now. record { same = refl }))
 
--- The walk by other lines of a program at other places answers the same, but for the lines and the places of checks.
-walk_moved : (line other to : ℕ → ℕ) (p : Program) (x : List (List ℕ) × Statements) → walk line p ≡ Ok x
-    → (y : List (List ℕ) × Statements) × (walk other (move_program to p) ≡ Ok y) × AlikeNamed x y
-walk_moved line other to (program a b c ps d e is r f g) x h =
-    let width = min MOST_VARIABLES (declared_items is) in
-    let at : ℕ → Result (List (List ℕ) × Statements) ParseFault = λ n. walk_items other n false (move_items to is) start_state
-    >>= λ q. program_of q in
-    let met =
-    kept_answer AlikeNamed (walk_items line width false is start_state >>= λ q. program_of q) (at width) x
-    (alike_then without_lines AlikeNamed (walk_items line width false is start_state)
-    (walk_items other width false (move_items to is) start_state) _ _
-    (kept_items to line other width false is start_state) (λ st ns ms i. kept_program st ns ms i)) h in
-    (met.0, ap (λ n. at (min MOST_VARIABLES n)) (same_items to is) ∙ met.1, met.2)
+  -- the parameters behind the first
+  seen_more_parameters : (st : State) (ps : MoreParameters)
+      → Seen lines (read_more_parameters line st ps) (read_more_parameters nowhere st (move_more_parameters nowhere ps))
+  seen_more_parameters st last_parameter = record { same = refl }
+  seen_more_parameters st (next_parameter a b x at ps) =
+      seen_then lines lines (read_parameter line st x at) (read_parameter nowhere st x 0) _ _ (seen_parameter st x at) (λ r.
+      seen_then lines lines (read_more_parameters line r.0 ps) (read_more_parameters nowhere r.0 (move_more_parameters nowhere ps)) _ _
+      (seen_more_parameters r.0 ps)
+      (λ q. seen_ok lines _ _ (ap (λ (z : Statements). let w : State × Statements = (q.0, z) in w) (followed_without r.1 q.1))))
 
--- Tokens that mean a program mean it at other places.
-pub tokens_may_move : TokensMayMove
-tokens_may_move text other to tokens names body (inl (a, f, e)) = cc
-tokens_may_move text other to tokens names body (inr (inl (a, f, e))) = cc
-tokens_may_move text other to tokens names body (inr (inr (p, r, f, e))) =
-    let met = walk_moved (line_at text) (line_at other) to p (names, body) (sym e) in (
-      met.0.1,
-      inr (inr (
-        move_program to p,
-        moved_reads to tokens p r,
-        moved_fine to tokens p r f,
-        ap (λ (n : List (List ℕ)). Ok (n, met.0.1)) (sym met.2.0) ∙ sym met.1,
-      )),
-      met.2.1,
+  -- the parameters
+  seen_parameters : (st : State) (ps : Parameters)
+      → Seen lines (read_parameters line st ps) (read_parameters nowhere st (move_parameters nowhere ps))
+  seen_parameters st no_parameters = record { same = refl }
+  seen_parameters st (void_parameters a) = record { same = refl }
+  seen_parameters st (int_parameters a x at ps) =
+      seen_then lines lines (read_parameter line st x at) (read_parameter nowhere st x 0) _ _ (seen_parameter st x at) (λ r.
+      seen_then lines lines (read_more_parameters line r.0 ps) (read_more_parameters nowhere r.0 (move_more_parameters nowhere ps)) _ _
+      (seen_more_parameters r.0 ps)
+      (λ q. seen_ok lines _ _ (ap (λ (z : Statements). let w : State × Statements = (q.0, z) in w) (followed_without r.1 q.1))))
+
+  -- there has to be a variable
+  seen_function_of : (st : State) (body now : Statements) → without_places body ≡ now
+      → Seen named (function_of line st body) (function_of nowhere st now)
+  seen_function_of st body now h = by_names (reverse (variables_of st.names)) where
+    by_names : (names : List (List ℕ)) → Seen named
+        (elim names as (λ z. Result (List (List ℕ) × Statements) FunctionFault) [ [] ↦ Err NoVariables | x ∷ xs ↦ Ok (x ∷ xs, body) ])
+        (elim names as (λ z. Result (List (List ℕ) × Statements) FunctionFault) [ [] ↦ Err NoVariables | x ∷ xs ↦ Ok (x ∷ xs, now) ])
+    by_names [] = record { same = refl }
+    by_names (x ∷ xs) = seen_ok named _ _ (ap (λ (z : Statements). let w : List (List ℕ) × Statements = (x ∷ xs, z) in w) h)
+
+  -- A function at one place means what it means, without lines and places.
+  seen_walk : (f : Function) → Seen named (walk line f) (walk nowhere (move_function nowhere f))
+  seen_walk (function ss f a ps b c is d) =
+      let n = width_of (function ss f a ps b c is d) in
+      let at : ℕ → Result (List (List ℕ) × Statements) FunctionFault = λ m. read_parameters nowhere start_state (move_parameters nowhere ps)
+      >>= λ p. read_items nowhere m false p.0 (move_items nowhere is) >>= λ r. function_of nowhere r.0 (followed_by p.1 r.1) in
+      let P : ℕ → Type 0 = λ m. Seen named (walk line (function ss f a ps b c is d)) (at m) in
+      subst P (sym (same_width nowhere (function ss f a ps b c is d)))
+      (seen_then lines named (read_parameters line start_state ps) (read_parameters nowhere start_state (move_parameters nowhere ps)) _ _
+      (seen_parameters start_state ps) (λ p.
+      seen_then lines named (read_items line n false p.0 is) (read_items nowhere n false p.0 (move_items nowhere is)) _ _
+      (seen_items line n false p.0 is) (λ r. seen_function_of r.0 (followed_by p.1 r.1) _ (followed_without p.1 r.1))))
+
+-- what was seen of an answer that is a value
+answer_seen : (r : Result (List (List ℕ) × Statements) FunctionFault) (names : List (List ℕ)) (body : Statements)
+    → seen named r ≡ Ok (names, body) → (now : Statements) × (r ≡ Ok (names, now)) × (without_places now ≡ body)
+answer_seen (Ok x) names body h =
+    let same : named x ≡ (let w : List (List ℕ) × Statements = (names, body) in w) = cc in (
+      x.1,
+      ap (λ (z : List (List ℕ)). let r : Result (List (List ℕ) × Statements) FunctionFault = Ok (z, x.1) in r)
+          (ap (λ (z : List (List ℕ) × Statements). z.0) same),
+      ap (λ (z : List (List ℕ) × Statements). z.1) same,
     )
+answer_seen (Err e) names body h = cc
+
+-- A function at other places means the same.
+stays : (to line other : ℕ → ℕ) (f : Function) (names : List (List ℕ)) (body : Statements) → walk line f ≡ Ok (names, body)
+    → Stays other (move_function to f) names body
+stays to line other f names body h =
+    let same = (seen_walk other (move_function to f)).same ∙ ap (λ (g : Function). walk nowhere g) (twice_function to f)
+    ∙ sym (seen_walk line f).same ∙ ap (λ (r : Result (List (List ℕ) × Statements) FunctionFault). seen named r) h in
+    let (now, means, e) = answer_seen (walk other (move_function to f)) names (without_places body) same in
+    record {
+      now = now;
+      means = means;
+      same = e;
+      core = cores_same (length names) now ∙ ap (λ (ss : Statements). core_in (length names) ss) e ∙ sym (cores_same (length names) body);
+    }
+
+-- Tokens that read as a function read as the same one at other places.
+pub tokens_may_move : TokensMayMove
+tokens_may_move to tokens f r =
+    (move_function to f, moved_reads to tokens f r, λ line other names body h. stays to line other f names body h)

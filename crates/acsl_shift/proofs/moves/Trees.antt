@@ -1,102 +1,150 @@
--- A program's tree whose tokens stand at other places.
+-- A function's tree whose tokens stand at other places.
 use Rattle.std.proofs.Common.{ℕ}
-use Rattle.lang_grammar.specs.Grammar.{Expr, number, variable, free, grouped, prefixed, joined, Declarator, bare, given, Declarators}
-use Rattle.lang_grammar.specs.Grammar.{declares}
-use Rattle.lang_grammar.specs.Grammar.{declares_more, Update, set, step_after, step_before, ForFirst, no_first, declared_first}
-use Rattle.lang_grammar.specs.Grammar.{updated_first, ForTest}
-use Rattle.lang_grammar.specs.Grammar.{no_test, given_test, ForLast, no_last, updated_last, Core, empty, block, if_alone, if_else, repeat}
-use Rattle.lang_grammar.specs.Grammar.{repeat_after}
-use Rattle.lang_grammar.specs.Grammar.{repeat_for, jumps, demands, updates, Sub, labelled, plain, Items, no_items, label, declaration, item}
-use Rattle.lang_grammar.specs.Grammar.{Parameters}
-use Rattle.lang_grammar.specs.Grammar.{nothing, void_at, Return, no_return, returns, returns_minus, Program, program}
-use Rattle.lang_meaning.specs.Walk.{Value, a_form, a_truth, a_nondet}
+use Rattle.source_grammar.specs.Grammar.{Expr, Arguments, MoreArguments, Optional, Index, Place, Effect, Update, MoreUpdates, Updates}
+use Rattle.source_grammar.specs.Grammar.{Initialiser, Declarator, MoreDeclarators, Declarators, ForFirst, Core, Sub, Items, Specifiers}
+use Rattle.source_grammar.specs.Grammar.{FunctionName, MoreParameters, Parameters, Function, number, variable, element, call, free, grouped}
+use Rattle.source_grammar.specs.Grammar.{prefixed, joined, chosen, no_arguments, arguments, last_argument, next_argument, absent, present}
+use Rattle.source_grammar.specs.Grammar.{no_index, index, place, assigns, steps, update, step_before, last_update, next_update, no_updates}
+use Rattle.source_grammar.specs.Grammar.{some_updates, bare, given, sized, declarator, last_declarator, next_declarator, declares}
+use Rattle.source_grammar.specs.Grammar.{declared_first, updated_first, empty, block, if_alone, if_else, repeat, repeat_after, repeat_for}
+use Rattle.source_grammar.specs.Grammar.{jumps, returns, demands, calls, updates, labelled, plain, no_items, label, declaration, item}
+use Rattle.source_grammar.specs.Grammar.{gives_int, gives_void, storage, called, called_main, last_parameter, next_parameter, no_parameters}
+use Rattle.source_grammar.specs.Grammar.{void_parameters, int_parameters, function}
 
 module _ (to : ℕ → ℕ) where
-  -- an expression at other places
-  abbrev pub move_expr : Expr → Expr
-  move_expr (number n a) = number n (to a)
-  move_expr (variable x a) = variable x (to a)
-  move_expr (free a b c) = free (to a) (to b) (to c)
-  move_expr (grouped a e b) = grouped (to a) (move_expr e) (to b)
-  move_expr (prefixed p a e) = prefixed p (to a) (move_expr e)
-  move_expr (joined e o a f) = joined (move_expr e) o (to a) (move_expr f)
+  abbrev mutual
+    -- an expression at other places
+    pub move_expr : Expr → Expr
+    move_expr (number a b) = number a (to b)
+    move_expr (variable a b) = variable a (to b)
+    move_expr (element a b c d e) = element a (to b) (to c) (move_expr d) (to e)
+    move_expr (call a b c d e) = call a (to b) (to c) (move_arguments d) (to e)
+    move_expr (free a b c) = free (to a) (to b) (to c)
+    move_expr (grouped a b c) = grouped (to a) (move_expr b) (to c)
+    move_expr (prefixed a b c) = prefixed a (to b) (move_expr c)
+    move_expr (joined a b c d) = joined (move_expr a) b (to c) (move_expr d)
+    move_expr (chosen a b c d e) = chosen (move_expr a) (to b) (move_expr c) (to d) (move_expr e)
 
-  -- a declarator at other places
-  abbrev pub move_declarator : Declarator → Declarator
-  move_declarator (bare x a) = bare x (to a)
-  move_declarator (given x a b e) = given x (to a) (to b) (move_expr e)
+    -- arguments at other places
+    pub move_arguments : Arguments → Arguments
+    move_arguments no_arguments = no_arguments
+    move_arguments (arguments a b) = arguments (move_expr a) (move_more_arguments b)
 
-  -- declarators at other places
-  abbrev pub move_declarators : Declarators → Declarators
-  move_declarators (declares x a) = declares (move_declarator x) (to a)
-  move_declarators (declares_more x a xs) = declares_more (move_declarator x) (to a) (move_declarators xs)
+    -- the arguments behind the first at other places
+    pub move_more_arguments : MoreArguments → MoreArguments
+    move_more_arguments last_argument = last_argument
+    move_more_arguments (next_argument a b c) = next_argument (to a) (move_expr b) (move_more_arguments c)
 
-  -- an assignment or a step at other places
+  -- an expression that may be absent at other places
+  abbrev pub move_optional : Optional → Optional
+  move_optional absent = absent
+  move_optional (present a) = present (move_expr a)
+
+  -- the brackets of an element at other places
+  abbrev pub move_index : Index → Index
+  move_index no_index = no_index
+  move_index (index a b c) = index (to a) (move_expr b) (to c)
+
+  -- a variable or an element that is changed at other places
+  abbrev pub move_place : Place → Place
+  move_place (place a b c) = place a (to b) (move_index c)
+
+  -- what is done to it at other places
+  abbrev pub move_effect : Effect → Effect
+  move_effect (assigns a b c) = assigns a (to b) (move_expr c)
+  move_effect (steps a b) = steps a (to b)
+
+  -- a change at other places
   abbrev pub move_update : Update → Update
-  move_update (set x a g b e) = set x (to a) g (to b) (move_expr e)
-  move_update (step_after x a g b) = step_after x (to a) g (to b)
-  move_update (step_before g a x b) = step_before g (to a) x (to b)
+  move_update (update a b) = update (move_place a) (move_effect b)
+  move_update (step_before a b c) = step_before a (to b) (move_place c)
 
-  -- the first part of a `for` at other places
+  -- the changes behind the first at other places
+  abbrev pub move_more_updates : MoreUpdates → MoreUpdates
+  move_more_updates last_update = last_update
+  move_more_updates (next_update a b c) = next_update (to a) (move_update b) (move_more_updates c)
+
+  -- changes in order at other places
+  abbrev pub move_updates : Updates → Updates
+  move_updates no_updates = no_updates
+  move_updates (some_updates a b) = some_updates (move_update a) (move_more_updates b)
+
+  -- what stands behind a declared name at other places
+  abbrev pub move_initialiser : Initialiser → Initialiser
+  move_initialiser bare = bare
+  move_initialiser (given a b) = given (to a) (move_expr b)
+  move_initialiser (sized a b c d) = sized (to a) b (to c) (to d)
+
+  -- a name that is declared at other places
+  abbrev pub move_declarator : Declarator → Declarator
+  move_declarator (declarator a b c) = declarator a (to b) (move_initialiser c)
+
+  -- the names behind the first at other places
+  abbrev pub move_more_declarators : MoreDeclarators → MoreDeclarators
+  move_more_declarators last_declarator = last_declarator
+  move_more_declarators (next_declarator a b c) = next_declarator (to a) (move_declarator b) (move_more_declarators c)
+
+  -- names that are declared at other places
+  abbrev pub move_declarators : Declarators → Declarators
+  move_declarators (declares a b) = declares (move_declarator a) (move_more_declarators b)
+
+  -- the first part of a `for`'s head at other places
   abbrev pub move_first : ForFirst → ForFirst
-  move_first (no_first a) = no_first (to a)
-  move_first (declared_first a xs) = declared_first (to a) (move_declarators xs)
-  move_first (updated_first u a) = updated_first (move_update u) (to a)
-
-  -- the condition of a `for` at other places
-  abbrev pub move_test : ForTest → ForTest
-  move_test (no_test a) = no_test (to a)
-  move_test (given_test e a) = given_test (move_expr e) (to a)
-
-  -- the change of a `for` at other places
-  abbrev pub move_last : ForLast → ForLast
-  move_last (no_last a) = no_last (to a)
-  move_last (updated_last u a) = updated_last (move_update u) (to a)
+  move_first (declared_first a b) = declared_first (to a) (move_declarators b)
+  move_first (updated_first a) = updated_first (move_updates a)
 
   abbrev mutual
     -- a statement without labels at other places
     pub move_core : Core → Core
     move_core (empty a) = empty (to a)
-    move_core (block a is b) = block (to a) (move_items is) (to b)
-    move_core (if_alone a b e c s) = if_alone (to a) (to b) (move_expr e) (to c) (move_sub s)
-    move_core (if_else a b e c s d t) = if_else (to a) (to b) (move_expr e) (to c) (move_sub s) (to d) (move_sub t)
-    move_core (repeat a b e c s) = repeat (to a) (to b) (move_expr e) (to c) (move_sub s)
-    move_core (repeat_after a s b c e d i) = repeat_after (to a) (move_sub s) (to b) (to c) (move_expr e) (to d) (to i)
-    move_core (repeat_for a b f t l s) = repeat_for (to a) (to b) (move_first f) (move_test t) (move_last l) (move_sub s)
-    move_core (jumps j a b) = jumps j (to a) (to b)
-    move_core (demands k a b e c d) = demands k (to a) (to b) (move_expr e) (to c) (to d)
-    move_core (updates u c) = updates (move_update u) (to c)
+    move_core (block a b c) = block (to a) (move_items b) (to c)
+    move_core (if_alone a b c d e) = if_alone (to a) (to b) (move_expr c) (to d) (move_sub e)
+    move_core (if_else a b c d e f g) = if_else (to a) (to b) (move_expr c) (to d) (move_sub e) (to f) (move_sub g)
+    move_core (repeat a b c d e) = repeat (to a) (to b) (move_expr c) (to d) (move_sub e)
+    move_core (repeat_after a b c d e f g) = repeat_after (to a) (move_sub b) (to c) (to d) (move_expr e) (to f) (to g)
+    move_core (repeat_for a b c d e f g h i) =
+        repeat_for (to a) (to b) (move_first c) (to d) (move_optional e) (to f) (move_updates g) (to h) (move_sub i)
+    move_core (jumps a b c) = jumps a (to b) (to c)
+    move_core (returns a b c) = returns (to a) (move_optional b) (to c)
+    move_core (demands a b c d e f) = demands a (to b) (to c) (move_expr d) (to e) (to f)
+    move_core (calls a b c d e f) = calls a (to b) (to c) (move_arguments d) (to e) (to f)
+    move_core (updates a b) = updates (move_update a) (to b)
 
     -- a statement with its labels at other places
     pub move_sub : Sub → Sub
-    move_sub (labelled x a b s) = labelled x (to a) (to b) (move_sub s)
-    move_sub (plain c) = plain (move_core c)
+    move_sub (labelled a b c d) = labelled a (to b) (to c) (move_sub d)
+    move_sub (plain a) = plain (move_core a)
 
-    -- the items of a block at other places
+    -- the statements of a block at other places
     pub move_items : Items → Items
     move_items no_items = no_items
-    move_items (label x a b is) = label x (to a) (to b) (move_items is)
-    move_items (declaration a xs is) = declaration (to a) (move_declarators xs) (move_items is)
-    move_items (item c is) = item (move_core c) (move_items is)
+    move_items (label a b c d) = label a (to b) (to c) (move_items d)
+    move_items (declaration a b c d) = declaration (to a) (move_declarators b) (to c) (move_items d)
+    move_items (item a b) = item (move_core a) (move_items b)
 
-  -- what stands between the parentheses of `main`, at other places
+  -- what stands before a function's name at other places
+  abbrev pub move_specifiers : Specifiers → Specifiers
+  move_specifiers (gives_int a) = gives_int (to a)
+  move_specifiers (gives_void a) = gives_void (to a)
+  move_specifiers (storage a b) = storage (to a) (move_specifiers b)
+
+  -- a function's name at other places
+  abbrev pub move_function_name : FunctionName → FunctionName
+  move_function_name (called a b) = called a (to b)
+  move_function_name (called_main a) = called_main (to a)
+
+  -- the parameters behind the first at other places
+  abbrev pub move_more_parameters : MoreParameters → MoreParameters
+  move_more_parameters last_parameter = last_parameter
+  move_more_parameters (next_parameter a b c d e) = next_parameter (to a) (to b) c (to d) (move_more_parameters e)
+
+  -- parameters at other places
   abbrev pub move_parameters : Parameters → Parameters
-  move_parameters nothing = nothing
-  move_parameters (void_at a) = void_at (to a)
+  move_parameters no_parameters = no_parameters
+  move_parameters (void_parameters a) = void_parameters (to a)
+  move_parameters (int_parameters a b c d) = int_parameters (to a) b (to c) (move_more_parameters d)
 
-  -- how `main` ends, at other places
-  abbrev pub move_return : Return → Return
-  move_return no_return = no_return
-  move_return (returns a n b c) = returns (to a) n (to b) (to c)
-  move_return (returns_minus a b n c d) = returns_minus (to a) (to b) n (to c) (to d)
-
-  -- a program at other places
-  abbrev pub move_program : Program → Program
-  move_program (program a b c ps d e is r f g) =
-      program (to a) (to b) (to c) (move_parameters ps) (to d) (to e) (move_items is) (move_return r) (to f) (to g)
-
-  -- a value at other places
-  abbrev pub move_value : Value → Value
-  move_value (a_form f first) = a_form f (to first)
-  move_value (a_truth c) = a_truth c
-  move_value (a_nondet a) = a_nondet (to a)
+  -- a function at other places
+  abbrev pub move_function : Function → Function
+  move_function (function a b c d e f g h) =
+      function (move_specifiers a) (move_function_name b) (to c) (move_parameters d) (to e) (to f) (move_items g) (to h)

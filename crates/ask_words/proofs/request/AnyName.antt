@@ -27,6 +27,7 @@ met word = refl
 -- what is found is a program alone
 record FindsAlone (word : Text) (rows : List Row) : Type 0 where
   program : first_of (codes "program") rows ≡ Some word
+  function : first_of (codes "function") rows ≡ None
   domain : first_of (codes "domain") rows ≡ None
   file : first_of (codes "rows") rows ≡ None
   improvements : first_of (codes "improvements") rows ≡ None
@@ -42,6 +43,7 @@ found x rest e = rw (e, no_short x rest e) (
   refl,
   record {
     program = refl;
+    function = refl;
     domain = refl;
     file = refl;
     improvements = refl;
@@ -53,7 +55,7 @@ found x rest e = rw (e, no_short x rest e) (
 -- a program alone is analysed over intervals, and its report is a text
 analysed : (word : Text) (rows : List Row) → FindsAlone word rows
     → solve_in rows ≡ Some (Analyse Report (plain_analysis word Intervals) format.Text)
-analysed word rows f = rw (f.program, f.domain, f.file, f.improvements, f.policy, f.written) refl
+analysed word rows f = rw (f.program, f.function, f.domain, f.file, f.improvements, f.policy, f.written) refl
 
 named : (x : ℕ) (rest : Text) → eqb x 45 ≡ false
     → option_and_then command_in (subcommand_of tmpl_app (codes "solve" ∷ (x ∷ rest) ∷ []))

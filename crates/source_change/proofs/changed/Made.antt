@@ -1,5 +1,5 @@
 -- What the code makes of values.
-use Rattle.std.proofs.Common.{◌≡◌, ◌∙◌, ◌++◌, ◌≤◌, ℕ, Bool, true, false, List, [], Option, Some, None, Result, Ok, Err, refl, sym, ap}
+use Rattle.std.proofs.Common.{◌≡◌, ◌∙◌, ◌++◌, ◌≤◌, ℕ, Bool, true, false, List, [], Option, Some, None, refl, sym, ap}
 use Rattle.std.proofs.Common.{subst}
 use Rattle.std.specs.Prelude.{◌&&◌}
 use Rattle.std.proofs.lemmas.List.{append-nil}
@@ -9,33 +9,16 @@ use Rattle.source_tree.specs.Expressions.{Expression, none, more, joined, number
 use Rattle.source_core.specs.Elaborated as core
 use Rattle.source_core.specs.Elaborated.{elaborated, evaluated}
 use Rattle.source_core.specs.Fits.{fits, deeds_fit, result_fits}
-use Rattle.source_meaning.specs.declared.fault.FunctionFault.TheVariants.{BigNumber}
-use Rattle.source_meaning.specs.Results.{provided}
-use Rattle.source_meaning.specs.Expressions.{ranged}
 use Rattle.source_meaning.specs.Changes.{stepped}
 use Rattle.source_value.specs.Kept.{kept_deeds}
 use Rattle.source_value.specs.Stands.{Stands, StandsEvaluated}
 use Rattle.source_value.specs.declared.value.Value.{Value}
 use Rattle.source_value.specs.declared.value.Evaluated.{Evaluated}
-use Rattle.source_reader.specs.Answers.{Answers}
-use Rattle.source_reader.specs.declared.stop.Stop.{Stop}
-use Rattle.source_reader.specs.declared.stop.Stop.TheVariants.{Fault}
 use Rattle.source_change.specs.declared.deeds.Changed.TheVariants as changed
 use Rattle.source_change.specs.Changed.{Aim, a_variable, an_element, var_of, change_to, StandsChange, step_by}
 use Rattle.source_change.proofs.limited.Limits.{both_true}
-use Rattle.source_change.proofs.limited.Told.{told}
 
 module _ (n line : ℕ) where
-  -- a number in its range
-  pub ranged_ok : (h sign : ℕ) (e : Expression) (v : Value) → Stands n v (elaborated line e h)
-      → Answers (λ (v : Value) x. Stands n v (elaborated line x h)) (Ok v) (ranged line sign h e)
-  ranged_ok h sign e v s = (e, ap (λ b. provided b (BigNumber sign) e) s.numbers, s)
-
-  -- and one that isn't
-  pub ranged_big : {A : Type 0} (Is : A → Expression → Type 0) (s : Stop) (h sign : ℕ) (e : Expression) → s ≡ Fault (BigNumber sign)
-      → fits (elaborated line e h) ≡ false → Answers Is (Err s) (ranged line sign h e)
-  ranged_big Is s h sign e k f = told Is s (BigNumber sign) (ranged line sign h e) k (ap (λ b. provided b (BigNumber sign) e) f)
-
   -- a variable takes a value
   pub to_some : (v : ℕ) (value : Value) (a : Aim) (e : Expression) → Some v ≡ var_of a → Stands n value (elaborated line e n)
       → StandsChange n line (changed.Sets v value) (change_to a e line)

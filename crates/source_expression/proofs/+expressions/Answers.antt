@@ -19,7 +19,7 @@ use Rattle.source_reader.specs.Answers.{Answers}
 use Rattle.source_value.specs.declared.value.Value.{Value}
 use Rattle.source_reader.specs.Reading.{Reading, behind_first, first_kind, first_place}
 use Rattle.source_reader.proofs.Going.{goes_then, passed_goes, same_goes}
-use Rattle.source_expression.specs.Placed.{placed}
+use Rattle.source_reader.specs.Placed.{placed}
 use Rattle.source_expression.specs.Signs.{is_closing, is_comma, is_question, opening_in, prefix_of, sign_in, work_in}
 use Rattle.source_expression.specs.declared.signs.Opening.TheVariants as opening
 use Rattle.source_expression.specs.Sides.{IsRead, IsEvaluatedOf}

@@ -11,7 +11,8 @@ pub(crate) const USAGE: &[u8] =
       | prove PROGRAM CLAIMS (the options of solve) | transitions FILE (the options of solve) \
       | equations FILE [--improvements N] [--policy P] | points PROGRAM | verify PROGRAM (the options of solve) \
       | solve, check, transitions, equations, prove, verify: [--format F] \
-      | solve, certify, prove, verify, transitions, equations: [--progress] | help [COMMAND]\n";
+      | solve, certify, prove, verify, transitions, equations: [--progress] | help [COMMAND] | functions PROGRAM \
+      | solve, certify, check, prove, verify: [--function NAME]\n";
 
 // Lines of words that ask for nothing.
 const NO_REQUESTS: &[&str] = &[
@@ -20,6 +21,10 @@ const NO_REQUESTS: &[&str] = &[
     "check p f --progress",
     "equations p --domain zones",
     "equations",
+    "functions",
+    "functions p f",
+    "functions p --function f",
+    "solve p --function",
     "help annotate",
     "help solve p",
     "help --domain zones",
@@ -122,12 +127,7 @@ impl Case for (usize, usize, u8, &[u8]) {
 const BLANKS: &[(usize, usize, u8, &[u8])] = &[
     (65537, 65537, 3, b"too long: the program\n"),
     (0, 65537, 3, b"too long: the rows\n"),
-    (
-        65536,
-        65536,
-        4,
-        b"program refused: unexpected token at line 1\n",
-    ),
+    (65536, 65536, 4, b"program refused: which function\n"),
 ];
 
 // A line of words, the piece of which the file is, how often it stands there, and what the file is.
@@ -166,14 +166,22 @@ fn files_are_too_long(rt: HostRuntime) {
 
 // Texts that are no programs with points, and why.
 const PROGRAMS: &[(&[u8], &str)] = &[
-    (b"", "unexpected token at line 1"),
+    (b"", "which function"),
+    (b"int f(int x);", "which function"),
+    (b"int f(int x) { } int g(int x) { }", "which function"),
+    (
+        b"int main() { int x; }\nint main() { }",
+        "name twice at line 2",
+    ),
+    (b"int main() { int x;\n", "unexpected token at line 2"),
     (b"int main() { x = 1; }", "unknown name at line 1"),
     (b"int main() { int x, x; }", "name twice at line 1"),
-    (b"int main() { int x = nondet() + 1; }", "nondet at line 1"),
+    (b"int main() { int x[3];\nx = 1; }", "wrong kind at line 2"),
+    (b"int main() { int x[0]; }", "array at line 1"),
     (b"int main() { int x = 07; }", "bad number at line 1"),
     (b"int main() { /* int x; }", "open comment at line 1"),
     (b"int main() { }", "no variables"),
-    (b"int main() { int x, y; x = x*y; }", "not affine at line 1"),
+    (b"int main() { int x; x = &x; }", "bad byte at line 1"),
     (
         b"int main() {\n int x = 9223372036854775808; }",
         "long number at line 2",

@@ -5,15 +5,12 @@ use crate::done::reports::ROWS;
 use std::alloc::{AllocError, Global};
 use test_cases::repeated;
 
-// The message of a text of one byte: a blank is an empty program, whose end is unexpected; of the other bytes some start a
-// token, which is unexpected, too, and each other one is a bad byte.
+// The message of a text of one byte: a blank and a semicolon are files without a function; of the other bytes some are a token, behind
+// which the end is unexpected, or which is unexpected itself, and each other one is a bad byte.
 fn message_of(byte: u8) -> &'static [u8] {
     match byte {
-        b'\n' => b"program refused: unexpected token at line 2\n",
-        b' '
-        | b'\t'
-        | b'\r'
-        | b'_'
+        b'\n' | b' ' | b'\t' | b'\r' | b';' => WHICH,
+        b'_'
         | b'a'..=b'z'
         | b'A'..=b'Z'
         | b'0'..=b'9'
@@ -22,7 +19,6 @@ fn message_of(byte: u8) -> &'static [u8] {
         | b'{'
         | b'}'
         | b','
-        | b';'
         | b':'
         | b'='
         | b'+'
@@ -85,6 +81,8 @@ impl Case for (&[u8], &[u8], &[u8], &[u8]) {
     }
 }
 
+const WHICH: &[u8] = b"program refused: which function\n";
+
 const TOKEN: &[u8] = b"program refused: unexpected token at line 1\n";
 
 const TOKENS: &[(&[u8], &[u8], &[u8], &[u8])] = &[
@@ -97,28 +95,18 @@ const TOKENS: &[(&[u8], &[u8], &[u8], &[u8])] = &[
     (b"", b"=", b"", TOKEN),
     (b"", b"&", b"", TOKEN),
     (b"", b"(", b"", TOKEN),
-    (
-        b"",
-        b"\n",
-        b"",
-        b"program refused: unexpected token at line 65537\n",
-    ),
-    (b"", b"\r", b"", TOKEN),
-    (b"//", b"x", b"", TOKEN),
-    (b"//", b"\xff", b"", TOKEN),
+    (b"", b"\n", b"", WHICH),
+    (b"", b"\r", b"", WHICH),
+    (b"//", b"x", b"", WHICH),
+    (b"//", b"\xff", b"", WHICH),
     (
         b"/*",
         b"x",
         b"",
         b"program refused: open comment at line 1\n",
     ),
-    (b"/*", b"*", b"/", TOKEN),
-    (
-        b"/*",
-        b"\n",
-        b"*/",
-        b"program refused: unexpected token at line 65533\n",
-    ),
+    (b"/*", b"*", b"/", WHICH),
+    (b"/*", b"\n", b"*/", WHICH),
 ];
 
 #[test]
@@ -209,11 +197,7 @@ const SET_ONE: &[u8] = b"int main() { int x; x = 1";
 
 const ASSUME_ONE: &[u8] = b"int main() { int x; assume(1";
 
-const AFFINE: &[u8] = b"program refused: not affine at line 1\n";
-
 const LEAVES: &[u8] = b"program refused: leaves at line 1\n";
-
-const FULL: Ending = Ending::Refused(4, b"program refused: statements at line 1\n");
 
 const CHAINS: &[(&[u8], &[u8], &[u8], Ending)] = &[
     (
@@ -234,24 +218,10 @@ const CHAINS: &[(&[u8], &[u8], &[u8], Ending)] = &[
         b"; }",
         Ending::End(b"  x <= 1\n  -x <= -1\nimprovements: 1\n"),
     ),
-    (ASSUME_ONE, b"<1", b"); }", Ending::Refused(4, AFFINE)),
-    (ASSUME_ONE, b"<=1", b"); }", Ending::Refused(4, AFFINE)),
-    (ASSUME_ONE, b">1", b"); }", Ending::Refused(4, AFFINE)),
-    (ASSUME_ONE, b">=1", b"); }", Ending::Refused(4, AFFINE)),
-    (ASSUME_ONE, b"==1", b"); }", Ending::Refused(4, AFFINE)),
-    (ASSUME_ONE, b"!=1", b"); }", Ending::Refused(4, AFFINE)),
     (ASSUME_ONE, b"&&1", b"); }", Ending::Refused(4, LEAVES)),
     (ASSUME_ONE, b"||1", b"); }", Ending::Refused(4, LEAVES)),
-    (START, b"x++; ", b"}", FULL),
-    (START, b"++x; ", b"}", FULL),
-    (START, b"x+=1;", b"}", FULL),
-    (START, b"x=1; ", b"}", FULL),
-    (
-        START,
-        b"{",
-        b"}",
-        Ending::Refused(4, b"program refused: nesting at line 1\n"),
-    ),
+    // the brackets of a file are read before its functions
+    (START, b"{", b"}", Ending::Refused(4, TOKEN)),
     (
         START,
         b"int x;",
@@ -263,6 +233,31 @@ const CHAINS: &[(&[u8], &[u8], &[u8], Ending)] = &[
 #[test]
 fn chains_of_ten_thousand_operators(rt: HostRuntime) {
     assert_eq!(rt; first_wrong(rt.alloc(), CHAINS), None);
+}
+
+// A comparison that stands 100 times, each one's left side being the number that the one before it is.
+const NUMBERS: &[(&[u8], usize, Ending)] = &[
+    (b"<1", 100, VALUES),
+    (b"<=1", 100, VALUES),
+    (b">1", 100, VALUES),
+    (b">=1", 100, VALUES),
+    (b"==1", 100, VALUES),
+    (b"!=1", 100, VALUES),
+];
+
+const VALUES: Ending = Ending::Refused(4, b"program refused: values at line 1\n");
+
+#[test]
+fn chains_of_comparisons_have_too_many_values(rt: HostRuntime) {
+    let wrong = NUMBERS.iter().position(|row| !repeats_end(
+        rt.alloc(),
+        ASSUME_ONE,
+        row.0,
+        row.1,
+        b"); }",
+        row.2,
+    ));
+    assert_eq!(rt; wrong, None);
 }
 
 // How many assignments the program has, and how the run ends.

@@ -31,13 +31,15 @@ use Rattle.top_texts.specs.Exact.{exact}
 use Rattle.top_texts.specs.Outcomes.{IsHalted, IsOutputOf, IsRefusedBy, refused}
 use Rattle.top_texts.specs.Questions.{Question, QuestionEnds, analysis_question, rounds_end}
 use Rattle.top_texts.specs.Reports.{IsCertificateOf, IsPutOf}
-use Rattle.top_texts.specs.Texts.{IsSolvedSystem}
+use Rattle.top_texts.specs.Texts.{IsSolvedSystem, Program}
 use Rattle.top_texts.specs.declared.refusal.Refusal.{Refusal}
 use Rattle.top_texts.proofs.analyses.Analysed.{output_put}
 use Rattle.top_texts.proofs.analyses.Unanswered.{unsolved, unsystematic}
+use Rattle.top_texts.proofs.by_c.InSource.{bounds_in_source}
 use Rattle.top_texts.proofs.checks.Accepted.{bounds_are}
 use Rattle.top_texts.proofs.questions.OneMeaning.{analysis_once}
 use Rattle.top_texts.proofs.rounds.OneChain.{solved_ends}
+use Rattle.top_texts.proofs.texts.Once.{rows_over}
 use Rattle.top_answer.proofs.commands.Asking.{lawful}
 use Rattle.top_answer.proofs.commands.Lawful.{IsCommand, IsForNone, IsInRange, done_once}
 use Rattle.top_answer.proofs.commands.Results.{answered, err_map, ok_map, question_says}
@@ -55,9 +57,9 @@ few cert n = ⊎_elim (λ h. h) (λ h. absurd (n h)) (le_or_lt (values_of (named
     le_or_lt m k = grind arith
 
 -- the certificate that the rounds make of texts is one by the exact meanings
-certificate : (text : List ℕ) (rows : Domain (List ℕ)) (policy : Policy) (limit : ℕ) (bytes : List ℕ)
-    → IsCertificateOf text rows policy limit bytes → IsCertificate exact text rows policy limit bytes
-certificate text rows policy limit bytes c = record {
+certificate : (program : Program) (rows : Domain (List ℕ)) (policy : Policy) (limit : ℕ) (bytes : List ℕ)
+    → IsCertificateOf program rows policy limit bytes → IsCertificate exact program rows policy limit bytes
+certificate program rows policy limit bytes c = record {
   made = c;
   names = c.names;
   body = c.body;
@@ -73,6 +75,8 @@ certificate text rows policy limit bytes c = record {
     narrow = c.narrow;
   };
   least = c.least;
+  by_c = bounds_in_source program c.names c.body c.ready.system.analysed.has_core c.template
+      (vector_of (length c.template) c.solved.bounds) (rows_over c.names c.body c.template c.system c.system_for) c.least;
 }
 
 put_by : (purpose : Purpose) (a : Analysis (List ℕ)) (format : Format) (bytes : List ℕ)
@@ -114,7 +118,7 @@ analyses purpose a format = record {
   lawful = lawful (question purpose a) (analysis_once purpose a.program a.domain a.policy a.improvements)
       (λ bytes. IsPut exact purpose a format bytes) (written_ends purpose a format);
   writes_once = writes_once purpose a format;
-  limits = λ contents range e. within (which.Program, a.program) a [] contents refl range e;
+  limits = λ contents range e. within (which.Program, a.program.text) a [] contents refl range e;
 }
 
 report_in : List Row → Analysis (List ℕ) → Option Request

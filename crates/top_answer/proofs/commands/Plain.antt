@@ -9,7 +9,7 @@ use Rattle.out_report.specs.Heads.{head_lines}
 use Rattle.ask_files.specs.Files.{Request, text_at}
 use Rattle.ask_files.specs.declared.which.ReadCause.{ReadCause}
 use Rattle.ask_files.specs.declared.which.Which.TheVariants as which
-use Rattle.ask_words.specs.Request.{points_in, upgrade_in}
+use Rattle.ask_words.specs.Request.{points_in, upgrade_in, whole_source}
 use Rattle.ask_words.specs.declared.request.Request.TheVariants.{Points, Upgrade}
 use Rattle.top_answer.specs.Commands.{PointsEnd, UpgradeEnds, command_of, form_refused, listed, rewritten, text_refused}
 use Rattle.top_answer.specs.Outcomes.{HasOutcome, Says}
@@ -20,6 +20,7 @@ use Rattle.top_texts.specs.Endings.{UpgradeEnd}
 use Rattle.top_texts.specs.Exact.{exact}
 use Rattle.top_texts.specs.LeastReports.{ArePointsOf}
 use Rattle.top_texts.specs.Outcomes.{IsMisspelt, IsUnread, refused}
+use Rattle.top_texts.specs.Texts.{Program}
 use Rattle.top_texts.specs.Upgrades.{IsUpgradeOf}
 use Rattle.top_texts.specs.declared.refusal.Refusal.{Refusal}
 use Rattle.top_texts.specs.declared.refusal.Refusal.TheVariants as refusal
@@ -79,37 +80,40 @@ upgraded given r s bytes ok err h = outcome_says (command_of exact (Upgrade give
 
 -- ---- the points of a program
 
--- a text has one list of points
-points_once : (text one other : List ℕ) → ArePointsOf text one → ArePointsOf text other → one ≡ other
-points_once text one other a b =
+-- a program has one list of points
+points_once : (program : Program) (one other : List ℕ) → ArePointsOf program one → ArePointsOf program other → one ≡ other
+points_once program one other a b =
     a.heads ∙ ap (λ (p : List (List ℕ) × Statements). head_lines 0 (points_of_program p.1))
-    (program_once text (a.names, a.body) (b.names, b.body) a.analysed.reading b.analysed.reading) ∙ sym b.heads
+    (program_once program (a.names, a.body) (b.names, b.body) a.analysed.has_core b.analysed.has_core) ∙ sym b.heads
 
-points_end_once : (text : List ℕ) (s t : Status) → PointsEnd text s → PointsEnd text t → s ≡ t
-points_end_once text s t (text_refused c e h) (text_refused d i k) = e ∙ ap (λ x. Text x) (program_refused_once text c d h k) ∙ sym i
-points_end_once text s t (text_refused c e h) (listed names body i a) = absurd (analysed_unrefused text names body c h a)
-points_end_once text s t (listed names body e a) (text_refused c i k) = absurd (analysed_unrefused text names body c k a)
-points_end_once text s t (listed names body e a) (listed others other i b) = e ∙ sym i
+points_end_once : (program : Program) (s t : Status) → PointsEnd program s → PointsEnd program t → s ≡ t
+points_end_once program s t (text_refused c e h) (text_refused d i k) =
+    e ∙ ap (λ x. Text x) (program_refused_once program c d h k) ∙ sym i
+points_end_once program s t (text_refused c e h) (listed names body i a) = absurd (analysed_unrefused program names body c h a)
+points_end_once program s t (listed names body e a) (text_refused c i k) = absurd (analysed_unrefused program names body c k a)
+points_end_once program s t (listed names body e a) (listed others other i b) = e ∙ sym i
 
-points_never_unread : (text : List ℕ) (cause : ReadCause) → PointsEnd text (Read cause) → ⊥
-points_never_unread text read (text_refused cause e h) = cc
-points_never_unread text read (listed names body e h) = cc
+points_never_unread : (program : Program) (cause : ReadCause) → PointsEnd program (Read cause) → ⊥
+points_never_unread program read (text_refused cause e h) = cc
+points_never_unread program read (listed names body e h) = cc
 
-points_never_unwritten : (text : List ℕ) → PointsEnd text Write → ⊥
-points_never_unwritten text (text_refused cause e h) = cc
-points_never_unwritten text (listed names body e h) = cc
+points_never_unwritten : (program : Program) → PointsEnd program Write → ⊥
+points_never_unwritten program (text_refused cause e h) = cc
+points_never_unwritten program (listed names body e h) = cc
 
 -- points are a command of the program
 pub points : (text : List ℕ) → IsCommand (Points text)
 points text = record {
   lawful = record {
-    ends_once = points_end_once text;
+    ends_once = points_end_once (whole_source text);
     exceeded_ends = λ excess s w h. absurd w;
-    written_ends = done_ends (λ s. PointsEnd text s) (λ bytes. ArePointsOf text bytes) (λ bytes p. listed p.names p.body refl p.analysed);
-    never_unread = points_never_unread text;
-    never_unwritten = points_never_unwritten text;
+    written_ends = done_ends (λ s. PointsEnd (whole_source text) s) (λ bytes. ArePointsOf (whole_source text) bytes)
+        (λ bytes p. listed p.names p.body refl p.analysed);
+    never_unread = points_never_unread (whole_source text);
+    never_unwritten = points_never_unwritten (whole_source text);
   };
-  writes_once = λ none contents. done_once (λ bytes. ArePointsOf (text_at contents 0) bytes) (points_once (text_at contents 0));
+  writes_once = λ none contents. done_once (λ bytes. ArePointsOf (whole_source (text_at contents 0)) bytes)
+      (points_once (whole_source (text_at contents 0)));
   limits = λ contents range e. first_short (which.Program, text) [] contents refl e;
 }
 
@@ -119,7 +123,7 @@ points_range given r e =
     let made : WordText → Request = λ program. Points program in
     ranged made (first_of (codes "program") given) r e (λ program. tt)
 
-unread_says : (text : List ℕ) (x : Refusal) → IsUnread text x → Says (command_of exact (Points text)) (refused x) []
+unread_says : (text : List ℕ) (x : Refusal) → IsUnread (whole_source text) x → Says (command_of exact (Points text)) (refused x) []
 unread_says text (refusal.Text cause) h = (text_refused cause refl h, refl)
 unread_says text (refusal.Certificate cause) h = absurd h
 unread_says text (refusal.Exceeded excess) h = absurd h
@@ -128,7 +132,7 @@ unread_says text refusal.NoMemory h = refl
 
 -- the points of a text's program, or why there are none
 pub pointed : (text : List ℕ) (r : Result (Vec ℕ Global) Refusal) (s : Status) (bytes : List ℕ)
-    → IfOk r (λ made. ArePointsOf text made.items) → IfErr r (λ x. IsUnread text x) → HasOutcome r s bytes
+    → IfOk r (λ made. ArePointsOf (whole_source text) made.items) → IfErr r (λ x. IsUnread (whole_source text) x) → HasOutcome r s bytes
     → Says (command_of exact (Points text)) s bytes
 pointed text r s bytes ok err h = outcome_says (command_of exact (Points text)) r s bytes ok
-    (err_map (λ x. IsUnread text x) _ (unread_says text) r err) h
+    (err_map (λ x. IsUnread (whole_source text) x) _ (unread_says text) r err) h

@@ -4,10 +4,10 @@ use Rattle.std.specs.Prelude.{Option, Some, None, codes}
 use Rattle.std.specs.Str.{bytes_eq}
 use Rattle.clap.specs.Words.{Row, Text}
 use Rattle.ask_files.specs.Files.{Request, files_of, unread, with_texts}
-use Rattle.ask_words.specs.Request.{bench_in, certify_in, check_in, command_in, equations_in, help_in, points_in, prove_in, solve_in}
-use Rattle.ask_words.specs.Request.{transitions_in, upgrade_in, verify_in}
+use Rattle.ask_words.specs.Request.{bench_in, certify_in, check_in, command_in, equations_in, functions_in, help_in, points_in, prove_in}
+use Rattle.ask_words.specs.Request.{solve_in, transitions_in, upgrade_in, verify_in}
 use Rattle.ask_words.specs.declared.request.Request.TheVariants.{Analyse, Check, Bench, Upgrade, Prove, Transitions, Equations, Points}
-use Rattle.ask_words.specs.declared.request.Request.TheVariants.{Verify, Help}
+use Rattle.ask_words.specs.declared.request.Request.TheVariants.{Functions, Verify, Help}
 use Rattle.top_answer.specs.Commands.{command_of}
 use Rattle.top_texts.specs.Exact.{exact}
 use Rattle.top_answer.proofs.commands.Analyses.{analyses, certify_range, solve_range}
@@ -16,6 +16,7 @@ use Rattle.top_answer.proofs.commands.Claims.{claims, claims_range}
 use Rattle.top_answer.proofs.commands.Equations.{equations, equations_range}
 use Rattle.top_answer.proofs.commands.Generated.{bench_range, benches}
 use Rattle.top_answer.proofs.commands.Lawful.{IsCommand, IsInRange, IsLawful}
+use Rattle.top_answer.proofs.commands.Named.{functions, functions_range}
 use Rattle.top_answer.proofs.commands.Pages.{help_range, pages}
 use Rattle.top_answer.proofs.commands.Plain.{points, points_range, upgrade_range, upgrades}
 use Rattle.top_answer.proofs.commands.Transitions.{transitions, transitions_range}
@@ -25,13 +26,14 @@ use Rattle.top_answer.proofs.requests.Numbers.{none_some}
 -- each request is for a command of the program
 pub table : (request : Request) → IsCommand request
 table (Analyse purpose a format) = analyses purpose a format
-table (Check text given format) = checks text given format
+table (Check program given format) = checks program given format
 table (Bench seed loops) = benches seed loops
 table (Upgrade given) = upgrades given
 table (Prove given a format) = claims given a format
 table (Transitions a format) = transitions a format
 table (Equations text limit policy format) = equations text limit policy format
 table (Points text) = points text
+table (Functions text) = functions text
 table (Verify name a format) = verifies name a format
 table (Help topic) = pages topic
 
@@ -64,5 +66,6 @@ named_range (name, given) r e =
     (if_range (bytes_eq name (codes "equations")) (equations_in given) _ r (equations_range given r)
     (if_range (bytes_eq name (codes "points")) (points_in given) _ r (points_range given r)
     (if_range (bytes_eq name (codes "verify")) (verify_in given) _ r (verify_range given r)
-    (if_range (bytes_eq name (codes "help")) (help_in given) None r (help_range given r) (λ h. absurd (none_some r h))))))))))))
+    (if_range (bytes_eq name (codes "functions")) (functions_in given) _ r (functions_range given r)
+    (if_range (bytes_eq name (codes "help")) (help_in given) None r (help_range given r) (λ h. absurd (none_some r h)))))))))))))
     e

@@ -27,25 +27,25 @@ use Rattle.top_answer.proofs.requests.Limits.{within}
 use Rattle.top_answer.proofs.requests.Numbers.{analysis_bounds, and_then_some, map_some}
 
 one_report : (a : Analysis (List ℕ)) (format : Format) (one other : List ℕ)
-    → IsAutoReport a.program a.domain a.policy a.improvements format one
-    → IsAutoReport a.program a.domain a.policy a.improvements format other → one ≡ other
-one_report a format one other h k = auto_report_once a.program a.domain a.policy a.improvements format one other h k
+    → IsAutoReport a.program.text a.domain a.policy a.improvements format one
+    → IsAutoReport a.program.text a.domain a.policy a.improvements format other → one ≡ other
+one_report a format one other h k = auto_report_once a.program.text a.domain a.policy a.improvements format one other h k
 
 one_report_at : (a : Analysis (List ℕ)) (format : Format) (s t : Status) (one other : List ℕ)
-    → done_writes (λ bytes. IsAutoReport a.program a.domain a.policy a.improvements format bytes) s one
-    → done_writes (λ bytes. IsAutoReport a.program a.domain a.policy a.improvements format bytes) t other → one ≡ other
+    → done_writes (λ bytes. IsAutoReport a.program.text a.domain a.policy a.improvements format bytes) s one
+    → done_writes (λ bytes. IsAutoReport a.program.text a.domain a.policy a.improvements format bytes) t other → one ≡ other
 one_report_at a format =
-    done_once (λ bytes. IsAutoReport a.program a.domain a.policy a.improvements format bytes) (one_report a format)
+    done_once (λ bytes. IsAutoReport a.program.text a.domain a.policy a.improvements format bytes) (one_report a format)
 
 -- it is a command of the program
 pub transitions : (a : Analysis (List ℕ)) (format : Format) → IsCommand (Transitions a format)
 transitions a format = record {
-  lawful = lawful (transitions_question exact a.program a.domain a.policy a.improvements)
-      (transitions_once a.program a.domain a.policy a.improvements)
-      (λ bytes. IsAutoReport a.program a.domain a.policy a.improvements format bytes)
+  lawful = lawful (transitions_question exact a.program.text a.domain a.policy a.improvements)
+      (transitions_once a.program.text a.domain a.policy a.improvements)
+      (λ bytes. IsAutoReport a.program.text a.domain a.policy a.improvements format bytes)
       (λ bytes r. rounds_end r.system refl r.meant (r.rounds, r.within, r.vector, r.has_rounds));
   writes_once = λ none contents. one_report_at (analysis_with a contents) format;
-  limits = λ contents range e. within (which.System, a.program) a [] contents refl range e;
+  limits = λ contents range e. within (which.System, a.program.text) a [] contents refl range e;
 }
 
 transitions_by : List Row → Analysis WordText → Option Request
@@ -62,8 +62,8 @@ transitions_range given r e =
 
 -- its report, or why there is none
 pub transited : (a : Analysis (List ℕ)) (format : Format) (r : Result (Vec ℕ Global) Refusal) (s : Status) (bytes : List ℕ)
-    → IfOk r (λ made. IsAutoReport a.program a.domain a.policy a.improvements format made.items)
-    → IfErr r (λ x. IsUnanswered (transitions_question exact a.program a.domain a.policy a.improvements) x) → HasOutcome r s bytes
+    → IfOk r (λ made. IsAutoReport a.program.text a.domain a.policy a.improvements format made.items)
+    → IfErr r (λ x. IsUnanswered (transitions_question exact a.program.text a.domain a.policy a.improvements) x) → HasOutcome r s bytes
     → Says (command_of exact (Transitions a format)) s bytes
-transited a format r s bytes ok err h = answered (transitions_question exact a.program a.domain a.policy a.improvements)
-    (λ bytes. IsAutoReport a.program a.domain a.policy a.improvements format bytes) r s bytes ok err h
+transited a format r s bytes ok err h = answered (transitions_question exact a.program.text a.domain a.policy a.improvements)
+    (λ bytes. IsAutoReport a.program.text a.domain a.policy a.improvements format bytes) r s bytes ok err h

@@ -104,18 +104,18 @@ verifies name a format = record {
     never_unwritten = unwritten a;
   };
   writes_once = λ none contents. one_list name (analysis_with a contents) format;
-  limits = λ contents range e. within (which.Program, a.program) a [] contents refl range e;
+  limits = λ contents range e. within (which.Program, a.program.text) a [] contents refl range e;
 }
 
 verify_by : List Row → Analysis WordText → Option Request
-verify_by given a = option_map (λ format. Verify a.program a format) (format_in check_formats given)
+verify_by given a = option_map (λ format. Verify a.program.text a format) (format_in check_formats given)
 
 -- its improvements are within their limit
 pub verify_range : (given : List Row) (r : Request) → verify_in given ≡ Some r → IsInRange r
 unfolding verify_by
 verify_range given r e =
     let a = and_then_some (verify_by given) (analysis_in given) r e in
-    let made : Format → Request = λ format. Verify a.0.program a.0 format in
+    let made : Format → Request = λ format. Verify a.0.program.text a.0 format in
     let format = map_some made (format_in check_formats given) r a.2 in
     subst (λ r. IsInRange r) format.2 (analysis_bounds given a.0 a.1)
 

@@ -11,6 +11,7 @@ use Rattle.theory_validity.proofs.steps.CertificateLaw.{certificate_least}
 use Rattle.cert_text.specs.Certificates.{cert_data}
 use Rattle.cert_text.proofs.form_laws.Laws.{one_reading}
 use Rattle.top_texts.specs.Checks.{IsAcceptedWith, system_with, theirs}
+use Rattle.top_texts.specs.Texts.{Program}
 use Rattle.top_texts.specs.Upgrades.{IsUpgradeOf}
 
 -- the edges of a program end at its points
@@ -18,10 +19,11 @@ program_range : (variables : ℕ) (body : Statements) (rows : List (List ℤ)) �
 program_range variables body rows = record { entry = omega arith; ends = λ edge c. (ranges_law body edge c).to }
 
 -- the vector of an accepted certificate is the least one of its program
-pub accepted_least : (text bytes : List ℕ) (names : List (List ℕ)) (body : Statements) (rows : List (List ℤ)) (vector : Vector)
-    → IsAcceptedWith text bytes names body rows vector
+pub accepted_least : (program : Program) (bytes : List ℕ) (names : List (List ℕ)) (body : Statements) (rows : List (List ℤ))
+    (vector : Vector)
+    → IsAcceptedWith program bytes names body rows vector
     → Least (equations_of_program (length names) body rows) vector
-accepted_least text bytes names body rows vector a =
+accepted_least program bytes names body rows vector a =
     let system = system_with names body a.cert in
     let least : Least system (bounds_vector system a.cert.bounds) = certificate_least system (theirs a.cert)
     (program_range (length names) body a.cert.rows) a.valid.valid in

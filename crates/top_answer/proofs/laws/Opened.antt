@@ -1,18 +1,19 @@
 -- Which commands end where a check is open.
 use Rattle.std.proofs.Common.{◌≡◌, ℕ, List, refl, sym}
 use Rattle.ask_files.specs.Files.{Request}
+use Rattle.ask_words.specs.Request.{whole_source}
 use Rattle.ask_words.specs.declared.format.Format.{Format}
 use Rattle.ask_words.specs.declared.request.Analysis.{Analysis}
 use Rattle.ask_words.specs.declared.request.Request.TheVariants.{Analyse, Check, Bench, Upgrade, Prove, Transitions, Equations, Points}
-use Rattle.ask_words.specs.declared.request.Request.TheVariants.{Verify, Help}
+use Rattle.ask_words.specs.declared.request.Request.TheVariants.{Functions, Verify, Help}
 use Rattle.top_answer.specs.Commands as commands
-use Rattle.top_answer.specs.Commands.{CheckEnds, PointsEnd, UpgradeEnds, VerifyEnds, command_of, form_refused, judged, listed, rewritten}
-use Rattle.top_answer.specs.Commands.{text_refused, unjudged}
+use Rattle.top_answer.specs.Commands.{CheckEnds, FunctionsEnd, PointsEnd, UpgradeEnds, VerifyEnds, command_of, file_refused, form_refused}
+use Rattle.top_answer.specs.Commands.{judged, listed, names_listed, rewritten, text_refused, unjudged}
 use Rattle.top_status.specs.declared.status.Status.TheVariants.{Done, Open}
 use Rattle.top_texts.specs.CheckTexts.{IsJudged}
 use Rattle.top_texts.specs.Exact.{exact}
 use Rattle.top_texts.specs.Questions.{Question, QuestionEnds, checks_question, is_refused, rounds_end, rounds_spent}
-use Rattle.top_texts.specs.Texts.{IsSolvable}
+use Rattle.top_texts.specs.Texts.{IsSolvable, Program}
 use Rattle.top_texts.proofs.check_texts.OneText.{one_judged}
 
 -- no question ends so
@@ -21,19 +22,23 @@ never_asked q (is_refused cause e h) = cc
 never_asked q (rounds_end system e is h) = cc
 never_asked q (rounds_spent system e is h) = cc
 
-never_checked : (text bytes : List ℕ) → CheckEnds exact text bytes Open → ⊥
-never_checked text bytes (commands.program_refused cause e h) = cc
-never_checked text bytes (commands.certificate_refused cause e h) = cc
-never_checked text bytes (commands.sum_too_wide spot e h) = cc
-never_checked text bytes (commands.accepted names body rows vector e h) = cc
+never_checked : (program : Program) (bytes : List ℕ) → CheckEnds exact program bytes Open → ⊥
+never_checked program bytes (commands.program_refused cause e h) = cc
+never_checked program bytes (commands.certificate_refused cause e h) = cc
+never_checked program bytes (commands.sum_too_wide spot e h) = cc
+never_checked program bytes (commands.accepted names body rows vector e h) = cc
 
 never_upgraded : (bytes : List ℕ) → UpgradeEnds exact bytes Open → ⊥
 never_upgraded bytes (form_refused fault e h) = cc
 never_upgraded bytes (rewritten written e h) = cc
 
-never_listed : (text : List ℕ) → PointsEnd text Open → ⊥
-never_listed text (text_refused cause e h) = cc
-never_listed text (listed names body e h) = cc
+never_pointed : (program : Program) → PointsEnd program Open → ⊥
+never_pointed program (text_refused cause e h) = cc
+never_pointed program (listed names body e h) = cc
+
+never_listed : (text : List ℕ) → FunctionsEnd text Open → ⊥
+never_listed text (file_refused cause e h) = cc
+never_listed text (names_listed names e h) = cc
 
 never_helped : Done ≡ Open → ⊥
 never_helped e = cc
@@ -47,13 +52,14 @@ pub of_checks : (asked : Request) → (command_of exact asked).ends Open
     → (name : List ℕ) × (a : Analysis (List ℕ)) × (format : Format) × (asked ≡ Verify name a format)
     × IsJudged a.program a.domain a.policy a.improvements Open
 of_checks (Analyse purpose a format) h = absurd (never_asked _ h)
-of_checks (Check text given format) h = absurd (never_checked text given h)
+of_checks (Check program given format) h = absurd (never_checked program given h)
 of_checks (Bench seed loops) h = absurd (never_asked _ h)
 of_checks (Upgrade given) h = absurd (never_upgraded given h)
 of_checks (Prove given a format) h = absurd (never_asked _ h)
 of_checks (Transitions a format) h = absurd (never_asked _ h)
 of_checks (Equations text limit policy format) h = absurd (never_asked _ h)
-of_checks (Points text) h = absurd (never_listed text h)
+of_checks (Points text) h = absurd (never_pointed (whole_source text) h)
+of_checks (Functions text) h = absurd (never_listed text h)
 of_checks (Verify name a format) h = (name, a, format, refl, verified a h)
 of_checks (Help topic) h = absurd (never_helped (sym h))
 

@@ -21,31 +21,33 @@ use Rattle.top_texts.specs.Checks.{system_with}
 use Rattle.top_texts.specs.Exact.{exact}
 use Rattle.top_written.specs.Formats.{report_in}
 use Rattle.top_texts.specs.LeastReports.{IsLeastReport, IsReportOf}
-use Rattle.top_texts.specs.Texts.{HasTemplate, IsSolvedSystem}
+use Rattle.top_texts.specs.Texts.{HasTemplate, IsSolvedSystem, Program}
 use Rattle.top_texts.specs.TransitionTexts.{IsAutoReport}
+use Rattle.top_texts.proofs.by_c.InSource.{some_names}
 use Rattle.top_texts.proofs.rounds.OneChain.{rounds_once}
 use Rattle.top_texts.proofs.texts.Once.{solved_once}
 use Rattle.top_texts.proofs.texts.Readings.{program_once, rows_once}
 use Rattle.top_texts.proofs.transition_texts.Once.{systems_once}
 use Rattle.top_answer.specs.Commands.{IsChecked}
-use Rattle.top_answer.proofs.outputs.Templates.{auto_names, program_names, some_row}
+use Rattle.top_answer.proofs.outputs.Templates.{auto_names, some_row}
 use Rattle.top_answer.proofs.outputs.Vectors.{reports_agree}
 
 -- ---- of a program
 
-least_once : (format : Format) (names : List (List ℕ)) (body : Statements) (template : List (List ℤ)) (v w : Vector) (n m : ℕ)
-    (one other : List ℕ) → 0 < length template → n ≡ m → IsLeastReport names body template v (Improvements n) format one
-    → IsLeastReport names body template w (Improvements m) format other → one ≡ other
-least_once format names body template v w n m one other some rounds a b =
+least_once : (program : Program) (format : Format) (names : List (List ℕ)) (body : Statements) (template : List (List ℤ)) (v w : Vector)
+    (n m : ℕ)
+    (one other : List ℕ) → 0 < length template → n ≡ m → IsLeastReport program names body template v (Improvements n) format one
+    → IsLeastReport program names body template w (Improvements m) format other → one ≡ other
+least_once program format names body template v w n m one other some rounds a b =
     a.report
     ∙ reports_agree (equations_of_program (length names) body template) format names (points_of_program body) v w (Improvements n)
     (Improvements m) (numbering body).count some a.least b.least (ap (λ k. Improvements k) rounds)
     ∙ sym b.report
 
 -- the system of a report's texts
-solved_of : (text : List ℕ) (rows : Domain (List ℕ)) (policy : Policy) (limit : ℕ) (format : Format) (bytes : List ℕ)
-    (r : IsReportOf text rows policy limit format bytes) → IsSolvedSystem text rows r.system
-solved_of text rows policy limit format bytes r = record {
+solved_of : (program : Program) (rows : Domain (List ℕ)) (policy : Policy) (limit : ℕ) (format : Format) (bytes : List ℕ)
+    (r : IsReportOf program rows policy limit format bytes) → IsSolvedSystem program rows r.system
+solved_of program rows policy limit format bytes r = record {
   names = r.names;
   body = r.body;
   template = r.template;
@@ -54,23 +56,23 @@ solved_of text rows policy limit format bytes r = record {
 }
 
 -- the texts of a program and of its rows have one report in a format
-pub report_once : (text : List ℕ) (rows : Domain (List ℕ)) (policy : Policy) (limit : ℕ) (format : Format) (one other : List ℕ)
-    → IsReportOf text rows policy limit format one → IsReportOf text rows policy limit format other → one ≡ other
-report_once text rows policy limit format one other a b =
-    let same = program_once text (b.names, b.body) (a.names, a.body) b.ready.system.analysed.reading a.ready.system.analysed.reading in
+pub report_once : (program : Program) (rows : Domain (List ℕ)) (policy : Policy) (limit : ℕ) (format : Format) (one other : List ℕ)
+    → IsReportOf program rows policy limit format one → IsReportOf program rows policy limit format other → one ≡ other
+report_once program rows policy limit format one other a b =
+    let same = program_once program (b.names, b.body) (a.names, a.body) b.ready.system.analysed.has_core a.ready.system.analysed.has_core in
     let template : b.template ≡ a.template =
     rows_once rows a.names b.template a.template (subst (λ (x : List (List ℕ) × Statements). HasTemplate rows x.0 (Ok b.template)) same
     b.ready.system.template_is) a.ready.system.template_is in
-    let least : IsLeastReport a.names a.body a.template b.vector (Improvements b.rounds) format other =
-    subst (λ t. IsLeastReport a.names a.body t b.vector (Improvements b.rounds) format other) template
-    (subst (λ (x : List (List ℕ) × Statements). IsLeastReport x.0 x.1 b.template b.vector (Improvements b.rounds) format other) same
+    let least : IsLeastReport program a.names a.body a.template b.vector (Improvements b.rounds) format other =
+    subst (λ t. IsLeastReport program a.names a.body t b.vector (Improvements b.rounds) format other) template
+    (subst (λ (x : List (List ℕ) × Statements). IsLeastReport program x.0 x.1 b.template b.vector (Improvements b.rounds) format other) same
     b.least) in
     let rounds = rounds_once a.system b.system policy a.rounds b.rounds a.vector b.vector
-    (solved_once text rows a.system b.system (solved_of text rows policy limit format one a)
-    (solved_of text rows policy limit format other b))
+    (solved_once program rows a.system b.system (solved_of program rows policy limit format one a)
+    (solved_of program rows policy limit format other b))
     a.has_rounds b.has_rounds in
-    least_once format a.names a.body a.template a.vector b.vector a.rounds b.rounds one other
-    (some_row rows a.names a.template (program_names text a.names a.body a.ready.system.analysed.reading) a.ready.system.template_is)
+    least_once program format a.names a.body a.template a.vector b.vector a.rounds b.rounds one other
+    (some_row rows a.names a.template (some_names program a.names a.body a.ready.system.analysed.has_core) a.ready.system.template_is)
     rounds a.least least
 
 -- ---- of a transition system
@@ -134,20 +136,22 @@ abbrev bounds_report : Format → List (List ℕ) × Statements → Cert → Lis
 bounds_report format p cert =
     report_in format p.0 (points_of_program p.1) cert.rows (bounds_vector (system_with p.0 p.1 cert) cert.bounds) Accepted
 
-is_bounds_report : (text certificate : List ℕ) (format : Format) (bytes : List ℕ) (r : IsChecked exact text certificate format bytes)
+is_bounds_report : (program : Program) (certificate : List ℕ) (format : Format) (bytes : List ℕ)
+    (r : IsChecked exact program certificate format bytes)
     → bytes ≡ bounds_report format (r.names, r.body) r.accepted.cert
-is_bounds_report text certificate format bytes r =
+is_bounds_report program certificate format bytes r =
     r.least.report
     ∙ ap₂ (λ rows (v : Vector). report_in format r.names (points_of_program r.body) rows v Accepted) (sym r.accepted.rows_are)
     (sym r.accepted.vector_is)
 
--- the text of a program and the bytes of a certificate have one report in a format
-pub checked_once : (text certificate : List ℕ) (format : Format) (one other : List ℕ) → IsChecked exact text certificate format one
-    → IsChecked exact text certificate format other → one ≡ other
-checked_once text certificate format one other a b =
+-- a program and the bytes of a certificate have one report in a format
+pub checked_once : (program : Program) (certificate : List ℕ) (format : Format) (one other : List ℕ)
+    → IsChecked exact program certificate format one
+    → IsChecked exact program certificate format other → one ≡ other
+checked_once program certificate format one other a b =
     let p = a.accepted.valid.system.spelt in
     let q = b.accepted.valid.system.spelt in
-    is_bounds_report text certificate format one a
-    ∙ ap₂ (bounds_report format) (program_once text (a.names, a.body) (b.names, b.body) p.analysed.reading q.analysed.reading)
+    is_bounds_report program certificate format one a
+    ∙ ap₂ (bounds_report format) (program_once program (a.names, a.body) (b.names, b.body) p.analysed.has_core q.analysed.has_core)
     (one_reading certificate a.accepted.cert b.accepted.cert p.spells q.spells)
-    ∙ sym (is_bounds_report text certificate format other b)
+    ∙ sym (is_bounds_report program certificate format other b)

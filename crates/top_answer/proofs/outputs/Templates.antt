@@ -1,14 +1,7 @@
 -- The template of texts has a row.
-use Rattle.std.proofs.Common.{◌≡◌, ◌++◌, ◌<◌, ℕ, zero, suc, List, [], ◌∷◌, length, sym, subst, arith, inl, inr, length-append}
+use Rattle.std.proofs.Common.{◌≡◌, ◌++◌, ◌<◌, ℕ, zero, suc, List, [], ◌∷◌, length, sym, subst, arith, length-append}
 use Rattle.std.specs.Prelude.{ℤ, Result, Ok, Err}
 use Rattle.std.proofs.lemmas.List.{length-map}
-use Rattle.lang_grammar.specs.Grammar.{program}
-use Rattle.lang_meaning.specs.Meaning.{Answer}
-use Rattle.lang_meaning.specs.Results.{◌>>=◌}
-use Rattle.lang_meaning.specs.Walk.{State, program_of}
-use Rattle.lang_meaning.specs.declared.fault.ParseFault.{ParseFault}
-use Rattle.lang_meaning.specs.declared.fault.ParseFault.TheVariants.{NoVariables}
-use Rattle.lang_tree.specs.Tree.{Statements}
 use Rattle.flow_templates.specs.Domains.{intervals_of, octagons_of, zones_of}
 use Rattle.flow_templates.specs.RowFaults.{count_faults}
 use Rattle.flow_templates.specs.RowFiles.{Answers, a_count, a_fault, a_template}
@@ -19,7 +12,7 @@ use Rattle.flow_transitions.specs.AutoTexts.{IsAuto, by_tokens, no_tokens}
 use Rattle.flow_transitions.specs.AutoTrees.{all_spots, names_in}
 use Rattle.ask_words.specs.declared.request.Domain.{Domain}
 use Rattle.ask_words.specs.declared.request.Domain.TheVariants.{Intervals, Zones, Octagons, Rows}
-use Rattle.top_texts.specs.Texts.{HasTemplate, Reading}
+use Rattle.top_texts.specs.Texts.{HasTemplate}
 
 -- ---- over at least one variable
 
@@ -63,38 +56,12 @@ some_row Octagons names template some e =
     (more_rows (intervals_of (length names)) _ (some_intervals (length names) some))
 some_row (Rows text) names template some h = file_row names text template h
 
--- ---- texts have at least one variable
-
--- the same of what tokens mean
-abbrev answered : Answer → Answer
-answered answer = answer
-
-same_program : (p q : List (List ℕ) × Statements) → answered (Ok p) ≡ answered (Ok q) → p ≡ q
-same_program p q e = cc
-
-named : (xs : List (List ℕ)) (nodes : Statements) (names : List (List ℕ)) (body : Statements)
-    → answered (Ok (names, body))
-    ≡ (elim xs as (λ z. Result (List (List ℕ) × Statements) ParseFault) [ [] ↦ Err NoVariables | x ∷ rest ↦ Ok (x ∷ rest, nodes) ])
-    → 0 < length names
-named [] nodes names body e = absurd cc
-named (x ∷ xs) nodes names body e =
-    subst (λ (p : List (List ℕ) × Statements). 0 < length p.0) (sym (same_program (names, body) (x ∷ xs, nodes) e)) (omega arith)
-
-walked : (met : Result (State × Statements) ParseFault) (names : List (List ℕ)) (body : Statements)
-    → answered (Ok (names, body)) ≡ (met >>= λ r. program_of r) → 0 < length names
-walked (Err fault) names body e = absurd cc
-walked (Ok (state, nodes)) names body e = named state.names nodes names body e
-
--- a program has a variable
-pub program_names : (text : List ℕ) (names : List (List ℕ)) (body : Statements) → Reading text (Ok (names, body)) → 0 < length names
-program_names text names body (tokens, reads, inl (at, finds, e)) = absurd cc
-program_names text names body (tokens, reads, inr (inl (at, finds, e))) = absurd cc
-program_names text names body (tokens, reads, inr (inr (program a b c ps d f is r g k, is_tree, fine, e))) = walked _ names body e
+-- ---- transition systems have at least one variable
 
 spots_some : (names : Names) → 0 < length (names_in names)
 spots_some names = omega (arith, length-append names.first_ones (names.last ∷ []), length-map (all_spots names) (λ (s : Spot). s.name))
 
--- and of what the text of a transition system is
+-- what the text of a transition system is, named so that equations between answers have their type
 abbrev auto_answered : AutoAnswer → AutoAnswer
 auto_answered answer = answer
 

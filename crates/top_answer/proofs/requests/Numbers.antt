@@ -6,11 +6,12 @@ use Rattle.std.specs.List.{list_all}
 use Rattle.std.specs.Str.Parse.{digits_value}
 use Rattle.base_limits.specs.declared.limits.TheConstants.{MOST_IMPROVEMENTS}
 use Rattle.clap.specs.Words.{Row, Text, first_of}
-use Rattle.ask_words.specs.Request.{analysis_in, improvements_in, policy_in}
+use Rattle.ask_words.specs.Request.{analysis_in, improvements_in, policy_in, source_in}
 use Rattle.ask_words.specs.Values.{domain_in, number_in}
 use Rattle.ask_words.specs.declared.request.Analysis.{Analysis}
 use Rattle.ask_words.specs.declared.request.Domain.{Domain}
 use Rattle.ask_words.specs.declared.request.Policy.{Policy}
+use Rattle.ask_words.specs.declared.request.Source.{Source}
 use Rattle.ask_files.specs.Files.{Request}
 use Rattle.top_answer.proofs.commands.Lawful.{IsInRange}
 
@@ -72,7 +73,7 @@ number_bounds least most text n e =
 rows_in : List Row → Option (Domain Text)
 rows_in given = domain_in (unwrap_or (first_of (codes "domain") given) (codes "intervals")) (first_of (codes "rows") given)
 
-with_policy : List Row → Text → Domain Text → ℕ → Option (Analysis Text)
+with_policy : List Row → Source Text → Domain Text → ℕ → Option (Analysis Text)
 with_policy given program domain improvements = option_map (λ policy. record {
   program = program;
   domain = domain;
@@ -81,10 +82,10 @@ with_policy given program domain improvements = option_map (λ policy. record {
   policy = policy;
 }) (policy_in given)
 
-with_limit : List Row → Text → Domain Text → Option (Analysis Text)
+with_limit : List Row → Source Text → Domain Text → Option (Analysis Text)
 with_limit given program domain = option_and_then (with_policy given program domain) (improvements_in given)
 
-with_domain : List Row → Text → Option (Analysis Text)
+with_domain : List Row → Source Text → Option (Analysis Text)
 with_domain given program = option_and_then (with_limit given program) (rows_in given)
 
 -- the improvements that are given are within their limit
@@ -95,7 +96,7 @@ improvements_bound given n e = (number_bounds 0 MOST_IMPROVEMENTS (unwrap_or (fi
 pub analysis_bounds : (given : List Row) (a : Analysis Text) → analysis_in given ≡ Some a → a.improvements ≤ MOST_IMPROVEMENTS
 unfolding with_domain with_limit with_policy rows_in
 analysis_bounds given a e =
-    let program = and_then_some (with_domain given) (first_of (codes "program") given) a e in
+    let program = and_then_some (with_domain given) (source_in given) a e in
     let domain = and_then_some (with_limit given program.0) (rows_in given) a program.2 in
     let improvements = and_then_some (with_policy given program.0 domain.0) (improvements_in given) a domain.2 in
     let made : Policy → Analysis Text = λ policy. record {

@@ -3,8 +3,8 @@
 ghost use Rattle.std.specs.Prelude.{◌≡◌, ◌≤◌, length};
 ghost use Rattle.base_limits.specs.declared.limits.TheConstants.{MOST_TEXT_BYTES};
 ghost use Rattle.top_status.specs.CheckMessages.{fault_has_unknown, has_unknown, rows_of, site_has_unknown};
-ghost use Rattle.top_status.specs.Messages.{auto_place, claim_place, equation_place, lex_place, line_at_place, line_in, parse_place};
-ghost use Rattle.top_status.specs.Messages.{place_of};
+ghost use Rattle.top_status.specs.Messages.{auto_place, claim_place, equation_place, function_place, lex_place, line_at_place, line_in};
+ghost use Rattle.top_status.specs.Messages.{parse_place, place_of, source_place};
 
 use crate::status::{CertCause, Excess, Status, TextCause};
 use ask_claims::ClaimFault;
@@ -14,6 +14,8 @@ use flow_systems::Site;
 use flow_transitions::AutoFault;
 use lang_meaning::ParseFault;
 use lang_tokens::{LexFault, line_of};
+use source_file::SourceFault;
+use source_meaning::FunctionFault;
 
 // The place of a cause in its text.
 fn place_of(cause: TextCause) -> Option<u32>
@@ -21,7 +23,7 @@ fn place_of(cause: TextCause) -> Option<u32>
 {
     match cause {
         TextCause::Lex(fault) => lex_place(fault),
-        TextCause::Parse(fault) => parse_place(fault),
+        TextCause::Source(fault) => source_place(fault),
         TextCause::Claims(fault) => claim_place(fault),
         TextCause::Equ(fault) => equation_place(fault),
         TextCause::Auto(fault) => auto_place(fault),
@@ -55,6 +57,33 @@ fn parse_place(fault: ParseFault) -> Option<u32>
         | ParseFault::BigNumber { at }
         | ParseFault::OutsideLoop { at } => Some(at),
         ParseFault::NoVariables | ParseFault::NoMemory => None,
+    }
+}
+
+fn function_place(fault: FunctionFault) -> Option<u32>
+    ensures { result ≡ function_place fault }
+{
+    match fault {
+        FunctionFault::UnknownName { at }
+        | FunctionFault::NameTwice { at }
+        | FunctionFault::WrongKind { at }
+        | FunctionFault::Array { at }
+        | FunctionFault::BigNumber { at }
+        | FunctionFault::Limit { at, .. }
+        | FunctionFault::OutsideLoop { at } => Some(at),
+        FunctionFault::NoVariables | FunctionFault::NoMemory => None,
+    }
+}
+
+fn source_place(fault: SourceFault) -> Option<u32>
+    ensures { result ≡ source_place fault }
+{
+    match fault {
+        SourceFault::Unexpected { at }
+        | SourceFault::Nesting { at }
+        | SourceFault::NameTwice { at } => Some(at),
+        SourceFault::Function(fault) => function_place(fault),
+        SourceFault::WhichFunction | SourceFault::NoMemory => None,
     }
 }
 

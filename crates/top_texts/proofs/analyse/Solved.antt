@@ -21,6 +21,8 @@ use Rattle.flow_systems.proofs.states.Soundness.{program_soundness}
 use Rattle.ask_words.specs.declared.format.Format.{Format}
 use Rattle.top_written.specs.Formats.{report_in, report_of_in}
 use Rattle.top_texts.specs.Reports.{IsLeastReport}
+use Rattle.top_texts.specs.Texts.{HasCore, Program}
+use Rattle.top_texts.proofs.by_c.InSource.{bounds_in_source}
 use Rattle.flow_templates.specs.declared.limits.TheConstants.{MOST_ROWS}
 
 -- the equation system of these parts
@@ -51,16 +53,17 @@ over_names names s e =
     (both (is_over (length s.flow.names) s.template) _ s.within_limits).0
 
 -- the report of a system's least vector is that of its program and template
-pub least_report : (names : List (List ℕ)) (body : Statements) (s : System) (v : Vector) (footer : Footer) (format : Format)
-    (bytes : List ℕ) → s.flow.names ≡ names → s.flow.points ≡ points_of_program body → s.flow.edges ≡ edges_of_program body
-    → Least (equations_of s) v → bytes ≡ report_of_in format s v footer
-    → IsLeastReport names body s.template v footer format bytes
-least_report names body s v footer format bytes n p e least text =
+pub least_report : (program : Program) (names : List (List ℕ)) (body : Statements) (s : System) (v : Vector) (footer : Footer)
+    (format : Format) (bytes : List ℕ) → HasCore program names body → s.flow.names ≡ names → s.flow.points ≡ points_of_program body
+    → s.flow.edges ≡ edges_of_program body → Least (equations_of s) v → bytes ≡ report_of_in format s v footer
+    → IsLeastReport program names body s.template v footer format bytes
+least_report program names body s v footer format bytes core n p e least text =
     let moved : Least (equations_of_program (length names) body s.template) v =
     subst (λ q. Least q v) (same_equations names body s n p e) least in
     record {
       least = moved;
       holds = program_soundness (length names) body s.template v (over_names names s n) moved.solves.post;
+      by_c = bounds_in_source program names body core s.template v (over_names names s n) moved;
       report = text_of names body s.template s.flow.names s.flow.points v footer format bytes n p text;
     }
 

@@ -27,7 +27,7 @@ use Rattle.top_texts.specs.Outcomes.{refused}
 use Rattle.top_texts.specs.Questions.{analysis_question, rounds_end, rounds_spent}
 use Rattle.top_texts.specs.Reports.{IsCertificateOf, IsLeastReport, IsPutOf, IsReportOf}
 use Rattle.top_texts.specs.Rounds.{EndsWithin}
-use Rattle.top_texts.specs.Texts.{HasTemplate, IsSolvedSystem, unknowns}
+use Rattle.top_texts.specs.Texts.{HasTemplate, IsSolvedSystem, Program, unknowns}
 use Rattle.ask_words.specs.declared.request.Purpose.{Purpose}
 use Rattle.ask_words.specs.declared.request.Purpose.TheVariants.{Report, Certificate as AsCertificate}
 use Rattle.top_texts.specs.declared.refusal.Refusal.{Refusal}
@@ -35,7 +35,8 @@ use Rattle.top_texts.specs.declared.refusal.Refusal.TheVariants as refusal
 use Rattle.top_status.specs.declared.status.Status.{Status}
 use Rattle.top_status.specs.declared.status.Status.TheVariants.{Done, Open, Certificate, Usage, Read, Text, Exceeded, Spent, Memory, Write}
 use Rattle.top_texts.proofs.rounds.OneChain.{solved_ends}
-use Rattle.top_texts.proofs.texts.Once.{equations_are}
+use Rattle.top_texts.proofs.by_c.InSource.{bounds_in_source}
+use Rattle.top_texts.proofs.texts.Once.{equations_are, rows_over}
 use Rattle.top_texts.proofs.texts.Readings.{program_once, rows_once}
 use Rattle.top_texts.proofs.analyse.Solved.{least_report, same_equations}
 use Rattle.flow_systems.specs.declared.limits.TheConstants.{MOST_UNKNOWNS}
@@ -66,21 +67,23 @@ halted_answer purpose system policy limit r s e h = subst (λ x. IsAnswerToSyste
 -- ---- and to its texts
 
 -- the analysis of a system answers for the texts of its program and template
-pub system_texts : (purpose : Purpose) (text : List ℕ) (rows : Domain (List ℕ)) (system : System) (policy : Policy) (limit : ℕ)
-    (status : Status) → IsSolvedSystem text rows system
-    → IsAnswerToSystem purpose system policy limit status → QuestionAnswer (analysis_question exact purpose text rows policy limit) status
-system_texts purpose text rows system policy limit Done is h = rounds_end system refl is h
-system_texts purpose text rows system policy limit (Certificate cause) is h = absurd h
-system_texts purpose text rows system policy limit Open is h = absurd h
-system_texts purpose text rows system policy limit Usage is h = absurd h
-system_texts purpose text rows system policy limit (Read cause) is h = absurd h
-system_texts purpose text rows system policy limit (Text cause) is h = absurd h
-system_texts purpose text rows system policy limit (Exceeded excess) is h = record { system = system; meant = is; exceeds = h }
-system_texts purpose text rows system policy limit (Spent n) is h = rounds_spent system (ap Spent h.1) is h.0
-system_texts purpose text rows system policy limit Memory is h = tt
-system_texts purpose text rows system policy limit Write is h = rounds_end system refl is h
+pub system_texts : (purpose : Purpose) (program : Program) (rows : Domain (List ℕ)) (system : System) (policy : Policy) (limit : ℕ)
+    (status : Status) → IsSolvedSystem program rows system
+    → IsAnswerToSystem purpose system policy limit status
+    → QuestionAnswer (analysis_question exact purpose program rows policy limit) status
+system_texts purpose program rows system policy limit Done is h = rounds_end system refl is h
+system_texts purpose program rows system policy limit (Certificate cause) is h = absurd h
+system_texts purpose program rows system policy limit Open is h = absurd h
+system_texts purpose program rows system policy limit Usage is h = absurd h
+system_texts purpose program rows system policy limit (Read cause) is h = absurd h
+system_texts purpose program rows system policy limit (Text cause) is h = absurd h
+system_texts purpose program rows system policy limit (Exceeded excess) is h = record { system = system; meant = is; exceeds = h }
+system_texts purpose program rows system policy limit (Spent n) is h = rounds_spent system (ap Spent h.1) is h.0
+system_texts purpose program rows system policy limit Memory is h = tt
+system_texts purpose program rows system policy limit Write is h = rounds_end system refl is h
 
-refused_texts : (purpose : Purpose) (t : List ℕ) (rows : Domain (List ℕ)) (policy : Policy) (limit : ℕ) (r : Refusal) → IsRefusedBy t rows r
+refused_texts : (purpose : Purpose) (t : Program) (rows : Domain (List ℕ)) (policy : Policy) (limit : ℕ) (r : Refusal)
+    → IsRefusedBy t rows r
     → QuestionAnswer (analysis_question exact purpose t rows policy limit) (refused r)
 refused_texts purpose t rows policy limit (refusal.Text c) h = h
 refused_texts purpose t rows policy limit (refusal.Certificate c) h = absurd h
@@ -89,7 +92,7 @@ refused_texts purpose t rows policy limit (refusal.Spent n) h = absurd h
 refused_texts purpose t rows policy limit refusal.NoMemory h = tt
 
 -- a refusal of a text answers with its status
-pub refused_answer : (purpose : Purpose) (t u : List ℕ) (rows : Domain (List ℕ)) (policy : Policy) (limit : ℕ) (r : Refusal) (s : Status)
+pub refused_answer : (purpose : Purpose) (t u : Program) (rows : Domain (List ℕ)) (policy : Policy) (limit : ℕ) (r : Refusal) (s : Status)
     → s ≡ refused r → u ≡ t → IsRefusedBy u rows r
     → QuestionAnswer (analysis_question exact purpose t rows policy limit) s
 refused_answer purpose t u rows policy limit r s e i h =
@@ -112,29 +115,30 @@ system_line purpose text system policy limit (Spent n) h = refl
 system_line purpose text system policy limit Memory h = refl
 system_line purpose text system policy limit Write h = refl
 
-template_once : (text : List ℕ) (rows : Domain (List ℕ)) (s t : System) → IsSolvedSystem text rows s → IsSolvedSystem text rows t
+template_once : (program : Program) (rows : Domain (List ℕ)) (s t : System) → IsSolvedSystem program rows s → IsSolvedSystem program rows t
     → s.template ≡ t.template
-template_once text rows s t a b =
-    let same = program_once text (a.names, a.body) (b.names, b.body) a.ready.system.analysed.reading b.ready.system.analysed.reading in
+template_once program rows s t a b =
+    let same = program_once program (a.names, a.body) (b.names, b.body) a.ready.system.analysed.has_core b.ready.system.analysed.has_core in
     a.system_for.template_is
     ∙ rows_once rows b.names a.template b.template (subst (λ (p : List (List ℕ) × Statements). HasTemplate rows p.0 (Ok a.template)) same
     a.ready.system.template_is) b.ready.system.template_is
     ∙ sym b.system_for.template_is
 
 -- the row count of a system's analysis is that of its texts
-pub system_rows : (text : List ℕ) (rows : Domain (List ℕ)) (s t : System) (count : ℕ) (status : Status) → IsSolvedSystem text rows s
-    → count ≡ rows_of (length s.template) status → IsSolvedSystem text rows t
+pub system_rows : (program : Program) (rows : Domain (List ℕ)) (s t : System) (count : ℕ) (status : Status) → IsSolvedSystem program rows s
+    → count ≡ rows_of (length s.template) status → IsSolvedSystem program rows t
     → count ≡ rows_of (length t.template) status
-system_rows text rows s t count status a e b = e ∙ ap (λ (rs : List (List ℤ)). rows_of (length rs) status) (template_once text rows s t a b)
+system_rows program rows s t count status a e b = e ∙ ap (λ (rs : List (List ℤ)). rows_of (length rs) status)
+    (template_once program rows s t a b)
 
 -- texts that are refused have the row count of the refusal
-pub refused_rows : (text : List ℕ) (rows : Domain (List ℕ)) (r : Refusal) (count : ℕ) → IsRefusedBy text rows r
+pub refused_rows : (program : Program) (rows : Domain (List ℕ)) (r : Refusal) (count : ℕ) → IsRefusedBy program rows r
     → 0 ≡ rows_of count (refused r)
-refused_rows text rows (refusal.Text c) count h = refl
-refused_rows text rows (refusal.Certificate c) count h = absurd h
-refused_rows text rows (refusal.Exceeded excess) count h = absurd h
-refused_rows text rows (refusal.Spent n) count h = absurd h
-refused_rows text rows refusal.NoMemory count h = refl
+refused_rows program rows (refusal.Text c) count h = refl
+refused_rows program rows (refusal.Certificate c) count h = absurd h
+refused_rows program rows (refusal.Exceeded excess) count h = absurd h
+refused_rows program rows (refusal.Spent n) count h = absurd h
+refused_rows program rows refusal.NoMemory count h = refl
 
 -- ---- rows of a template have no fault
 
@@ -165,10 +169,10 @@ sound n template h k =
 
 -- ---- what is put
 
-report_put : (text : List ℕ) (rows : Domain (List ℕ)) (system : System) (policy : Policy) (limit : ℕ) (format : Format)
-    (bytes : List ℕ) → IsSolvedSystem text rows system → IsRoundsReport system policy limit format bytes
-    → IsReportOf text rows policy limit format bytes
-report_put text rows system policy limit format bytes is r = record {
+report_put : (program : Program) (rows : Domain (List ℕ)) (system : System) (policy : Policy) (limit : ℕ) (format : Format)
+    (bytes : List ℕ) → IsSolvedSystem program rows system → IsRoundsReport system policy limit format bytes
+    → IsReportOf program rows policy limit format bytes
+report_put program rows system policy limit format bytes is r = record {
   names = is.names;
   body = is.body;
   template = is.template;
@@ -180,19 +184,24 @@ report_put text rows system policy limit format bytes is r = record {
   has_rounds = r.has_rounds;
   vector = vector_of (length system.template) r.bounds;
   least = subst
-      (λ t. IsLeastReport is.names is.body t (vector_of (length system.template) r.bounds) (Improvements r.rounds) format bytes)
+      (λ t. IsLeastReport program is.names is.body t (vector_of (length system.template) r.bounds) (Improvements r.rounds) format bytes)
       is.system_for.template_is
-      (least_report is.names is.body system (vector_of (length system.template) r.bounds) (Improvements r.rounds) format bytes
-      is.system_for.names_are is.system_for.points_are is.system_for.edges_are r.least r.report);
+      (least_report program is.names is.body system (vector_of (length system.template) r.bounds) (Improvements r.rounds) format bytes
+      is.ready.system.analysed.has_core is.system_for.names_are is.system_for.points_are is.system_for.edges_are r.least r.report);
 }
 
-certificate_put : (text : List ℕ) (rows : Domain (List ℕ)) (system : System) (policy : Policy) (limit : ℕ) (bytes : List ℕ)
-    → IsSolvedSystem text rows system → IsRoundsCertificate system policy limit bytes → IsCertificateOf text rows policy limit bytes
-certificate_put text rows system policy limit bytes is r =
+certificate_put : (program : Program) (rows : Domain (List ℕ)) (system : System) (policy : Policy) (limit : ℕ) (bytes : List ℕ)
+    → IsSolvedSystem program rows system → IsRoundsCertificate system policy limit bytes → IsCertificateOf program rows policy limit bytes
+certificate_put program rows system policy limit bytes is r =
     let same : equations_of system ≡ system_with is.names is.body (cert_with system r.solved) =
     same_equations is.names is.body system is.system_for.names_are is.system_for.points_are is.system_for.edges_are in
     let over : IsTrue (is_over (length system.flow.names) system.template) =
     (both (is_over (length system.flow.names) system.template) _ system.within_limits).0 in
+    let bounds = vector_of (length is.template) r.solved.bounds in
+    let least : Least (equations_of_program (length is.names) is.body is.template) bounds =
+    subst (λ t. Least (equations_of_program (length is.names) is.body is.template) (vector_of (length t) r.solved.bounds))
+    is.system_for.template_is (subst (λ q. Least q (vector_of (length system.template) r.solved.bounds))
+    (equations_are is.names is.body is.template system is.system_for) r.least) in
     record {
       names = is.names;
       body = is.body;
@@ -215,15 +224,14 @@ certificate_put text rows system policy limit bytes is r =
       };
       expands = r.expands;
       narrow = subst (λ q. NoneIsWide q (made_certificate system r.solved)) same r.narrow;
-      least = subst (λ t. Least (equations_of_program (length is.names) is.body is.template) (vector_of (length t) r.solved.bounds))
-          is.system_for.template_is
-          (subst (λ q. Least q (vector_of (length system.template) r.solved.bounds))
-          (equations_are is.names is.body is.template system is.system_for) r.least);
+      least = least;
+      by_c = bounds_in_source program is.names is.body is.ready.system.analysed.has_core is.template bounds
+          (rows_over is.names is.body is.template system is.system_for) least;
     }
 
 -- what the analysis of a system puts is what its texts get
-pub output_put : (purpose : Purpose) (text : List ℕ) (rows : Domain (List ℕ)) (system : System) (policy : Policy) (limit : ℕ)
-    (format : Format) (bytes : List ℕ) → IsSolvedSystem text rows system → IsOutputOf purpose system policy limit format bytes
-    → IsPutOf purpose text rows policy limit format bytes
-output_put Report text rows system policy limit format bytes is r = report_put text rows system policy limit format bytes is r
-output_put AsCertificate text rows system policy limit format bytes is r = certificate_put text rows system policy limit bytes is r
+pub output_put : (purpose : Purpose) (program : Program) (rows : Domain (List ℕ)) (system : System) (policy : Policy) (limit : ℕ)
+    (format : Format) (bytes : List ℕ) → IsSolvedSystem program rows system → IsOutputOf purpose system policy limit format bytes
+    → IsPutOf purpose program rows policy limit format bytes
+output_put Report program rows system policy limit format bytes is r = report_put program rows system policy limit format bytes is r
+output_put AsCertificate program rows system policy limit format bytes is r = certificate_put program rows system policy limit bytes is r

@@ -11,7 +11,7 @@ use Rattle.solve_rounds.specs.Solutions.{IsSolved}
 use Rattle.top_texts.specs.Analyses.{IsFoundIn, IsHaltedEnding, IsRefusedText, IsSolvedBy, IsUnput}
 use Rattle.top_texts.specs.Outcomes.{refused}
 use Rattle.top_texts.specs.Policies.{rule_of}
-use Rattle.top_texts.specs.Texts.{IsSolvedSystem}
+use Rattle.top_texts.specs.Texts.{IsSolvedSystem, Program}
 use Rattle.top_texts.specs.declared.analyse.least.LeastBounds.{LeastBounds}
 use Rattle.top_status.specs.Status.{has_output}
 use Rattle.top_status.specs.declared.ending.Ending.{Ending}
@@ -49,13 +49,13 @@ solved_by system policy limit least same is is_least count = record {
 }
 
 -- those of a text's system are those of the text
-pub found_of : (text : List ℕ) (rows : Domain (List ℕ)) (system : System) (policy : Policy) (limit : ℕ) (least : LeastBounds)
-    → IsSolvedSystem text rows system
-    → IsSolvedBy system policy limit least → IsFoundIn text rows policy limit least
-found_of text rows system policy limit least is by =
+pub found_of : (program : Program) (rows : Domain (List ℕ)) (system : System) (policy : Policy) (limit : ℕ) (least : LeastBounds)
+    → IsSolvedSystem program rows system
+    → IsSolvedBy system policy limit least → IsFoundIn program rows policy limit least
+found_of program rows system policy limit least is by =
     let moved : IsSolvedBy least.system policy limit least = subst (λ (s : System). IsSolvedBy s policy limit least) (sym by.same) by in
     record {
-      solved = subst (λ (s : System). IsSolvedSystem text rows s) (sym by.same) is;
+      solved = subst (λ (s : System). IsSolvedSystem program rows s) (sym by.same) is;
       within = by.within;
       has_rounds = moved.has_rounds;
       least = moved.least;
@@ -63,19 +63,20 @@ found_of text rows system policy limit least is by =
     }
 
 -- and so is the ending where there are none
-halted_text : (text : List ℕ) (rows : Domain (List ℕ)) (system : System) (policy : Policy) (limit : ℕ) (ending : Ending)
-    → IsSolvedSystem text rows system
-    → IsHaltedEnding system policy limit ending → IsRefusedText text rows policy limit ending
-halted_text text rows system policy limit ending is h = record {
-  answer = system_texts Report text rows system policy limit ending.status is h.answer;
+halted_text : (program : Program) (rows : Domain (List ℕ)) (system : System) (policy : Policy) (limit : ℕ) (ending : Ending)
+    → IsSolvedSystem program rows system
+    → IsHaltedEnding system policy limit ending → IsRefusedText program rows policy limit ending
+halted_text program rows system policy limit ending is h = record {
+  answer = system_texts Report program rows system policy limit ending.status is h.answer;
   unput = h.unput;
-  line = h.line ∙ system_line Report text system policy limit ending.status h.answer;
-  rows_named = λ other a. system_rows text rows system other ending.rows ending.status is h.rows_named a;
+  line = h.line ∙ system_line Report program.text system policy limit ending.status h.answer;
+  rows_named = λ other a. system_rows program rows system other ending.rows ending.status is h.rows_named a;
 }
 
 -- rounds that halt give the texts no least bounds but the halt's ending
-pub halted_texts : (text : List ℕ) (rows : Domain (List ℕ)) (system : System) (policy : Policy) (limit : ℕ) (r : Result LeastBounds Ending)
-    → IsSolvedSystem text rows system
-    → IfErr r (IsHaltedEnding system policy limit) → IfErr r (IsRefusedText text rows policy limit)
-halted_texts text rows system policy limit (Ok bounds) is h = tt
-halted_texts text rows system policy limit (Err ending) is h = halted_text text rows system policy limit ending is h
+pub halted_texts : (program : Program) (rows : Domain (List ℕ)) (system : System) (policy : Policy) (limit : ℕ)
+    (r : Result LeastBounds Ending)
+    → IsSolvedSystem program rows system
+    → IfErr r (IsHaltedEnding system policy limit) → IfErr r (IsRefusedText program rows policy limit)
+halted_texts program rows system policy limit (Ok bounds) is h = tt
+halted_texts program rows system policy limit (Err ending) is h = halted_text program rows system policy limit ending is h

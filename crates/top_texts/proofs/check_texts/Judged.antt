@@ -3,7 +3,7 @@ use Rattle.std.proofs.Common.{◌≡◌, inl, inr, ℕ, Bool, List, length, subs
 use Rattle.std.specs.Prelude.{◌↔◌, IsTrue, Contains}
 use Rattle.lang_tree.specs.Limits.{is_program}
 use Rattle.lang_tree.specs.Tree.{Statements}
-use Rattle.flow_edges.specs.Checks.{checks_of_program}
+use Rattle.flow_edges.specs.Checks.{checks_in as checks_in_core, checks_of_program}
 use Rattle.flow_edges.specs.declared.checked.CheckCases.{CheckCases}
 use Rattle.flow_systems.specs.Equations.{Equations, Least}
 use Rattle.flow_systems.specs.Solutions.{equations_of_program}
@@ -23,47 +23,49 @@ use Rattle.ask_words.specs.declared.request.Purpose.TheVariants.{Report}
 use Rattle.top_texts.specs.CheckTexts.{AreCheckVerdictsOf, HasChecks, ending_of}
 use Rattle.top_texts.specs.Exact.{exact}
 use Rattle.top_written.specs.Formats.{checks_in}
-use Rattle.top_texts.specs.Outcomes.{AreUnverified, IsHalted, IsRefusedBy, IsUnanswered}
+use Rattle.top_texts.specs.Outcomes.{AreUnverified, HasSystemOver, IsHalted, IsRefusedBy, IsUnanswered}
 use Rattle.top_texts.specs.Policies.{rule_of}
 use Rattle.top_texts.specs.Questions.{checks_question}
 use Rattle.top_texts.specs.Spots.{IsWideOn}
-use Rattle.top_texts.specs.Texts.{IsSystemOn}
+use Rattle.top_texts.specs.Texts.{HasCore, Program}
 use Rattle.top_texts.specs.declared.refusal.Refusal.{Refusal}
 use Rattle.top_texts.specs.declared.refusal.Refusal.TheVariants as refusal
 use Rattle.top_status.specs.declared.status.Excess.TheVariants.{Wide, Large}
-use Rattle.top_texts.proofs.check_texts.Listed.{verdicts_end, verdicts_speak}
+use Rattle.top_texts.proofs.analyse.Systems.{solved_system}
+use Rattle.top_texts.proofs.by_c.InSource.{check_in_source}
+use Rattle.top_texts.proofs.check_texts.Listed.{all_true, place_of, verdicts_end, verdicts_speak}
 use Rattle.top_texts.proofs.questions.Answered.{halted}
 use Rattle.top_texts.proofs.rounds.OneChain.{solved_rounds}
 use Rattle.top_texts.proofs.texts.Once.{equations_are, rows_over}
 
--- the system of a program that a text reads as has the program's checks
-pub has_checks : (text : List ℕ) (rows : Domain (List ℕ)) (names : List (List ℕ)) (body : Statements) (s : System)
-    (checks : List CheckCases) → IsSystemOn text rows names body s → checks ≡ checks_of_program body
-    → IsTrue (is_program (length names) body) → HasChecks text rows s checks
-has_checks text rows names body s checks on are program = record {
-  solved = record { names = names; body = body; template = on.template; ready = on.ready; system_for = on.system_for };
+-- the system of a program has the checks of its core
+pub has_checks : (program : Program) (rows : Domain (List ℕ)) (names : List (List ℕ)) (body : Statements) (s : System)
+    (checks : List CheckCases) → HasCore program names body → HasSystemOver rows names body s → checks ≡ checks_of_program body
+    → IsTrue (is_program (length names) body) → HasChecks program rows s checks
+has_checks program rows names body s checks core over are within = record {
+  solved = solved_system program rows names body s core over;
   checks_are = are;
-  within = program;
+  within = within;
 }
 
-module _ (text : List ℕ) (rows : Domain (List ℕ)) (policy : Policy) (limit : ℕ) where
+module _ (program : Program) (rows : Domain (List ℕ)) (policy : Policy) (limit : ℕ) where
   -- texts of a program and its rows that are refused
-  pub unsystematic : (r : Refusal) → IsRefusedBy text rows r → IsUnanswered (checks_question exact text rows policy limit) r
+  pub unsystematic : (r : Refusal) → IsRefusedBy program rows r → IsUnanswered (checks_question exact program rows policy limit) r
   unsystematic (refusal.Text cause) h = h
   unsystematic (refusal.Certificate cause) h = absurd h
   unsystematic (refusal.Exceeded excess) h = absurd h
   unsystematic (refusal.Spent n) h = absurd h
   unsystematic refusal.NoMemory h = tt
 
-  module _ (s : System) (checks : List CheckCases) (has : HasChecks text rows s checks) where
+  module _ (s : System) (checks : List CheckCases) (has : HasChecks program rows s checks) where
     -- rounds that have no end
-    pub unsolved : (r : Refusal) → IsHalted Report s policy limit r → IsUnanswered (checks_question exact text rows policy limit) r
-    unsolved r h = halted (checks_question exact text rows policy limit) Report s has.solved (λ excess h. inl h) r h
+    pub unsolved : (r : Refusal) → IsHalted Report s policy limit r → IsUnanswered (checks_question exact program rows policy limit) r
+    unsolved r h = halted (checks_question exact program rows policy limit) Report s has.solved (λ excess h. inl h) r h
 
     module _ (solved : Solved) (solution : IsSolved s (rule_of policy) limit solved) where
       -- checks for which an operation is too wide
       pub unverified : (r : Refusal) → AreUnverified (equations_of s) (vector_of (length s.template) solved.bounds) checks r
-          → IsUnanswered (checks_question exact text rows policy limit) r
+          → IsUnanswered (checks_question exact program rows policy limit) r
       unverified (refusal.Text cause) h = absurd h
       unverified (refusal.Certificate cause) h = absurd h
       unverified (refusal.Exceeded (Large cells)) h = absurd h
@@ -89,8 +91,9 @@ module _ (text : List ℕ) (rows : Domain (List ℕ)) (policy : Policy) (limit :
           → (verdicts : List Verdict)
           → AreCheckVerdicts (equations_of s) (vector_of (length s.template) solved.bounds) checks verdicts
           → (is_open : Bool) → IsTrue is_open ↔ ((state : RationalState) × Contains verdicts (Open state))
-          → (format : Format) (file bytes : List ℕ) → bytes ≡ checks_in format file text s.flow.names checks verdicts solved.improvements
-          → AreCheckVerdictsOf exact file text rows policy limit format (ending_of is_open) bytes
+          → (format : Format) (file bytes : List ℕ) → bytes ≡ checks_in format file program.text s.flow.names checks verdicts
+          solved.improvements
+          → AreCheckVerdictsOf exact file program rows policy limit format (ending_of is_open) bytes
       judged hold break least verdicts h is_open said format file bytes written =
           let is = has.solved in
           let vector = vector_of (length s.template) solved.bounds in
@@ -99,6 +102,10 @@ module _ (text : List ℕ) (rows : Domain (List ℕ)) (policy : Policy) (limit :
           let lowest : Least system vector = subst (λ (q : Equations). Least q vector) same least in
           let are : AreCheckVerdicts system vector (checks_of_program is.body) verdicts =
           subst₂ (λ (q : Equations) (cs : List CheckCases). AreCheckVerdicts q vector cs verdicts) same has.checks_are h in
+          let ends = verdicts_end is.body system vector verdicts are break is_open said in
+          let speak = verdicts_speak (length is.names) is.body is.template vector verdicts are has.within
+          (rows_over is.names is.body is.template s is.system_for) lowest.solves.post hold break in
+          let core = is.ready.system.analysed.has_core in
           record {
             judged = record {
               system = s;
@@ -108,12 +115,15 @@ module _ (text : List ℕ) (rows : Domain (List ℕ)) (policy : Policy) (limit :
               vector = vector;
               has_rounds = solved_rounds s policy limit solved solution;
               least = lowest;
-              ends = verdicts_end is.body system vector verdicts are break is_open said;
+              ends = ends;
             };
             verdicts = verdicts;
             verdicts_are = are;
-            speak = verdicts_speak (length is.names) is.body is.template vector verdicts are has.within
-                (rows_over is.names is.body is.template s is.system_for) lowest.solves.post hold break;
-            written = subst₂ (λ ns (cs : List CheckCases). bytes ≡ checks_in format file text ns cs verdicts solved.improvements)
+            speak = speak;
+            by_c = λ about all. check_in_source program is.names is.body core about (λ check among same.
+                let at = place_of (checks_in_core is.body) check among in speak.proved at.0 check at.1 (all at.0 check at.1 same));
+            all_by_c = λ done about. check_in_source program is.names is.body core about (λ check among same.
+                all_true (length is.names) is.body system vector verdicts speak (ending_of is_open) ends done check among);
+            written = subst₂ (λ ns (cs : List CheckCases). bytes ≡ checks_in format file program.text ns cs verdicts solved.improvements)
                 is.system_for.names_are has.checks_are written;
           }

@@ -17,7 +17,9 @@ use Rattle.ask_checks.specs.Places.{NoneBreaksCheck}
 use Rattle.ask_checks.specs.Verdicts.{AreCheckVerdicts, IsCheckVerdict}
 use Rattle.ask_verdicts.specs.declared.outcome.Verdict.{Verdict}
 use Rattle.ask_verdicts.specs.declared.outcome.Verdict.TheVariants.{Proved, Open}
-use Rattle.top_texts.specs.CheckTexts.{AllProved, ChecksEnd, SomeOpen, SpeakOfChecks, all_proved, ending_of, some_open}
+use Rattle.top_texts.specs.CheckTexts.{AllProved, ChecksEnd, IsTrueInEachRun, SomeOpen, SpeakOfChecks, all_proved, ending_of, some_open}
+use Rattle.top_status.specs.declared.status.Status.{Status}
+use Rattle.top_status.specs.declared.status.Status.TheVariants.{Done, Open as OpenEnding}
 
 -- ---- lists
 
@@ -28,7 +30,7 @@ some_at (x ∷ xs) zero l = (x, refl)
 some_at (x ∷ xs) (suc k) l = some_at xs k (omega arith)
 
 -- an element stands at some place
-place_of : {A : Type 0} (xs : List A) (x : A) → Contains xs x → (k : ℕ) × (slice_get xs k ≡ Some x)
+pub place_of : {A : Type 0} (xs : List A) (x : A) → Contains xs x → (k : ℕ) × (slice_get xs k ≡ Some x)
 place_of xs x c = (c.0, slice_get_read xs (length xs) c.0 x refl c.1 (sym c.2))
 
 -- what stands at a place is an element
@@ -110,3 +112,16 @@ verdicts_speak variables body template vector verdicts are program over post hol
       open_ones = λ k check state e f. break system vector (checks_of_program body) verdicts k (with_cases check) state are
           (cased (checks_in body) k check e) f;
     }
+
+open_undone : (s : Status) → s ≡ OpenEnding → s ≡ Done → ⊥
+open_undone s e f = cc
+
+-- where they end as `Done`, each check of the program is true in every run of it
+pub all_true : (variables : ℕ) (body : Statements) (system : Equations) (vector : Vector) (verdicts : List Verdict)
+    → SpeakOfChecks variables body system vector verdicts → (ending : Status) → ChecksEnd body system vector ending → ending ≡ Done
+    → (check : Checked) → Contains (checks_in body) check → IsTrueInEachRun variables body check
+all_true variables body system vector verdicts speak ending (all_proved e h) d check among =
+    let at = place_of (checks_in body) check among in
+    let here = some_at verdicts at.0 (subst (λ n. at.0 < n) (sym speak.one_each) (slice_get_within (checks_in body) at.0 check at.1)) in
+    speak.proved at.0 check at.1 (here.1 ∙ ap Some ((speak.proved_where at.0 check here.0 at.1 here.1).1 (h check among)))
+all_true variables body system vector verdicts speak ending (some_open e o) d check among = absurd (open_undone ending e d)

@@ -27,7 +27,7 @@ use Rattle.top_texts.specs.CheckTexts.{AreCheckVerdictsOf, ChecksEnd, IsJudged, 
 use Rattle.top_texts.specs.Exact.{exact}
 use Rattle.top_written.specs.Formats.{checks_in}
 use Rattle.top_texts.specs.Rounds.{HasRounds, RunsOut, chosen_by}
-use Rattle.top_texts.specs.Texts.{HasTemplate, IsSolvable, IsSolvedSystem}
+use Rattle.top_texts.specs.Texts.{HasTemplate, IsSolvable, IsSolvedSystem, Program}
 use Rattle.top_status.specs.declared.status.Status.{Status}
 use Rattle.top_status.specs.declared.status.Status.TheVariants.{Done, Open}
 use Rattle.top_texts.proofs.rounds.OneChain.{ends_once, rounds_once}
@@ -76,10 +76,11 @@ ending_once body system z w s t same from (some_open e o) (some_open f p) = e �
 -- ---- of texts
 
 -- what is so of the program and the template of texts by one reading is so by another one
-program_moves : (text : List ℕ) (rows : Domain (List ℕ)) (s t : System) (q : IsSolvedSystem text rows s) (p : IsSolvedSystem text rows t)
-    (P : List (List ℕ) → Statements → List (List ℤ) → Type 0) → P q.names q.body q.template → P p.names p.body p.template
-program_moves text rows s t q p P h =
-    let same = program_once text (q.names, q.body) (p.names, p.body) q.ready.system.analysed.reading p.ready.system.analysed.reading in
+program_moves : (program : Program) (rows : Domain (List ℕ)) (s t : System) (q : IsSolvedSystem program rows s)
+    (p : IsSolvedSystem program rows t) (P : List (List ℕ) → Statements → List (List ℤ) → Type 0)
+    → P q.names q.body q.template → P p.names p.body p.template
+program_moves program rows s t q p P h =
+    let same = program_once program (q.names, q.body) (p.names, p.body) q.ready.system.analysed.has_core p.ready.system.analysed.has_core in
     let template : q.template ≡ p.template =
     rows_once rows p.names q.template p.template (subst (λ (x : List (List ℕ) × Statements). HasTemplate rows x.0 (Ok q.template)) same
     q.ready.system.template_is) p.ready.system.template_is in
@@ -90,62 +91,62 @@ program_edges : (variables : ℕ) (body : Statements) (template : List (List ℤ
     → EdgesGoFromPoints (equations_of_program variables body template)
 program_edges variables body template edge c = (ranges_law body edge c).from
 
-module _ (text : List ℕ) (rows : Domain (List ℕ)) (policy : Policy) (limit : ℕ) where
+module _ (program : Program) (rows : Domain (List ℕ)) (policy : Policy) (limit : ℕ) where
   -- the vectors where improvements end have the same bounds
-  same_vectors : (s t : Status) (a : IsJudged text rows policy limit s) (b : IsJudged text rows policy limit t)
+  same_vectors : (s t : Status) (a : IsJudged program rows policy limit s) (b : IsJudged program rows policy limit t)
       → IsSame (equations_of_program (length a.solved.names) a.solved.body a.solved.template) a.vector b.vector
   same_vectors s t a b =
       let system = equations_of_program (length a.solved.names) a.solved.body a.solved.template in
       let least : Least system b.vector =
-      program_moves text rows b.system a.system b.solved a.solved
+      program_moves program rows b.system a.system b.solved a.solved
       (λ ns body ts. Least (equations_of_program (length ns) body ts) b.vector) b.least in
       at_most_one system a.vector b.vector a.least least.solves least.below
 
   -- the checks of a program decide one ending
-  pub judged_once : (s t : Status) → IsJudged text rows policy limit s → IsJudged text rows policy limit t → s ≡ t
+  pub judged_once : (s t : Status) → IsJudged program rows policy limit s → IsJudged program rows policy limit t → s ≡ t
   judged_once s t a b =
       let p = a.solved in
       ending_once p.body (equations_of_program (length p.names) p.body p.template) a.vector b.vector s t (same_vectors s t a b)
       (program_edges (length p.names) p.body p.template) a.ends
-      (program_moves text rows b.system a.system b.solved p
+      (program_moves program rows b.system a.system b.solved p
       (λ ns body ts. ChecksEnd body (equations_of_program (length ns) body ts) b.vector t) b.ends)
 
   -- where they do, improvements aren't spent
-  pub judged_unspent : (s : Status) (system : System) → IsJudged text rows policy limit s → IsSolvedSystem text rows system
+  pub judged_unspent : (s : Status) (system : System) → IsJudged program rows policy limit s → IsSolvedSystem program rows system
       → RunsOut system policy limit → ⊥
   judged_unspent s system j is out =
-      ends_once j.system system policy limit (solved_once text rows j.system system j.solved is)
+      ends_once j.system system policy limit (solved_once program rows j.system system j.solved is)
       (j.rounds, j.within, j.vector, j.has_rounds) out
 
   -- texts have one list of verdicts
   pub check_verdicts_once : VerdictsAreOne → (file : List ℕ) (format : Format) (s t : Status) (one other : List ℕ)
-      → AreCheckVerdictsOf exact file text rows policy limit format s one
-      → AreCheckVerdictsOf exact file text rows policy limit format t other → one ≡ other
+      → AreCheckVerdictsOf exact file program rows policy limit format s one
+      → AreCheckVerdictsOf exact file program rows policy limit format t other → one ≡ other
   check_verdicts_once law file format s t one other a b =
       let i = a.judged in
       let j = b.judged in
       let p = i.solved in
       let system = equations_of_program (length p.names) p.body p.template in
       let moved : AreCheckVerdicts system j.vector (checks_of_program p.body) b.verdicts =
-      program_moves text rows j.system i.system j.solved p
+      program_moves program rows j.system i.system j.solved p
       (λ ns body ts. AreCheckVerdicts (equations_of_program (length ns) body ts) j.vector (checks_of_program body) b.verdicts)
       b.verdicts_are in
       let verdicts : a.verdicts ≡ b.verdicts =
       law system i.vector j.vector (checks_of_program p.body) a.verdicts b.verdicts (same_vectors s t i j)
       (program_edges (length p.names) p.body p.template) a.verdicts_are moved in
       let rounds : i.rounds ≡ j.rounds =
-      rounds_once i.system j.system policy i.rounds j.rounds i.vector j.vector (solved_once text rows i.system j.system p j.solved)
+      rounds_once i.system j.system policy i.rounds j.rounds i.vector j.vector (solved_once program rows i.system j.system p j.solved)
       i.has_rounds j.has_rounds in
-      let written : other ≡ checks_in format file text p.names (checks_of_program p.body) b.verdicts j.rounds =
-      program_moves text rows j.system i.system j.solved p
-      (λ ns body ts. other ≡ checks_in format file text ns (checks_of_program body) b.verdicts j.rounds) b.written in
+      let written : other ≡ checks_in format file program.text p.names (checks_of_program p.body) b.verdicts j.rounds =
+      program_moves program rows j.system i.system j.solved p
+      (λ ns body ts. other ≡ checks_in format file program.text ns (checks_of_program body) b.verdicts j.rounds) b.written in
       a.written
-      ∙ ap₂ (λ (vs : List Verdict) n. checks_in format file text p.names (checks_of_program p.body) vs n) verdicts rounds
+      ∙ ap₂ (λ (vs : List Verdict) n. checks_in format file program.text p.names (checks_of_program p.body) vs n) verdicts rounds
       ∙ sym written
 
   -- where improvements end, it isn't so that the checks decide neither ending
-  pub one_judged : IsSolvable text rows policy limit → (IsJudged text rows policy limit Done → ⊥)
-      → (IsJudged text rows policy limit Open → ⊥) → ⊥
+  pub one_judged : IsSolvable program rows policy limit → (IsJudged program rows policy limit Done → ⊥)
+      → (IsJudged program rows policy limit Open → ⊥) → ⊥
   one_judged (system, is, (rounds, within, v, ends)) done other =
       let equations = equations_of_program (length is.names) is.body is.template in
       let vector = ends.vectors rounds in
@@ -159,7 +160,7 @@ module _ (text : List ℕ) (rows : Domain (List ℕ)) (policy : Policy) (limit :
       let lowest : Least equations vector =
       subst (λ (q : Equations). Least q vector) (equations_are is.names is.body is.template system is.system_for)
       (least_law (chosen_by policy) (equations_of system) (points_in_range system) rounds v ends) in
-      let made : (s : Status) → ChecksEnd is.body equations vector s → IsJudged text rows policy limit s = λ s e. record {
+      let made : (s : Status) → ChecksEnd is.body equations vector s → IsJudged program rows policy limit s = λ s e. record {
         system = system;
         solved = is;
         rounds = rounds;

@@ -1,4 +1,4 @@
--- The text of a program and the bytes of a certificate have one ending, by stages: each stage has one cause to end, or goes on to the
+-- A program and the bytes of a certificate have one ending, by stages: each stage has one cause to end, or goes on to the
 -- next.
 -- So have the bytes of a certificate that is upgraded.
 use Rattle.std.proofs.Common.{◌≡◌, ◌≤◌, ◌<◌, ◌⊎◌, inl, inr, ⊎_elim, ℕ, List, [], true, false, refl, sym, ap, ap₂, ◌∙◌, subst, arith}
@@ -24,7 +24,7 @@ use Rattle.cert_checker.specs.declared.fault.CheckFault.TheVariants as check
 use Rattle.cert_checker.proofs.events.CheckTests.{unstopped_is_valid}
 use Rattle.top_texts.specs.Checks.{IsCompositionSpot, IsFormFault, system_with, theirs}
 use Rattle.top_texts.specs.Endings.{CheckEnd, UpgradeEnd}
-use Rattle.top_texts.specs.Texts.{IsAnalysed, IsRefusedProgram, unknowns}
+use Rattle.top_texts.specs.Texts.{IsAnalysed, IsRefusedProgram, Program, unknowns}
 use Rattle.top_texts.proofs.texts.Once.{analysed_unrefused, program_refused_once}
 use Rattle.top_texts.proofs.texts.Readings.{program_once}
 use Rattle.top_status.specs.declared.status.TextCause.{TextCause}
@@ -163,8 +163,8 @@ pub data CertEnds (bytes : List ℕ) (last : Cert → Status) (s : Status) : Typ
   unspelt : (f : FormFault) → IsFormFault bytes f → s ≡ Certificate (Form f) → CertEnds bytes last s
   spelt : (cert : Cert) → SpellsCert bytes cert → s ≡ last cert → CertEnds bytes last s
 
--- the text is refused, or is a program whose points and edges are within the limits
-pub data CheckEnds (t bytes : List ℕ) (s : Status) : Type 0 where
+-- the program is refused, or its points and edges are within the limits
+pub data CheckEnds (t : Program) (bytes : List ℕ) (s : Status) : Type 0 where
   refused : (c : TextCause) → IsRefusedProgram t c → s ≡ Text c → CheckEnds t bytes s
   program : (names : List (List ℕ)) (body : Statements) → IsAnalysed t names body → CertEnds bytes (last_ending names body) s
       → CheckEnds t bytes s
@@ -176,19 +176,19 @@ cert_ends_once bytes last s u (unspelt f h e) (spelt c k i) = absurd (not_spelt 
 cert_ends_once bytes last s u (spelt c h e) (unspelt f k i) = absurd (not_spelt bytes f c k h)
 cert_ends_once bytes last s u (spelt c h e) (spelt d k i) = e ∙ ap last (one_reading bytes c d h k) ∙ sym i
 
--- a program's text and a certificate's bytes have one ending by stages
-pub check_ends_once : (t bytes : List ℕ) (s u : Status) → CheckEnds t bytes s → CheckEnds t bytes u → s ≡ u
+-- a program and a certificate's bytes have one ending by stages
+pub check_ends_once : (t : Program) (bytes : List ℕ) (s u : Status) → CheckEnds t bytes s → CheckEnds t bytes u → s ≡ u
 check_ends_once t bytes s u (refused c h e) (refused d k i) = e ∙ ap (λ x. Text x) (program_refused_once t c d h k) ∙ sym i
 check_ends_once t bytes s u (refused c h e) (program names body a i) = absurd (analysed_unrefused t names body c h a)
 check_ends_once t bytes s u (program names body a e) (refused c k i) = absurd (analysed_unrefused t names body c k a)
 check_ends_once t bytes s u (program names body a e) (program others other b i) =
     cert_ends_once bytes (last_ending names body) s u e
     (subst (λ (p : List (List ℕ) × Statements). CertEnds bytes (last_ending p.0 p.1) u)
-    (program_once t (others, other) (names, body) b.reading a.reading) i)
+    (program_once t (others, other) (names, body) b.has_core a.has_core) i)
 
 -- ---- an ending by its cause is one by stages
 
-spelt_ends : (t bytes : List ℕ) (names : List (List ℕ)) (body : Statements) (cert : Cert) (s : Status) → IsAnalysed t names body
+spelt_ends : (t : Program) (bytes : List ℕ) (names : List (List ℕ)) (body : Statements) (cert : Cert) (s : Status) → IsAnalysed t names body
     → SpellsCert bytes cert → s ≡ last_ending names body cert → CheckEnds t bytes s
 spelt_ends t bytes names body cert s a c e = program names body a (spelt cert c e)
 
@@ -200,7 +200,7 @@ wide_spot names body cert spot r w h =
     ∙ composed_picked (h.edge, operation_of (λ q. q) spot.wide) _ _ _ _ _ (sound_rows _ r) (within _ w) h.wide
 
 -- the ending of a check is an ending by stages
-pub check_staged : (t bytes : List ℕ) (s : Status) → CheckEnd t bytes s → CheckEnds t bytes s
+pub check_staged : (t : Program) (bytes : List ℕ) (s : Status) → CheckEnd t bytes s → CheckEnds t bytes s
 check_staged t bytes Done (names, body, cert, v, n) =
     spelt_ends t bytes names body cert Done v.system.spelt.analysed v.system.spelt.spells
     (done_picked _ _ _ _ _ (sound_rows _ v.system.rows) (within _ v.system.within) n.composition

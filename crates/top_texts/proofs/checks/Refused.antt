@@ -17,9 +17,10 @@ use Rattle.ask_words.specs.declared.request.Domain.{Domain}
 use Rattle.top_texts.specs.Checks.{IsSpelt, IsSystemWith, system_with, theirs}
 use Rattle.top_status.specs.CheckMessages.{rows_in}
 use Rattle.top_status.specs.Messages.{line_in}
-use Rattle.top_texts.specs.Outcomes.{GetsNoReport, IsAnswerToCheck, IsMisspelt, IsNoSystem, IsRefusedBy, IsUnaccepted, IsUnread, IsUnspelt}
+use Rattle.top_texts.specs.Outcomes.{GetsNoReport, HasNoFlow, HasNoRows, HasNoSystemOver, IsAnswerToCheck, IsMisspelt, IsNoSystem}
+use Rattle.top_texts.specs.Outcomes.{IsRefusedBy, IsUnaccepted, IsUnread, IsUnspelt}
 use Rattle.top_texts.specs.Outcomes.{refused}
-use Rattle.top_texts.specs.Texts.{IsAnalysed}
+use Rattle.top_texts.specs.Texts.{HasCore, IsAnalysed, Program}
 use Rattle.top_texts.specs.declared.refusal.Refusal.{Refusal}
 use Rattle.top_texts.specs.declared.refusal.Refusal.TheVariants as refusal
 use Rattle.top_status.specs.declared.status.TextCause.TheVariants as text
@@ -38,12 +39,12 @@ not_done (refusal.Exceeded excess) s e d = cc
 not_done (refusal.Spent number) s e d = cc
 not_done refusal.NoMemory s e d = cc
 
--- ---- the text of a program
+-- ---- a program
 
--- a text that cannot be read is refused
-pub unread_refuses : (t : List ℕ) (rows : Domain (List ℕ)) (r : Refusal) → IsUnread t r → IsRefusedBy t rows r
+-- a program that cannot be read is refused
+pub unread_refuses : (t : Program) (rows : Domain (List ℕ)) (r : Refusal) → IsUnread t r → IsRefusedBy t rows r
 unread_refuses t rows (refusal.Text (text.Lex f)) h = h
-unread_refuses t rows (refusal.Text (text.Parse f)) h = h
+unread_refuses t rows (refusal.Text (text.Source f)) h = h
 unread_refuses t rows (refusal.Text (text.Flow f)) h = h
 unread_refuses t rows (refusal.Text (text.Rows f)) h = absurd h
 unread_refuses t rows (refusal.Text (text.Unknowns c)) h = absurd h
@@ -55,18 +56,57 @@ unread_refuses t rows (refusal.Exceeded excess) h = absurd h
 unread_refuses t rows (refusal.Spent k) h = absurd h
 unread_refuses t rows refusal.NoMemory h = tt
 
--- a text that cannot be read spells no check
-pub unread_unspelt : (t bytes : List ℕ) (r : Refusal) → IsUnread t r → IsUnspelt t bytes r
+-- with a program that cannot be read bytes spell no check
+pub unread_unspelt : (t : Program) (bytes : List ℕ) (r : Refusal) → IsUnread t r → IsUnspelt t bytes r
 unread_unspelt t bytes (refusal.Text c) h = h
 unread_unspelt t bytes (refusal.Certificate c) h = absurd h
 unread_unspelt t bytes (refusal.Exceeded excess) h = absurd h
 unread_unspelt t bytes (refusal.Spent k) h = absurd h
 unread_unspelt t bytes refusal.NoMemory h = tt
 
+-- a program whose core has no points and edges within the limits cannot be read
+pub flowless_unread : (t : Program) (names : List (List ℕ)) (body : Statements) (r : Refusal) → HasCore t names body → HasNoFlow body r
+    → IsUnread t r
+flowless_unread t names body (refusal.Text (text.Lex f)) c h = absurd h
+flowless_unread t names body (refusal.Text (text.Source f)) c h = absurd h
+flowless_unread t names body (refusal.Text (text.Flow f)) c h = (names, body, c, h)
+flowless_unread t names body (refusal.Text (text.Rows f)) c h = absurd h
+flowless_unread t names body (refusal.Text (text.Unknowns n)) c h = absurd h
+flowless_unread t names body (refusal.Text (text.Claims f)) c h = absurd h
+flowless_unread t names body (refusal.Text (text.Equ f)) c h = absurd h
+flowless_unread t names body (refusal.Text (text.Auto f)) c h = absurd h
+flowless_unread t names body (refusal.Certificate f) c h = absurd h
+flowless_unread t names body (refusal.Exceeded excess) c h = absurd h
+flowless_unread t names body (refusal.Spent k) c h = absurd h
+flowless_unread t names body refusal.NoMemory c h = tt
+
+rowless_refused : (t : Program) (rows : Domain (List ℕ)) (names : List (List ℕ)) (body : Statements) (r : Refusal) → IsAnalysed t names body
+    → HasNoRows rows names body r → IsRefusedBy t rows r
+rowless_refused t rows names body (refusal.Text (text.Lex f)) a h = absurd h
+rowless_refused t rows names body (refusal.Text (text.Source f)) a h = absurd h
+rowless_refused t rows names body (refusal.Text (text.Flow f)) a h = absurd h
+rowless_refused t rows names body (refusal.Text (text.Rows f)) a h = (names, body, a, h)
+rowless_refused t rows names body (refusal.Text (text.Unknowns n)) a (template, is, many, count) =
+    (names, body, template, record { analysed = a; template_is = is }, many, count)
+rowless_refused t rows names body (refusal.Text (text.Claims f)) a h = absurd h
+rowless_refused t rows names body (refusal.Text (text.Equ f)) a h = absurd h
+rowless_refused t rows names body (refusal.Text (text.Auto f)) a h = absurd h
+rowless_refused t rows names body (refusal.Certificate f) a h = absurd h
+rowless_refused t rows names body (refusal.Exceeded excess) a h = absurd h
+rowless_refused t rows names body (refusal.Spent k) a h = absurd h
+rowless_refused t rows names body refusal.NoMemory a h = tt
+
+-- a program whose core has no system is refused
+pub systemless_refused : (t : Program) (rows : Domain (List ℕ)) (names : List (List ℕ)) (body : Statements) (r : Refusal)
+    → HasCore t names body → HasNoSystemOver rows names body r → IsRefusedBy t rows r
+systemless_refused t rows names body r c h =
+    ⊎_elim (λ f. unread_refuses t rows r (flowless_unread t names body r c f))
+    (λ n. rowless_refused t rows names body r (record { has_core = c; within = n.0 }) n.1) h
+
 -- ---- the form of a certificate
 
 -- bytes that are misspelt spell no check
-pub misspelt_unspelt : (t bytes : List ℕ) (names : List (List ℕ)) (body : Statements) (r : Refusal) → IsAnalysed t names body
+pub misspelt_unspelt : (t : Program) (bytes : List ℕ) (names : List (List ℕ)) (body : Statements) (r : Refusal) → IsAnalysed t names body
     → IsMisspelt bytes r → IsUnspelt t bytes r
 misspelt_unspelt t bytes names body (refusal.Text c) a h = absurd h
 misspelt_unspelt t bytes names body (refusal.Certificate (Form f)) a h = (names, body, a, h)
@@ -102,7 +142,7 @@ check_refused system certificate x n composition stop =
 -- ---- the answers
 
 -- texts that spell no check answer with their refusal
-pub unspelt_answers : (t bytes : List ℕ) (r : Refusal) → IsUnspelt t bytes r → IsAnswerToCheck t bytes (refused r)
+pub unspelt_answers : (t : Program) (bytes : List ℕ) (r : Refusal) → IsUnspelt t bytes r → IsAnswerToCheck t bytes (refused r)
 unspelt_answers t bytes (refusal.Text c) h = h
 unspelt_answers t bytes (refusal.Certificate (Form f)) h = h
 unspelt_answers t bytes (refusal.Certificate (Rows f)) h = absurd h
@@ -113,7 +153,7 @@ unspelt_answers t bytes (refusal.Spent k) h = absurd h
 unspelt_answers t bytes refusal.NoMemory h = tt
 
 -- what is refused before the certificate is known names no unknown
-pub unspelt_rows : (t bytes : List ℕ) (r : Refusal) (cert : Cert) → IsUnspelt t bytes r → 0 ≡ rows_in cert (refused r)
+pub unspelt_rows : (t : Program) (bytes : List ℕ) (r : Refusal) (cert : Cert) → IsUnspelt t bytes r → 0 ≡ rows_in cert (refused r)
 unspelt_rows t bytes (refusal.Text c) cert h = refl
 unspelt_rows t bytes (refusal.Certificate (Form f)) cert h = refl
 unspelt_rows t bytes (refusal.Certificate (Rows f)) cert h = absurd h
@@ -123,7 +163,7 @@ unspelt_rows t bytes (refusal.Exceeded excess) cert h = absurd h
 unspelt_rows t bytes (refusal.Spent k) cert h = absurd h
 unspelt_rows t bytes refusal.NoMemory cert h = refl
 
-no_system_answers : (t bytes : List ℕ) (names : List (List ℕ)) (body : Statements) (cert : Cert) (r : Refusal)
+no_system_answers : (t : Program) (bytes : List ℕ) (names : List (List ℕ)) (body : Statements) (cert : Cert) (r : Refusal)
     → IsSpelt t bytes names body cert → IsNoSystem names body cert r → IsAnswerToCheck t bytes (refused r)
 no_system_answers t bytes names body cert (refusal.Text c) y h = absurd h
 no_system_answers t bytes names body cert (refusal.Certificate (Form f)) y h = absurd h
@@ -134,7 +174,7 @@ no_system_answers t bytes names body cert (refusal.Exceeded excess) y h = absurd
 no_system_answers t bytes names body cert (refusal.Spent k) y h = absurd h
 no_system_answers t bytes names body cert refusal.NoMemory y h = tt
 
-unaccepted_answers : (t bytes : List ℕ) (names : List (List ℕ)) (body : Statements) (cert : Cert) (r : Refusal)
+unaccepted_answers : (t : Program) (bytes : List ℕ) (names : List (List ℕ)) (body : Statements) (cert : Cert) (r : Refusal)
     → IsSystemWith t bytes names body cert
     → IsUnaccepted (system_with names body cert) (theirs cert) r → IsAnswerToCheck t bytes (refused r)
 unaccepted_answers t bytes names body cert (refusal.Text c) y h = absurd h
@@ -148,7 +188,7 @@ unaccepted_answers t bytes names body cert (refusal.Spent k) y h = absurd h
 unaccepted_answers t bytes names body cert refusal.NoMemory y h = tt
 
 -- a certificate that gets no report answers with its refusal
-pub unreported_answers : (t bytes : List ℕ) (names : List (List ℕ)) (body : Statements) (cert : Cert) (r : Refusal)
+pub unreported_answers : (t : Program) (bytes : List ℕ) (names : List (List ℕ)) (body : Statements) (cert : Cert) (r : Refusal)
     → IsSpelt t bytes names body cert → GetsNoReport names body cert r
     → IsAnswerToCheck t bytes (refused r)
 unreported_answers t bytes names body cert r y h =

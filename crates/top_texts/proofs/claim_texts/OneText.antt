@@ -25,7 +25,7 @@ use Rattle.ask_words.specs.declared.request.Policy.{Policy}
 use Rattle.top_texts.specs.ClaimTexts.{AreClaimsOf, AreLeastVerdicts, AreVerdictsOf}
 use Rattle.top_written.proofs.formats.Claims.{SameStated, claims_agree, first_stated, rest_stated}
 use Rattle.top_texts.specs.Exact.{exact}
-use Rattle.top_texts.specs.Texts.{HasTemplate}
+use Rattle.top_texts.specs.Texts.{HasTemplate, Program}
 use Rattle.top_texts.proofs.claim_texts.Once.{said_once, same_stated}
 use Rattle.top_texts.proofs.rounds.OneChain.{rounds_once}
 use Rattle.top_texts.proofs.texts.Once.{solved_once}
@@ -82,13 +82,13 @@ least_once given names body template claims others v w n m format one other roun
 -- ---- of texts
 
 -- the texts of a program, of its rows and of claims have one list of verdicts
-pub verdicts_once : (text : List ℕ) (rows : Domain (List ℕ)) (given : List ℕ) (policy : Policy) (limit : ℕ) (format : Format)
-    (one other : List ℕ) → AreVerdictsOf exact text rows given policy limit format one
-    → AreVerdictsOf exact text rows given policy limit format other → one ≡ other
-verdicts_once text rows given policy limit format one other a b =
+pub verdicts_once : (program : Program) (rows : Domain (List ℕ)) (given : List ℕ) (policy : Policy) (limit : ℕ) (format : Format)
+    (one other : List ℕ) → AreVerdictsOf exact program rows given policy limit format one
+    → AreVerdictsOf exact program rows given policy limit format other → one ≡ other
+verdicts_once program rows given policy limit format one other a b =
     let p = a.solved in
     let q = b.solved in
-    let same = program_once text (q.names, q.body) (p.names, p.body) q.ready.system.analysed.reading p.ready.system.analysed.reading in
+    let same = program_once program (q.names, q.body) (p.names, p.body) q.ready.system.analysed.has_core p.ready.system.analysed.has_core in
     let template : q.template ≡ p.template =
     rows_once rows p.names q.template p.template (subst (λ (x : List (List ℕ) × Statements). HasTemplate rows x.0 (Ok q.template)) same
     q.ready.system.template_is) p.ready.system.template_is in
@@ -99,8 +99,8 @@ verdicts_once text rows given policy limit format one other a b =
     (subst (λ (x : List (List ℕ) × Statements). AreLeastVerdicts exact x.0 x.1 q.template b.vector b.claims b.rounds format other) same
     b.least) in
     let stated = same_stated (map stated_of a.claims) (map stated_of b.claims)
-    (said_once text rows given p.names q.names p.body q.body p.template q.template (Ok (map stated_of a.claims))
+    (said_once program rows given p.names q.names p.body q.body p.template q.template (Ok (map stated_of a.claims))
     (Ok (map stated_of b.claims)) p.ready q.ready a.claims_are.reading b.claims_are.reading) in
     least_once given p.names p.body p.template a.claims b.claims a.vector b.vector a.rounds b.rounds format one other
-    (rounds_once a.system b.system policy a.rounds b.rounds a.vector b.vector (solved_once text rows a.system b.system p q) a.has_rounds
+    (rounds_once a.system b.system policy a.rounds b.rounds a.vector b.vector (solved_once program rows a.system b.system p q) a.has_rounds
     b.has_rounds) stated a.claims_are claims a.least least

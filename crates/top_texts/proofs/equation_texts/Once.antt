@@ -10,7 +10,7 @@ use Rattle.flow_rationals.specs.System.{system_of}
 use Rattle.flow_rationals.proofs.equation_texts.Once.{answers_once}
 use Rattle.top_texts.specs.EquationTexts.{IsEquationSystem, IsNoEquations}
 use Rattle.top_status.specs.declared.status.TextCause.{TextCause}
-use Rattle.top_status.specs.declared.status.TextCause.TheVariants.{Lex, Parse, Flow, Rows, Unknowns, Claims, Equ, Auto}
+use Rattle.top_status.specs.declared.status.TextCause.TheVariants.{Lex, Source as InSource, Flow, Rows, Unknowns, Claims, Equ, Auto}
 
 abbrev answered : Result (List Equation) EquFault → Result (List Equation) EquFault
 answered a = a
@@ -38,7 +38,7 @@ not_faulty text f s h is = fault_or_equations f is.equations (answers_once text 
 -- a text that is refused as equations means no system
 pub not_equations : (text : List ℕ) (cause : TextCause) (s : System) → IsNoEquations text cause → IsEquationSystem text s → ⊥
 not_equations text (Lex f) s h is = h
-not_equations text (Parse f) s h is = h
+not_equations text (InSource f) s h is = h
 not_equations text (Flow f) s h is = h
 not_equations text (Rows f) s h is = h
 not_equations text (Unknowns n) s h is = h
@@ -49,7 +49,7 @@ not_equations text (Auto f) s h is = h
 -- the cause is a fault of the text
 a_fault : (text : List ℕ) (cause : TextCause) → IsNoEquations text cause → (f : EquFault) × (cause ≡ Equ f) × Answers text (Err f)
 a_fault text (Lex f) h = absurd h
-a_fault text (Parse f) h = absurd h
+a_fault text (InSource f) h = absurd h
 a_fault text (Flow f) h = absurd h
 a_fault text (Rows f) h = absurd h
 a_fault text (Unknowns n) h = absurd h

@@ -15,24 +15,25 @@ use Rattle.top_texts.proofs.equation_texts.Once.{causes_once, equations_once, no
 use Rattle.top_texts.proofs.claim_texts.Once.{apart as refused_apart, causes_once as proofs_refused_once}
 use Rattle.top_texts.proofs.questions.OneEnd.{HasOneMeaning}
 use Rattle.top_texts.proofs.transition_texts.Once.{apart, causes_once as refusals_once, systems_once}
+use Rattle.top_texts.specs.Texts.{Program}
 use Rattle.top_texts.proofs.texts.Once.{equations_are, ready_unrefused, refused_once, solved_once}
 
 -- the question of an analysis has one meaning
-pub analysis_once : (purpose : Purpose) (text : List ℕ) (rows : Domain (List ℕ)) (policy : Policy) (limit : ℕ)
-    → HasOneMeaning (analysis_question exact purpose text rows policy limit)
-analysis_once purpose text rows policy limit = record {
-  cause = refused_once text rows;
-  apart = λ c s h is. ready_unrefused text rows is.names is.body is.template c h is.ready;
-  system = solved_once text rows;
+pub analysis_once : (purpose : Purpose) (program : Program) (rows : Domain (List ℕ)) (policy : Policy) (limit : ℕ)
+    → HasOneMeaning (analysis_question exact purpose program rows policy limit)
+analysis_once purpose program rows policy limit = record {
+  cause = refused_once program rows;
+  apart = λ c s h is. ready_unrefused program rows is.names is.body is.template c h is.ready;
+  system = solved_once program rows;
 }
 
 -- so has the question of a program's checks
-pub checks_once : (text : List ℕ) (rows : Domain (List ℕ)) (policy : Policy) (limit : ℕ)
-    → HasOneMeaning (checks_question exact text rows policy limit)
-checks_once text rows policy limit = record {
-  cause = refused_once text rows;
-  apart = λ c s h is. ready_unrefused text rows is.names is.body is.template c h is.ready;
-  system = solved_once text rows;
+pub checks_once : (program : Program) (rows : Domain (List ℕ)) (policy : Policy) (limit : ℕ)
+    → HasOneMeaning (checks_question exact program rows policy limit)
+checks_once program rows policy limit = record {
+  cause = refused_once program rows;
+  apart = λ c s h is. ready_unrefused program rows is.names is.body is.template c h is.ready;
+  system = solved_once program rows;
 }
 
 -- the systems of a generated program have the same equations
@@ -67,10 +68,10 @@ transitions_once text rows policy limit = record {
 }
 
 -- the question of claims has one meaning
-pub claims_once : (text : List ℕ) (rows : Domain (List ℕ)) (given : List ℕ) (policy : Policy) (limit : ℕ)
-    → HasOneMeaning (claims_question exact text rows given policy limit)
-claims_once text rows given policy limit = record {
-  cause = proofs_refused_once text rows given;
-  apart = refused_apart text rows given;
-  system = λ s t is js. solved_once text rows s t is.solved js.solved;
+pub claims_once : (program : Program) (rows : Domain (List ℕ)) (given : List ℕ) (policy : Policy) (limit : ℕ)
+    → HasOneMeaning (claims_question exact program rows given policy limit)
+claims_once program rows given policy limit = record {
+  cause = proofs_refused_once program rows given;
+  apart = refused_apart program rows given;
+  system = λ s t is js. solved_once program rows s t is.solved js.solved;
 }

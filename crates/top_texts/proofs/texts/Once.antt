@@ -1,11 +1,11 @@
--- Texts are refused by one cause, or mean a system: by stages, each of which has one cause or goes on to the next. The text of a program
--- alone is refused by one cause, or by none where its points and edges are within the limits.
+-- Texts are refused by one cause, or mean a system: by stages, each of which has one cause or goes on to the next. A program alone is
+-- refused by one cause, or by none where its points and edges are within the limits.
 use Rattle.std.proofs.Common.{◌≡◌, ◌≤◌, ◌<◌, ℕ, List, length, refl, sym, ap, ◌∙◌, subst, arith}
 use Rattle.std.specs.Prelude.{ℤ, IsTrue, Option, Ok, Err, Some, None}
 use Rattle.lang_tokens.specs.declared.fault.LexFault.{LexFault}
 use Rattle.lang_tokens.specs.Faults.{HasFault}
 use Rattle.lang_tokens.proofs.reading.Once.{one_text_fault, no_fault}
-use Rattle.lang_meaning.specs.declared.fault.ParseFault.{ParseFault}
+use Rattle.source_file.specs.declared.fault.SourceFault.{SourceFault}
 use Rattle.lang_tree.specs.Tree.{Statements}
 use Rattle.flow_edges.specs.declared.fault.FlowFault.{FlowFault}
 use Rattle.flow_edges.specs.Faults.{fault_of_program}
@@ -18,10 +18,11 @@ use Rattle.ask_words.specs.declared.request.Domain.{Domain}
 use Rattle.ask_words.specs.declared.request.Domain.TheVariants.{Intervals}
 use Rattle.top_texts.specs.Rounds.{IsSystemFor}
 use Rattle.top_texts.proofs.analyse.Solved.{over_names, same_equations}
-use Rattle.top_texts.specs.Texts.{HasTemplate, IsAnalysed, IsReady, IsRefused, IsRefusedProgram, IsSolvedSystem, Reading, unknowns}
+use Rattle.top_texts.specs.Texts.{HasCore, HasTemplate, IsAnalysed, IsReady, IsRefused, IsRefusedProgram, IsSolvedSystem, Program}
+use Rattle.top_texts.specs.Texts.{Reading, unknowns}
 use Rattle.top_texts.proofs.texts.Readings.{program_once, fault_once, not_both, rows_once, row_fault_once, not_rows}
 use Rattle.top_status.specs.declared.status.TextCause.{TextCause}
-use Rattle.top_status.specs.declared.status.TextCause.TheVariants.{Lex, Parse, Flow, Rows, Unknowns, Claims, Equ, Auto}
+use Rattle.top_status.specs.declared.status.TextCause.TheVariants.{Lex, Source as InSource, Flow, Rows, Unknowns, Claims, Equ, Auto}
 use Rattle.flow_systems.specs.declared.limits.TheConstants.{MOST_UNKNOWNS}
 
 -- ---- the system of a program
@@ -59,16 +60,16 @@ data RowsStage (rows : Domain (List ℕ)) (names : List (List ℕ)) (body : Stat
   faulty : (f : RowFault) → HasTemplate rows names (Err f) → o ≡ Some (Rows f) → RowsStage rows names body o
   given : (template : List (List ℤ)) → HasTemplate rows names (Ok template) → LastStage names body template o → RowsStage rows names body o
 
--- the program has no points and edges within the limits, or has them
+-- the core has no points and edges within the limits, or has them
 data FlowStage (rows : Domain (List ℕ)) (p : List (List ℕ) × Statements) (o : Option TextCause) : Type 0 where
   wide : (f : FlowFault) → fault_of_program p.1 ≡ Some f → o ≡ Some (Flow f) → FlowStage rows p o
   fits : fault_of_program p.1 ≡ None → RowsStage rows p.0 p.1 o → FlowStage rows p o
 
--- the text has a fault, or is a program
-data TextStage (text : List ℕ) (rows : Domain (List ℕ)) (o : Option TextCause) : Type 0 where
-  unlexed : (f : LexFault) → HasFault text f → o ≡ Some (Lex f) → TextStage text rows o
-  unparsed : (f : ParseFault) → Reading text (Err f) → o ≡ Some (Parse f) → TextStage text rows o
-  program : (p : List (List ℕ) × Statements) → Reading text (Ok p) → FlowStage rows p o → TextStage text rows o
+-- the program has a fault, or a core
+data TextStage (program : Program) (rows : Domain (List ℕ)) (o : Option TextCause) : Type 0 where
+  unlexed : (f : LexFault) → HasFault program.text f → o ≡ Some (Lex f) → TextStage program rows o
+  unmeant : (f : SourceFault) → Reading program (Err f) → o ≡ Some (InSource f) → TextStage program rows o
+  has_core : (p : List (List ℕ) × Statements) → HasCore program p.0 p.1 → FlowStage rows p o → TextStage program rows o
 
 some_none : (f : FlowFault) (o : Option FlowFault) → o ≡ Some f → o ≡ None → ⊥
 some_none f o h k = cc
@@ -91,36 +92,38 @@ flow_once rows p o q (wide f h e) (fits k i) = absurd (some_none f (fault_of_pro
 flow_once rows p o q (fits h e) (wide f k i) = absurd (some_none f (fault_of_program p.1) k h)
 flow_once rows p o q (fits h e) (fits k i) = rows_once_by rows p.0 p.1 o q e i
 
-text_once : (text : List ℕ) (rows : Domain (List ℕ)) (o q : Option TextCause) → TextStage text rows o → TextStage text rows q → o ≡ q
-text_once text rows o q (unlexed f h e) (unlexed g k i) = e ∙ ap (λ x. Some (Lex x)) (one_text_fault text f g h k) ∙ sym i
-text_once text rows o q (unlexed f h e) (unparsed g (ts, r, m) i) = absurd (no_fault text ts f r h)
-text_once text rows o q (unlexed f h e) (program p (ts, r, m) i) = absurd (no_fault text ts f r h)
-text_once text rows o q (unparsed f (ts, r, m) e) (unlexed g k i) = absurd (no_fault text ts g r k)
-text_once text rows o q (unparsed f h e) (unparsed g k i) = e ∙ ap (λ x. Some (Parse x)) (fault_once text f g h k) ∙ sym i
-text_once text rows o q (unparsed f h e) (program p k i) = absurd (not_both text f p h k)
-text_once text rows o q (program p (ts, r, m) e) (unlexed g k i) = absurd (no_fault text ts g r k)
-text_once text rows o q (program p h e) (unparsed g k i) = absurd (not_both text g p k h)
-text_once text rows o q (program p h e) (program r k i) =
-    flow_once rows p o q e (subst (λ x. FlowStage rows x q) (sym (program_once text p r h k)) i)
+text_once : (program : Program) (rows : Domain (List ℕ)) (o q : Option TextCause) → TextStage program rows o → TextStage program rows q
+    → o ≡ q
+text_once program rows o q (unlexed f h e) (unlexed g k i) = e ∙ ap (λ x. Some (Lex x)) (one_text_fault program.text f g h k) ∙ sym i
+text_once program rows o q (unlexed f h e) (unmeant g (ts, r, m) i) = absurd (no_fault program.text _ f r h)
+text_once program rows o q (unlexed f h e) (has_core p k i) = absurd (no_fault program.text _ f k.reading.1 h)
+text_once program rows o q (unmeant f (ts, r, m) e) (unlexed g k i) = absurd (no_fault program.text _ g r k)
+text_once program rows o q (unmeant f h e) (unmeant g k i) = e ∙ ap (λ x. Some (InSource x)) (fault_once program f g h k) ∙ sym i
+text_once program rows o q (unmeant f h e) (has_core p k i) = absurd (not_both program f p.0 p.1 h k)
+text_once program rows o q (has_core p h e) (unlexed g k i) = absurd (no_fault program.text _ g h.reading.1 k)
+text_once program rows o q (has_core p h e) (unmeant g k i) = absurd (not_both program g p.0 p.1 k h)
+text_once program rows o q (has_core p h e) (has_core r k i) =
+    flow_once rows p o q e (subst (λ x. FlowStage rows x q) (sym (program_once program p r h k)) i)
 
 -- ---- what is refused, and what is a system, by stages
 
-refused_stage : (text : List ℕ) (rows : Domain (List ℕ)) (cause : TextCause) → IsRefused text rows cause → TextStage text rows (Some cause)
-refused_stage text rows (Lex f) h = unlexed f h refl
-refused_stage text rows (Parse f) h = unparsed f h refl
-refused_stage text rows (Flow f) (names, body, h, e) = program (names, body) h (wide f e refl)
-refused_stage text rows (Rows f) (names, body, a, h) = program (names, body) a.reading (fits a.within (faulty f h refl))
-refused_stage text rows (Unknowns count) (names, body, template, y, h, e) =
-    program (names, body) y.analysed.reading (fits y.analysed.within (given template y.template_is
+refused_stage : (program : Program) (rows : Domain (List ℕ)) (cause : TextCause) → IsRefused program rows cause
+    → TextStage program rows (Some cause)
+refused_stage program rows (Lex f) h = unlexed f h refl
+refused_stage program rows (InSource f) h = unmeant f h refl
+refused_stage program rows (Flow f) (names, body, h, e) = has_core (names, body) h (wide f e refl)
+refused_stage program rows (Rows f) (names, body, a, h) = has_core (names, body) a.has_core (fits a.within (faulty f h refl))
+refused_stage program rows (Unknowns count) (names, body, template, y, h, e) =
+    has_core (names, body) y.analysed.has_core (fits y.analysed.within (given template y.template_is
     (many h (ap (λ c. Some (Unknowns c)) e))))
-refused_stage text rows (Claims f) h = absurd h
-refused_stage text rows (Equ f) h = absurd h
-refused_stage text rows (Auto f) h = absurd h
+refused_stage program rows (Claims f) h = absurd h
+refused_stage program rows (Equ f) h = absurd h
+refused_stage program rows (Auto f) h = absurd h
 
-ready_stage : (text : List ℕ) (rows : Domain (List ℕ)) (names : List (List ℕ)) (body : Statements) (template : List (List ℤ))
-    → IsReady text rows names body template → TextStage text rows None
-ready_stage text rows names body template r =
-    program (names, body) r.system.analysed.reading (fits r.system.analysed.within
+ready_stage : (program : Program) (rows : Domain (List ℕ)) (names : List (List ℕ)) (body : Statements) (template : List (List ℤ))
+    → IsReady program rows names body template → TextStage program rows None
+ready_stage program rows names body template r =
+    has_core (names, body) r.system.analysed.has_core (fits r.system.analysed.within
     (given template r.system.template_is (few r.within refl)))
 
 same_cause : (c d : TextCause) → Some c ≡ Some d → c ≡ d
@@ -130,22 +133,24 @@ no_cause : (c : TextCause) → Some c ≡ None → ⊥
 no_cause c e = cc
 
 -- texts are refused by one cause
-pub refused_once : (text : List ℕ) (rows : Domain (List ℕ)) (c d : TextCause) → IsRefused text rows c → IsRefused text rows d → c ≡ d
-refused_once text rows c d h k = same_cause c d (text_once text rows (Some c) (Some d) (refused_stage text rows c h)
-    (refused_stage text rows d k))
+pub refused_once : (program : Program) (rows : Domain (List ℕ)) (c d : TextCause) → IsRefused program rows c → IsRefused program rows d
+    → c ≡ d
+refused_once program rows c d h k = same_cause c d (text_once program rows (Some c) (Some d) (refused_stage program rows c h)
+    (refused_stage program rows d k))
 
 -- texts that are ready aren't refused
-pub ready_unrefused : (text : List ℕ) (rows : Domain (List ℕ)) (names : List (List ℕ)) (body : Statements) (template : List (List ℤ))
-    (c : TextCause) → IsRefused text rows c
-    → IsReady text rows names body template → ⊥
-ready_unrefused text rows names body template c h r =
-    no_cause c (text_once text rows (Some c) None (refused_stage text rows c h) (ready_stage text rows names body template r))
+pub ready_unrefused : (program : Program) (rows : Domain (List ℕ)) (names : List (List ℕ)) (body : Statements) (template : List (List ℤ))
+    (c : TextCause) → IsRefused program rows c
+    → IsReady program rows names body template → ⊥
+ready_unrefused program rows names body template c h r =
+    no_cause c (text_once program rows (Some c) None (refused_stage program rows c h) (ready_stage program rows names body template r))
 
 -- the systems of texts have the same equations
-pub solved_once : (text : List ℕ) (rows : Domain (List ℕ)) (s t : System) → IsSolvedSystem text rows s → IsSolvedSystem text rows t
+pub solved_once : (program : Program) (rows : Domain (List ℕ)) (s t : System) → IsSolvedSystem program rows s
+    → IsSolvedSystem program rows t
     → equations_of s ≡ equations_of t
-solved_once text rows s t a b =
-    let same = program_once text (a.names, a.body) (b.names, b.body) a.ready.system.analysed.reading b.ready.system.analysed.reading in
+solved_once program rows s t a b =
+    let same = program_once program (a.names, a.body) (b.names, b.body) a.ready.system.analysed.has_core b.ready.system.analysed.has_core in
     let template : a.template ≡ b.template =
     rows_once rows b.names a.template b.template (subst (λ (p : List (List ℕ) × Statements). HasTemplate rows p.0 (Ok a.template)) same
     a.ready.system.template_is) b.ready.system.template_is in
@@ -154,34 +159,35 @@ solved_once text rows s t a b =
     ∙ ap (λ r. equations_of_program (length b.names) b.body r) template
     ∙ sym (equations_are b.names b.body b.template t b.system_for)
 
--- ---- the text of a program alone
+-- ---- a program alone
 
--- what refuses the text of a program refuses it over every template
-refused_over : (text : List ℕ) (rows : Domain (List ℕ)) (c : TextCause) → IsRefusedProgram text c → IsRefused text rows c
-refused_over text rows (Lex f) h = h
-refused_over text rows (Parse f) h = h
-refused_over text rows (Flow f) h = h
-refused_over text rows (Rows f) h = absurd h
-refused_over text rows (Unknowns count) h = absurd h
-refused_over text rows (Claims f) h = absurd h
-refused_over text rows (Equ f) h = absurd h
-refused_over text rows (Auto f) h = absurd h
+-- what refuses a program refuses it over every template
+refused_over : (program : Program) (rows : Domain (List ℕ)) (c : TextCause) → IsRefusedProgram program c → IsRefused program rows c
+refused_over program rows (Lex f) h = h
+refused_over program rows (InSource f) h = h
+refused_over program rows (Flow f) h = h
+refused_over program rows (Rows f) h = absurd h
+refused_over program rows (Unknowns count) h = absurd h
+refused_over program rows (Claims f) h = absurd h
+refused_over program rows (Equ f) h = absurd h
+refused_over program rows (Auto f) h = absurd h
 
--- the text of a program is refused by one cause
-pub program_refused_once : (text : List ℕ) (c d : TextCause) → IsRefusedProgram text c → IsRefusedProgram text d → c ≡ d
-program_refused_once text c d h k = refused_once text Intervals c d (refused_over text Intervals c h) (refused_over text Intervals d k)
+-- a program is refused by one cause
+pub program_refused_once : (program : Program) (c d : TextCause) → IsRefusedProgram program c → IsRefusedProgram program d → c ≡ d
+program_refused_once program c d h k = refused_once program Intervals c d (refused_over program Intervals c h)
+    (refused_over program Intervals d k)
 
--- a text that is a program within the limits isn't refused
-pub analysed_unrefused : (text : List ℕ) (names : List (List ℕ)) (body : Statements) (c : TextCause) → IsRefusedProgram text c
-    → IsAnalysed text names body → ⊥
-analysed_unrefused text names body (Lex f) h a = let (ts, r, m) = a.reading in no_fault text ts f r h
-analysed_unrefused text names body (Parse f) h a = not_both text f (names, body) h a.reading
-analysed_unrefused text names body (Flow f) (others, other, h, e) a =
+-- a program whose core is within the limits isn't refused
+pub analysed_unrefused : (program : Program) (names : List (List ℕ)) (body : Statements) (c : TextCause) → IsRefusedProgram program c
+    → IsAnalysed program names body → ⊥
+analysed_unrefused program names body (Lex f) h a = no_fault program.text _ f a.has_core.reading.1 h
+analysed_unrefused program names body (InSource f) h a = not_both program f names body h a.has_core
+analysed_unrefused program names body (Flow f) (others, other, h, e) a =
     some_none f (fault_of_program body)
     (subst (λ (p : List (List ℕ) × Statements). fault_of_program p.1 ≡ Some f)
-    (program_once text (others, other) (names, body) h a.reading) e) a.within
-analysed_unrefused text names body (Rows f) h a = absurd h
-analysed_unrefused text names body (Unknowns count) h a = absurd h
-analysed_unrefused text names body (Claims f) h a = absurd h
-analysed_unrefused text names body (Equ f) h a = absurd h
-analysed_unrefused text names body (Auto f) h a = absurd h
+    (program_once program (others, other) (names, body) h a.has_core) e) a.within
+analysed_unrefused program names body (Rows f) h a = absurd h
+analysed_unrefused program names body (Unknowns count) h a = absurd h
+analysed_unrefused program names body (Claims f) h a = absurd h
+analysed_unrefused program names body (Equ f) h a = absurd h
+analysed_unrefused program names body (Auto f) h a = absurd h

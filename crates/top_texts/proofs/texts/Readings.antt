@@ -1,46 +1,69 @@
--- A text reads as one program, or has one fault; and a domain is one template over given variables, or has one fault.
-use Rattle.std.proofs.Common.{◌≡◌, ℕ, List, sym, ◌∙◌, subst}
+-- A program means one thing, and has one core or one fault; and a domain is one template over given variables, or has one fault.
+use Rattle.std.proofs.Common.{◌≡◌, ◌++◌, ℕ, List, [], ◌∷◌, length, sym, ap, ◌∙◌, subst}
+use Rattle.std.proofs.lemmas.List.{append_cancel_right}
 use Rattle.std.specs.Prelude.{ℤ, Result, Ok, Err}
+use Rattle.lang_tokens.specs.Reading.{end_at}
 use Rattle.lang_tokens.proofs.reading.Once.{one_token_list}
-use Rattle.lang_grammar.specs.View.{tokens_of}
-use Rattle.lang_meaning.specs.Meaning.{Answer, Means}
-use Rattle.lang_meaning.proofs.meaning.OneMeaning.{means_once}
-use Rattle.lang_meaning.specs.declared.fault.ParseFault.{ParseFault}
+use Rattle.lang_tree.specs.Tree.{Statements}
+use Rattle.source_tree.specs.Statements as c
+use Rattle.source_core.specs.Core.{core_in}
+use Rattle.source_file.specs.Meaning.{Answer, Means}
+use Rattle.source_file.specs.declared.fault.SourceFault.{SourceFault}
+use Rattle.source_file.proofs.meaning.Once.{means_once}
 use Rattle.flow_templates.specs.declared.fault.RowFault.{RowFault}
 use Rattle.flow_templates.proofs.row_files.OneAnswer.{one_answer}
-use Rattle.lang_tree.specs.Tree.{Statements}
 use Rattle.ask_words.specs.declared.request.Domain.{Domain}
 use Rattle.ask_words.specs.declared.request.Domain.TheVariants.{Intervals, Zones, Octagons, Rows}
-use Rattle.top_texts.specs.Texts.{HasTemplate, Reading}
+use Rattle.top_texts.specs.Texts.{HasCore, HasTemplate, Program, Reading}
 
 abbrev answered : Answer → Answer
 answered a = a
 
--- a text means one thing
-pub reading_once : (text : List ℕ) (a b : Answer) → Reading text a → Reading text b → a ≡ b
-reading_once text a b (ts, r, m) (us, s, n) =
-    means_once text (tokens_of text ts) a b m (subst (λ ws. Means text (tokens_of text ws) b) (one_token_list text us ts s r) n)
+-- a program means one thing
+pub reading_once : (program : Program) (a b : Answer) → Reading program a → Reading program b → a ≡ b
+reading_once program a b (ts, r, m) (us, s, n) =
+    let last = end_at (length program.text) ∷ [] in
+    let same : us ≡ ts = append_cancel_right us ts last (one_token_list program.text (us ++ last) (ts ++ last) s r) in
+    means_once program.text program.function ts a b m (subst (λ ws. Means program.text program.function ws b) same n)
 
-ok_once : (p q : List (List ℕ) × Statements) → answered (Ok p) ≡ answered (Ok q) → p ≡ q
+ok_once : (p q : List (List ℕ) × c.Statements) → answered (Ok p) ≡ answered (Ok q) → p ≡ q
 ok_once p q e = cc
 
-err_once : (f g : ParseFault) → answered (Err f) ≡ answered (Err g) → f ≡ g
+err_once : (f g : SourceFault) → answered (Err f) ≡ answered (Err g) → f ≡ g
 err_once f g e = cc
 
-err_ok : (f : ParseFault) (p : List (List ℕ) × Statements) → answered (Err f) ≡ answered (Ok p) → ⊥
+err_ok : (f : SourceFault) (p : List (List ℕ) × c.Statements) → answered (Err f) ≡ answered (Ok p) → ⊥
 err_ok f p e = cc
 
--- a text reads as one program
-pub program_once : (text : List ℕ) (p q : List (List ℕ) × Statements) → Reading text (Ok p) → Reading text (Ok q) → p ≡ q
-program_once text p q h k = ok_once p q (reading_once text (Ok p) (Ok q) h k)
+-- names, and the core of statements with them
+abbrev core_of : List (List ℕ) × c.Statements → List (List ℕ) × Statements
+core_of p = (p.0, core_in (length p.0) p.1)
 
--- a text has one fault
-pub fault_once : (text : List ℕ) (f g : ParseFault) → Reading text (Err f) → Reading text (Err g) → f ≡ g
-fault_once text f g h k = err_once f g (reading_once text (Err f) (Err g) h k)
+-- a program has one core
+pub program_once : (program : Program) (p q : List (List ℕ) × Statements) → HasCore program p.0 p.1 → HasCore program q.0 q.1 → p ≡ q
+program_once program p q h k =
+    let both = ok_once (p.0, h.statements) (q.0, k.statements)
+    (reading_once program (Ok (p.0, h.statements)) (Ok (q.0, k.statements)) h.reading k.reading) in
+    let pair : List (List ℕ) → Statements → List (List ℕ) × Statements = λ names body. (names, body) in
+    ap (pair p.0) h.core ∙ ap core_of both ∙ sym (ap (pair q.0) k.core)
 
--- a text that has a fault reads as no program
-pub not_both : (text : List ℕ) (f : ParseFault) (p : List (List ℕ) × Statements) → Reading text (Err f) → Reading text (Ok p) → ⊥
-not_both text f p h k = err_ok f p (reading_once text (Err f) (Ok p) h k)
+-- it is that of all statements that the program means with these names
+pub core_is : (program : Program) (names : List (List ℕ)) (body : Statements) (statements : c.Statements) → HasCore program names body
+    → Reading program (Ok (names, statements)) → body ≡ core_in (length names) statements
+core_is program names body statements h r =
+    let both = ok_once (names, h.statements) (names, statements)
+    (reading_once program (Ok (names, h.statements)) (Ok (names, statements)) h.reading r) in
+    h.core ∙ ap (λ (p : List (List ℕ) × c.Statements). core_in (length names) p.1) both
+
+-- a program has one fault
+pub fault_once : (program : Program) (f g : SourceFault) → Reading program (Err f) → Reading program (Err g) → f ≡ g
+fault_once program f g h k = err_once f g (reading_once program (Err f) (Err g) h k)
+
+-- a program that has a fault has no core
+pub not_both : (program : Program) (f : SourceFault) (names : List (List ℕ)) (body : Statements) → Reading program (Err f)
+    → HasCore program names body → ⊥
+not_both program f names body h k =
+    err_ok f (names, k.statements) (reading_once program (Err f) (Ok (names, k.statements)) h k.reading)
 
 -- a domain has one template
 pub template_once : (rows : Domain (List ℕ)) (names : List (List ℕ)) (x y : Result (List (List ℤ)) RowFault) → HasTemplate rows names x

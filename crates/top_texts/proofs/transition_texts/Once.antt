@@ -16,7 +16,8 @@ use Rattle.ask_words.specs.declared.request.Domain.{Domain}
 use Rattle.top_texts.specs.Texts.{HasTemplate}
 use Rattle.top_texts.specs.TransitionTexts.{AreNoTransitions, IsTransitionSystem}
 use Rattle.top_status.specs.declared.status.TextCause.{TextCause}
-use Rattle.top_status.specs.declared.status.TextCause.TheVariants.{Lex, Parse, Flow, Rows, Unknowns, Claims, Equ, Auto as AutoCause}
+use Rattle.top_status.specs.declared.status.TextCause.TheVariants.{Lex, Source as InSource, Flow, Rows, Unknowns}
+use Rattle.top_status.specs.declared.status.TextCause.TheVariants.{Claims, Equ, Auto as AutoCause}
 use Rattle.top_texts.proofs.texts.Readings.{rows_once, row_fault_once, not_rows}
 use Rattle.top_texts.proofs.transition_texts.Systems.{system_equations}
 
@@ -105,7 +106,7 @@ text_once text rows o p (read c h e) (read d k i) =
 refused_stage : (text : List ℕ) (rows : Domain (List ℕ)) (cause : TextCause) → AreNoTransitions text rows cause
     → TextStage text rows (Some cause)
 refused_stage text rows (Lex f) h = absurd h
-refused_stage text rows (Parse f) h = absurd h
+refused_stage text rows (InSource f) h = absurd h
 refused_stage text rows (Flow f) h = absurd h
 refused_stage text rows (AutoCause f) (inl h) = unread f h refl
 refused_stage text rows (AutoCause f) (inr (auto, h, e)) = read (content auto) h (wide f e refl)

@@ -1,15 +1,15 @@
-//! The least bounds of the program of a text, for other outputs than its report.
+//! The least bounds of a program, for other outputs than its report.
 
 ghost use Rattle.std.specs.Prelude.{◌≡◌, ◌≤◌, IfOk, IfErr, length};
 ghost use Rattle.base_limits.specs.declared.limits.TheConstants.{MOST_IMPROVEMENTS, MOST_TEXT_BYTES};
 ghost use Rattle.top_texts.specs.Analyses.{IsFoundIn, IsHaltedEnding, IsRefusedText, IsSolvedBy};
 ghost use Rattle.top_texts.specs.Short.{HasShortRows};
-ghost use Rattle.ask_words.specs.Request.{domain_text};
+ghost use Rattle.ask_words.specs.Request.{domain_text, source_text};
 
 use super::rounds::solve;
 use super::system::system_on;
 use crate::refusal::refused;
-use ask_words::{Domain, Policy};
+use ask_words::{Domain, Policy, Source};
 use base_watch::Watch;
 use flow_systems::System;
 use solve_rounds::Solved;
@@ -49,30 +49,30 @@ fn least_of<W: Watch>(
     }
 }
 
-/// The least bounds of the program of a text, by at most `limit` improvements by the policy.
+/// The least bounds of a program, by at most `limit` improvements by the policy.
 ///
 /// # Errors
 ///
-/// The ending that the report of the text has where there are none, with what its message names.
+/// The ending that the report of the program has where there are none, with what its message names.
 pub fn least_on<W: Watch>(
     alloc: Global,
-    text: &[u8],
+    program: Source<&[u8]>,
     rows: Domain<&[u8]>,
     policy: Policy,
     limit: u32,
     watch: &mut W,
 ) -> Result<LeastBounds, Ending>
-    requires short { length text.now ≤ MOST_TEXT_BYTES }
+    requires short { length program.text.now ≤ MOST_TEXT_BYTES }
     requires short_rows { HasShortRows (domain_text rows) }
     requires limit { limit ≤ MOST_IMPROVEMENTS }
-    ensures ok { IfOk result (IsFoundIn text.now (domain_text rows.entry) policy limit) }
-    ensures err { IfErr result (IsRefusedText text.now (domain_text rows.entry) policy limit) }
+    ensures ok { IfOk result (IsFoundIn (source_text program.entry) (domain_text rows.entry) policy limit) }
+    ensures err { IfErr result (IsRefusedText (source_text program.entry) (domain_text rows.entry) policy limit) }
 {
-    match system_on(alloc, text, rows) {
+    match system_on(alloc, program, rows) {
         Ok(system) => least_of(alloc, system, policy, limit, watch),
         Err(refusal) => {
             let status = refused(refusal);
-            let line = answer_line(text, &status);
+            let line = answer_line(program.text, &status);
             Err(Ending {
                 status,
                 line,

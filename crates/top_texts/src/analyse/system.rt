@@ -1,4 +1,4 @@
-//! The system of the texts of a program and of its rows.
+//! The system of a program and of its rows.
 
 ghost use Rattle.std.specs.Prelude.{◌≡◌, ◌*◌, ◌≤◌, ◌<◌, ◌≢◌, ℕ, List, IfOk, IfErr, IsTrue, Ok, Err, length};
 ghost use Rattle.base_limits.specs.declared.limits.TheConstants.{MOST_TEXT_BYTES};
@@ -8,15 +8,15 @@ ghost use Rattle.flow_systems.specs.SystemLimits.{is_over};
 ghost use Rattle.ask_words.specs.declared.request.Domain.{Domain as DomainValue};
 ghost use Rattle.top_status.specs.declared.status.TextCause.TheVariants.{Unknowns};
 ghost use Rattle.top_texts.specs.Short.{HasShortRows};
-ghost use Rattle.ask_words.specs.Request.{domain_text};
-ghost use Rattle.top_texts.specs.Outcomes.{IsRefusedBy};
-ghost use Rattle.top_texts.specs.Texts.{HasTemplate, IsAnalysed, IsSolvedSystem, IsSystemOn, Reading};
+ghost use Rattle.ask_words.specs.Request.{domain_text, source_text};
+ghost use Rattle.top_texts.specs.Outcomes.{HasNoRows, HasNoSystemOver, HasSystemOver, IsRefusedBy};
+ghost use Rattle.top_texts.specs.Texts.{HasTemplate, IsSolvedSystem};
 ghost use Rattle.flow_systems.specs.declared.limits.TheConstants.{MOST_UNKNOWNS};
 
 use super::template::template_of;
 use crate::program::{flow_of, program_of};
 use crate::refusal::Refusal;
-use ask_words::Domain;
+use ask_words::{Domain, Source};
 use flow_edges::Flow;
 use flow_systems::{System, SystemFault};
 use flow_templates::{RowFault, Template};
@@ -26,8 +26,8 @@ use top_status::TextCause;
 
 // The refusal of rows that have this fault.
 fn row_refusal(fault: RowFault) -> Refusal
-    ensures { (text : List ℕ) (rows : DomainValue (List ℕ)) (names : List (List ℕ)) (body : Statements) → IsAnalysed text names body
-        → (fault ≢ NoMemory → HasTemplate rows names (Err fault)) → IsRefusedBy text rows result }
+    ensures { (rows : DomainValue (List ℕ)) (names : List (List ℕ)) (body : Statements)
+        → (fault ≢ NoMemory → HasTemplate rows names (Err fault)) → HasNoRows rows names body result }
 {
     match fault {
         RowFault::NoMemory => Refusal::NoMemory,
@@ -40,8 +40,7 @@ fn rows_of(alloc: Global, rows: Domain<&[u8]>, program: &Program) -> Result<Temp
     requires { HasShortRows (domain_text rows) }
     ensures template { IfOk result (λ template. HasTemplate (domain_text rows.entry) program.now.names (Ok template)) }
     ensures over { IfOk result (λ template. IsTrue (is_over (length program.now.names) template)) }
-    ensures err { IfErr result (λ refusal. (text : List ℕ)
-        → IsAnalysed text program.now.names program.now.body → IsRefusedBy text (domain_text rows.entry) refusal) }
+    ensures err { IfErr result (λ refusal. HasNoRows (domain_text rows.entry) program.now.names program.now.body refusal) }
 {
     match template_of(alloc, rows, program.names.as_slice()) {
         Ok(template) => Ok(template),
@@ -64,17 +63,15 @@ pub(crate) fn system_of(flow: Flow, template: Template) -> Result<System, Refusa
     }
 }
 
-// The system of a program, which a text reads as, and of these rows.
+// The system of a core and of these rows.
 pub(crate) fn program_system(
     alloc: Global,
     rows: Domain<&[u8]>,
     program: &Program,
 ) -> Result<System, Refusal>
     requires { HasShortRows (domain_text rows) }
-    ensures ok { IfOk result (λ system. (text : List ℕ) → Reading text (Ok (program.now.names, program.now.body))
-        → IsSystemOn text (domain_text rows.entry) program.now.names program.now.body system) }
-    ensures err { IfErr result (λ refusal. (text : List ℕ) → Reading text (Ok (program.now.names, program.now.body))
-        → IsRefusedBy text (domain_text rows.entry) refusal) }
+    ensures ok { IfOk result (λ system. HasSystemOver (domain_text rows.entry) program.now.names program.now.body system) }
+    ensures err { IfErr result (λ refusal. HasNoSystemOver (domain_text rows.entry) program.now.names program.now.body refusal) }
 {
     let flow = flow_of(alloc, program)?;
     let template = rows_of(alloc, rows, program)?;
@@ -82,18 +79,22 @@ pub(crate) fn program_system(
     Ok(system)
 }
 
-/// The system of the program of a text and of these rows.
+/// The system of a program and of these rows.
 ///
 /// # Errors
 ///
-/// The first cause that stands: a fault of the text or of the rows, or too many unknowns; or want of memory.
-pub fn system_on(alloc: Global, text: &[u8], rows: Domain<&[u8]>) -> Result<System, Refusal>
-    requires short { length text.now ≤ MOST_TEXT_BYTES }
+/// The first cause that stands: a fault of the program or of the rows, or too many unknowns; or want of memory.
+pub fn system_on(
+    alloc: Global,
+    program: Source<&[u8]>,
+    rows: Domain<&[u8]>,
+) -> Result<System, Refusal>
+    requires short { length program.text.now ≤ MOST_TEXT_BYTES }
     requires short_rows { HasShortRows (domain_text rows) }
-    ensures ok { IfOk result (λ system. IsSolvedSystem text.now (domain_text rows.entry) system) }
-    ensures err { IfErr result (λ refusal. IsRefusedBy text.now (domain_text rows.entry) refusal) }
+    ensures ok { IfOk result (λ system. IsSolvedSystem (source_text program.entry) (domain_text rows.entry) system) }
+    ensures err { IfErr result (λ refusal. IsRefusedBy (source_text program.entry) (domain_text rows.entry) refusal) }
 {
-    let program = program_of(alloc, text)?;
-    let system = program_system(alloc, rows, &program)?;
+    let core = program_of(alloc, program)?;
+    let system = program_system(alloc, rows, &core)?;
     Ok(system)
 }

@@ -15,6 +15,7 @@ ghost use Rattle.cert_checker.specs.Items.{is_short};
 ghost use Rattle.top_texts.specs.Checks.{IsSpelt, NoneIsWide, theirs};
 ghost use Rattle.top_texts.specs.Outcomes.{GetsNoReport, IsUnaccepted};
 ghost use Rattle.top_texts.specs.Reports.{IsReportBy};
+ghost use Rattle.top_texts.specs.Texts.{Program as ProgramText};
 
 use super::certificate::{is_countable, system_of};
 use crate::refusal::Refusal;
@@ -87,8 +88,9 @@ pub fn report_by(
     requires names { flow.names ≡ program.now.names }
     requires points { flow.points ≡ points_of_program program.now.body }
     requires edges { flow.edges ≡ edges_of_program program.now.body }
-    ensures ok { IfOk result (λ bytes. (text given : List ℕ) → IsSpelt text given program.now.names program.now.body cert.now
-        → IsReportBy text given format bytes.items) }
+    ensures ok { IfOk result (λ bytes. (source : ProgramText) (given : List ℕ)
+        → IsSpelt source given program.now.names program.now.body cert.now
+        → IsReportBy source given format bytes.items) }
     ensures err { IfErr result (λ refusal. GetsNoReport program.now.names program.now.body cert.now refusal) }
 {
     if !is_countable(cert) {

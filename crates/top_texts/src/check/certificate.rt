@@ -1,9 +1,10 @@
-//! From the text of a program and the bytes of a certificate to a system and its certificate, or the cause for which they
+//! From a program and the bytes of a certificate to a system and its certificate, or the cause for which they
 //! are refused.
 
 ghost use Rattle.std.specs.Prelude.{◌≡◌, ◌*◌, ◌≤◌, ◌<◌, ◌^◌, ◌≢◌, ◌&&◌, ℕ, List, [], IfOk, IfErr, IsTrue, Ok, Err, Some, length, slice_get};
 ghost use Rattle.std.specs.Prelude.{nat_lt};
 ghost use Rattle.std.specs.List.{list_all};
+ghost use Rattle.ask_words.specs.Request.{source_text};
 ghost use Rattle.base_limits.specs.declared.limits.TheConstants.{MOST_TEXT_BYTES};
 ghost use Rattle.lang_tree.specs.Tree.{Statements};
 ghost use Rattle.flow_edges.specs.Edges.{edges_of_program};
@@ -19,6 +20,7 @@ ghost use Rattle.top_texts.specs.Outcomes.{FitsProgram, IsNoSystem, IsUnspelt};
 use crate::form::cert_of;
 use crate::program::{flow_of, program_of};
 use crate::refusal::Refusal;
+use ask_words::Source;
 use cert_types::{Cert, Step};
 use flow_edges::Flow;
 use flow_systems::{System, SystemFault};
@@ -27,7 +29,7 @@ use lang_tree::Program;
 use std::alloc::Global;
 use top_status::CertCause;
 
-/// A program with its points and edges, and a certificate.
+/// The core of a program with its points and edges, and a certificate.
 #[derive(Drop)]
 pub struct Given {
     pub program: Program,
@@ -35,20 +37,21 @@ pub struct Given {
     pub cert: Cert,
 }
 
-/// The program of the text, and the certificate that the bytes spell.
+/// The core of a program, and the certificate that the bytes spell.
 ///
 /// # Errors
 ///
-/// A fault of the text, or else of the form of the bytes; or want of memory.
-pub fn read_given(alloc: Global, text: &[u8], bytes: &[u8]) -> Result<Given, Refusal>
-    requires { length text.now ≤ MOST_TEXT_BYTES }
-    ensures spelt { IfOk result (λ given. IsSpelt text.now bytes.now given.program.names given.program.body given.cert) }
+/// A fault of the program, or else of the form of the bytes; or want of memory.
+pub fn read_given(alloc: Global, source: Source<&[u8]>, bytes: &[u8]) -> Result<Given, Refusal>
+    requires { length source.text.now ≤ MOST_TEXT_BYTES }
+    ensures spelt { IfOk result (λ given. IsSpelt (source_text source.entry) bytes.now given.program.names given.program.body
+        given.cert) }
     ensures names { IfOk result (λ given. given.flow.names ≡ given.program.names) }
     ensures points { IfOk result (λ given. given.flow.points ≡ points_of_program given.program.body) }
     ensures edges { IfOk result (λ given. given.flow.edges ≡ edges_of_program given.program.body) }
-    ensures err { IfErr result (λ refusal. IsUnspelt text.now bytes.now refusal) }
+    ensures err { IfErr result (λ refusal. IsUnspelt (source_text source.entry) bytes.now refusal) }
 {
-    let program = program_of(alloc, text)?;
+    let program = program_of(alloc, source)?;
     let flow = flow_of(alloc, &program)?;
     let cert = cert_of(alloc, bytes)?;
     Ok(Given {

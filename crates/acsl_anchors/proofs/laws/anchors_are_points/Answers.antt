@@ -1,4 +1,4 @@
-use Rattle.acsl_anchors.proofs.walked.Programs.{points_are}
+use Rattle.acsl_anchors.proofs.walked.Functions.{points_are}
 use Rattle.acsl_anchors.proofs.laws.anchors_are_points.Goals as goal
 
 pub returns : goal.returns

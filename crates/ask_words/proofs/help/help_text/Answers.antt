@@ -28,3 +28,6 @@ returns-in-Points c = sym (ap help_text c.in-Points.is)
 
 pub returns-in-Verify : goal.returns-in-Verify
 returns-in-Verify c = sym (ap help_text c.in-Verify.is)
+
+pub returns-in-Functions : goal.returns-in-Functions
+returns-in-Functions c = sym (ap help_text c.in-Functions.is)

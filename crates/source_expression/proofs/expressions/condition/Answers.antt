@@ -4,7 +4,7 @@ use Rattle.source_core.specs.Elaborated.{elaborated}
 use Rattle.source_grammar.specs.Grammar.{spell_expr}
 use Rattle.source_meaning.specs.Expressions.{as_condition, first_of, read}
 use Rattle.source_reader.specs.Reading.{first_place}
-use Rattle.source_expression.specs.Placed.{placed}
+use Rattle.source_reader.specs.Placed.{placed}
 use Rattle.source_expression.specs.Sides.{IsTestedOf}
 use Rattle.source_expression.proofs.Answering.{answers_of, beside, ok_then}
 use Rattle.source_expression.proofs.Shapes.{first_place_of}

@@ -2,7 +2,7 @@
 use Rattle.std.proofs.Common.{◌≡◌, ◌∙◌, true, false, Ok, sym}
 use Rattle.source_core.specs.Elaborated.{elaborated}
 use Rattle.source_meaning.specs.Expressions.{as_condition}
-use Rattle.source_expression.specs.Placed.{placed}
+use Rattle.source_reader.specs.Placed.{placed}
 use Rattle.source_expression.specs.Signs.{asks_conditions}
 use Rattle.source_expression.specs.Sides.{IsTestedOf}
 use Rattle.source_expression.proofs.Answering.{answers_of}

@@ -5,7 +5,7 @@ use Rattle.source_core.specs.Elaborated.{elaborated, numbered}
 use Rattle.source_meaning.specs.Expressions.{behind_number, ranged}
 use Rattle.source_value.specs.Operations.{operation_of}
 use Rattle.source_reader.specs.Answers.{Answers}
-use Rattle.source_expression.specs.Placed.{placed}
+use Rattle.source_reader.specs.Placed.{placed}
 use Rattle.source_expression.specs.Sides.{IsRead, worked}
 use Rattle.source_expression.proofs.Answering.{answers_of}
 use Rattle.source_expression.proofs.Parts.{numbers_ordered}

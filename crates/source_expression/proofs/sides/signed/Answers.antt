@@ -6,7 +6,7 @@ use Rattle.source_meaning.specs.Expressions as meaning
 use Rattle.source_meaning.specs.Expressions.{as_condition}
 use Rattle.source_meaning.specs.Results.{◌>>=◌}
 use Rattle.source_reader.specs.Answers.{Answers}
-use Rattle.source_expression.specs.Placed.{placed}
+use Rattle.source_reader.specs.Placed.{placed}
 use Rattle.source_expression.specs.Signs.{prefix_of}
 use Rattle.source_expression.specs.Sides.{IsRead, IsTestedOf}
 use Rattle.source_expression.proofs.Answering.{answers_of}

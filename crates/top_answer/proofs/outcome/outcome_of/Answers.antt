@@ -6,6 +6,7 @@ use Rattle.top_texts.specs.Exact.{exact}
 use Rattle.top_answer.proofs.commands.Generated.{benched}
 use Rattle.top_answer.proofs.commands.Claims.{proved}
 use Rattle.top_answer.proofs.commands.Equations.{equated}
+use Rattle.top_answer.proofs.commands.Named.{listed}
 use Rattle.top_answer.proofs.commands.Pages.{helped}
 use Rattle.top_answer.proofs.commands.Plain.{pointed, upgraded}
 use Rattle.top_answer.proofs.commands.Transitions.{transited}
@@ -54,6 +55,12 @@ returns-in-Points-clause-says g c =
     subst (λ r. Says (command_of exact (request_text r)) c.outcome_from-in-Points.result.status c.outcome_from-in-Points.result.bytes.items)
     (sym c.in-Points.is)
     (pointed c.in-Points.program.now _ _ _ c.points_text.ensures.ok c.points_text.ensures.err c.outcome_from-in-Points.ensures.is)
+
+pub returns-in-Functions-clause-says : goal.returns-in-Functions-clause-says
+returns-in-Functions-clause-says g c =
+    subst (λ r. Says (command_of exact (request_text r)) c.outcome_from-in-Functions.result.status
+    c.outcome_from-in-Functions.result.bytes.items) (sym c.in-Functions.is)
+    (listed c.in-Functions.file.now _ _ _ c.functions_text.ensures.ok c.functions_text.ensures.err c.outcome_from-in-Functions.ensures.is)
 
 pub returns-in-Verify-clause-says : goal.returns-in-Verify-clause-says
 returns-in-Verify-clause-says g c =

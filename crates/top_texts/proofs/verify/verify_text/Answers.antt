@@ -10,7 +10,7 @@ use Rattle.ask_checks.specs.Verdicts.{AreCheckVerdicts}
 use Rattle.ask_verdicts.specs.Breaking.{is_case}
 use Rattle.ask_verdicts.specs.declared.outcome.Verdict.{Verdict}
 use Rattle.ask_verdicts.specs.declared.outcome.Verdict.TheVariants.{Open}
-use Rattle.ask_words.specs.Request.{domain_text}
+use Rattle.ask_words.specs.Request.{domain_text, source_text}
 use Rattle.ask_words.specs.declared.request.Purpose.TheVariants.{Report}
 use Rattle.top_texts.specs.Exact.{exact}
 use Rattle.top_texts.specs.Outcomes.{AreUnverified, IsUnanswered}
@@ -22,25 +22,25 @@ use Rattle.lang_tree.specs.declared.limits.TheConstants.{MOST_HIDDEN}
 
 pub returns-in_err-checked-clause-err : goal.returns-in_err-checked-clause-err
 returns-in_err-checked-clause-err g c =
-    let h : IsUnanswered (checks_question exact c.args.text.now (domain_text c.args.rows) c.args.policy c.args.limit)
+    let h : IsUnanswered (checks_question exact (source_text c.args.program) (domain_text c.args.rows) c.args.policy c.args.limit)
     c.in_err-checked.field-0.0 =
-    unsystematic c.args.text.now (domain_text c.args.rows) c.args.policy c.args.limit _ c.in_err-checked.ensures.err in
+    unsystematic (source_text c.args.program) (domain_text c.args.rows) c.args.policy c.args.limit _ c.in_err-checked.ensures.err in
     search (rules, h)
 
 pub returns-in_err-solved-clause-err : goal.returns-in_err-solved-clause-err
 returns-in_err-solved-clause-err g c =
-    let h : IsUnanswered (checks_question exact c.args.text.now (domain_text c.args.rows) c.args.policy c.args.limit)
+    let h : IsUnanswered (checks_question exact (source_text c.args.program) (domain_text c.args.rows) c.args.policy c.args.limit)
     c.in_err-solved.field-0.0 =
-    unsolved c.args.text.now (domain_text c.args.rows) c.args.policy c.args.limit c.in_ok-checked.checked.system
+    unsolved (source_text c.args.program) (domain_text c.args.rows) c.args.policy c.args.limit c.in_ok-checked.checked.system
     c.in_ok-checked.checked.checks c.in_ok-checked.ensures.ok _ (c.in_err-solved.ensures.err Report) in
     search (rules, h)
 
 pub returns-in_err-list-clause-err : goal.returns-in_err-list-clause-err
 returns-in_err-list-clause-err g c =
     let s = c.in_ok-checked.checked.system in
-    let h : IsUnanswered (checks_question exact c.args.text.now (domain_text c.args.rows) c.args.policy c.args.limit)
+    let h : IsUnanswered (checks_question exact (source_text c.args.program) (domain_text c.args.rows) c.args.policy c.args.limit)
     c.in_err-list.field-0.0 =
-    unverified c.args.text.now (domain_text c.args.rows) c.args.policy c.args.limit s c.in_ok-checked.checked.checks
+    unverified (source_text c.args.program) (domain_text c.args.rows) c.args.policy c.args.limit s c.in_ok-checked.checked.checks
     c.in_ok-checked.ensures.ok c.in_ok-solved.solved c.in_ok-solved.ensures.solved _
     (subst (λ (checks : List CheckCases). AreUnverified (equations_of s) (vector_at s c.in_ok-solved.solved.bounds) checks
     c.in_err-list.field-0.0) c.as_slice-checks.ensures c.in_err-list.ensures.err) in
@@ -64,13 +64,13 @@ returns-clause-ok g c =
     let bytes = c.in_ok-bytes.bytes.items in
     let improvements = c.in_ok-solved.solved.improvements in
     let shown : List (List ℕ) → List CheckCases → List Verdict → List ℕ = λ names cs vs.
-    checks_in c.args.format c.args.file.now c.args.text.now names cs vs improvements in
+    checks_in c.args.format c.args.file.now c.args.program.text.now names cs vs improvements in
     let written : bytes ≡ shown s.flow.names checks verdicts =
     subst (λ (vs : List Verdict). bytes ≡ shown s.flow.names checks vs) c.deref-2.ensures.value
     (subst (λ (cs : List CheckCases). bytes ≡ shown s.flow.names cs c.deref-2.result.now) c.as_slice-checks.ensures
     (subst (λ (names : List (List ℕ)). bytes ≡ shown names c.as_slice-checks.result.now c.deref-2.result.now) c.as_slice-names.ensures
     c.in_ok-bytes.ensures)) in
-    judged c.args.text.now (domain_text c.args.rows) c.args.policy c.args.limit s checks c.in_ok-checked.ensures.ok
+    judged (source_text c.args.program) (domain_text c.args.rows) c.args.policy c.args.limit s checks c.in_ok-checked.ensures.ok
     c.in_ok-solved.solved c.in_ok-solved.ensures.solved c.proved_verdicts_hold.ensures c.open_states_break.ensures
     c.in_ok-solved.ensures.least verdicts
     (subst (λ (cs : List CheckCases). AreCheckVerdicts (equations_of s) (vector_at s c.in_ok-solved.solved.bounds) cs verdicts)

@@ -13,6 +13,6 @@ returns-in-Ok-clause-over c =
 
 pub returns-in-Err-clause-err : goal.returns-in-Err-clause-err
 returns-in-Err-clause-err c =
-    λ text analysed. c.row_refusal.ensures text _ _ _ analysed
+    c.row_refusal.ensures (domain_text c.args.rows) c.args.program.now.names c.args.program.now.body
     (λ other. subst (λ names. HasTemplate (domain_text c.args.rows) names (Err c.in-Err.fault)) c.as_slice.ensures
     (c.in-Err.ensures.refused other))

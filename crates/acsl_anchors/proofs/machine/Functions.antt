@@ -1,0 +1,132 @@
+-- The machine finds the anchors of a function.
+use Rattle.std.proofs.Common.{◌≡◌, ◌∙◌, ◌++◌, ◌∷◌, ℕ, List, [], Option, Some, None, refl, sym, ap, append_assoc}
+use Rattle.std.proofs.lemmas.List.{map-append}
+use Rattle.source_grammar.specs.Tokens.{left_paren, right_paren, left_brace, right_brace, semicolon, Token, token}
+use Rattle.source_grammar.specs.Grammar.{Core, returns, updates, update, step_before, Items, no_items, label, declaration, item, GoodItems}
+use Rattle.source_grammar.specs.Grammar.{ending_core}
+use Rattle.source_grammar.specs.Grammar.{spell_core, spell_items, spell_declarators, Specifiers, gives_int, gives_void}
+use Rattle.source_grammar.specs.Grammar.{storage, spell_specifiers, FunctionName, called, called_main, spell_function_name, MoreParameters}
+use Rattle.source_grammar.specs.Grammar.{last_parameter, next_parameter, spell_more_parameters, Parameters, no_parameters, void_parameters}
+use Rattle.source_grammar.specs.Grammar.{int_parameters, spell_parameters, Function, function, spell, Good, Reads}
+use Rattle.source_grammar.specs.Grammar as g
+use Rattle.acsl_anchors.specs.Anchors as spec
+use Rattle.acsl_anchors.specs.Anchors.{Scope, no_scope, declared_one, end_behind, end_at, anchors_of, anchors_items}
+use Rattle.acsl_anchors.specs.Anchors.{anchors_core, scope_core, scope_items, scope_declarators, scope_more_parameters, scope_parameters}
+use Rattle.acsl_anchors.specs.View.{plain_anchor, plain_anchors}
+use Rattle.acsl_anchors.specs.Machine.{State, state, run, start}
+use Rattle.acsl_anchors.specs.declared.anchor.Anchor.{Anchor}
+use Rattle.acsl_anchors.specs.declared.goal.Goal.{Goal}
+use Rattle.acsl_anchors.specs.declared.goal.Goal.TheVariants as goal
+use Rattle.acsl_anchors.specs.declared.goal.Place.TheVariants as place
+use Rattle.acsl_anchors.proofs.machine.Skipped.{declarators_run}
+use Rattle.acsl_anchors.proofs.machine.Found.{core_run, items_head, goes_on, return_run}
+
+-- ---- the front
+-- What stands before the name,
+specifiers_run : (ss : Specifiers) (s : Scope) (w : List Token)
+    → run (state (goal.Front ∷ []) s []) (spell_specifiers ss ++ w) ≡ run (state (goal.Front ∷ []) s []) w
+specifiers_run (gives_int a) s w = refl
+specifiers_run (gives_void a) s w = refl
+specifiers_run (storage a ss) s w = specifiers_run ss s w
+
+-- and the name is passed over.
+name_run : (x : FunctionName) (s : Scope) (w : List Token)
+    → run (state (goal.Front ∷ []) s []) (spell_function_name x ++ w) ≡ run (state (goal.Front ∷ []) s []) w
+name_run (called x a) s w = refl
+name_run (called_main a) s w = refl
+
+-- The parameters behind the first are declared.
+more_parameters_run : (ps : MoreParameters) (s : Scope) (w : List Token)
+    → run (state (goal.Parameters ∷ []) s []) (spell_more_parameters ps ++ w)
+    ≡ run (state (goal.Parameters ∷ []) (scope_more_parameters ps s) []) w
+more_parameters_run last_parameter s w = refl
+more_parameters_run (next_parameter a b x c ps) s w = more_parameters_run ps (declared_one s) w
+
+-- So are all parameters.
+parameters_run : (ps : Parameters) (s : Scope) (w : List Token)
+    → run (state (goal.Parameters ∷ []) s []) (spell_parameters ps ++ w) ≡ run (state (goal.Parameters ∷ []) (scope_parameters ps s) []) w
+parameters_run no_parameters s w = refl
+parameters_run (void_parameters a) s w = refl
+parameters_run (int_parameters a x b ps) s w = more_parameters_run ps (declared_one s) w
+
+-- ---- the body
+-- what waits for the brace behind a `return`
+abbrev pending : Option ℕ → List Goal
+pending None = goal.Statement place.Body ∷ []
+pending (Some a) = goal.Ending a ∷ goal.Statement place.Body ∷ []
+
+-- where the end stands then
+abbrev end_now : Option ℕ → (brace : ℕ) → ℕ
+end_now None brace = brace
+end_now (Some a) brace = a
+
+-- A statement is no brace: a `return` before it isn't the last item.
+no_ending : (o : Option ℕ) (c : Core) (s : Scope) (found : List Anchor) (w : List Token)
+    → run (state (pending o) s found) (spell_core c ++ w) ≡ run (state (pending None) s found) (spell_core c ++ w)
+no_ending None c s found w = refl
+no_ending (Some a) (updates (update (g.place x b i) f) c) s found w = refl
+no_ending (Some a) (updates (step_before d b p) c) s found w = refl
+no_ending (Some a) _ s found w = refl
+
+-- what is found behind a statement, and then in those behind it
+found_then : (o : Option ℕ) (c : Core) (is : Items) (d e : ℕ) (s : Scope) (found : List Anchor) (w : List Token)
+    → (run (state (pending o) (scope_core c s) (found ++ plain_anchors (anchors_core c s))) w).found
+    ≡ (found ++ plain_anchors (anchors_core c s)) ++ plain_anchors (anchors_items is (scope_core c s)
+    ++ end_at e (scope_items is (scope_core c s)) ∷ [])
+    → (run (state (pending o) (scope_core c s) (found ++ plain_anchors (anchors_core c s))) w).found
+    ≡ found ++ plain_anchors ((anchors_core c s ++ anchors_items is (scope_core c s)) ++ end_at e (scope_items is (scope_core c s)) ∷ [])
+found_then o c is d e s found w h =
+    let last : List spec.Anchor = end_at e (scope_items is (scope_core c s)) ∷ [] in
+    h ∙ append_assoc found (plain_anchors (anchors_core c s)) (plain_anchors (anchors_items is (scope_core c s) ++ last))
+    ∙ ap (λ (l : List Anchor). found ++ l) (sym (map-append plain_anchor (anchors_core c s) (anchors_items is (scope_core c s) ++ last))
+    ∙ ap (λ (l : List spec.Anchor). plain_anchors l) (sym (append_assoc (anchors_core c s) (anchors_items is (scope_core c s)) last)))
+
+-- The anchors of the body, and the end before its last `return` or its brace.
+body_run : (is : Items) (o : Option ℕ) (d : ℕ) (s : Scope) (found : List Anchor) → GoodItems is
+    → (run (state (pending o) s found) (spell_items is ++ token right_brace d ∷ [])).found
+    ≡ found ++ plain_anchors (anchors_items is s ++ end_at (end_behind (end_now o d) is d) (scope_items is s) ∷ [])
+body_run no_items None d s found g = refl
+body_run no_items (Some a) d s found g = refl
+body_run (label x a b is) None d s found g =
+    body_run is None d s (found ++ plain_anchor (spec.label_at x a b s) ∷ []) g
+    ∙ append_assoc found (plain_anchor (spec.label_at x a b s) ∷ []) _
+body_run (label x a b is) (Some e) d s found g =
+    body_run is None d s (found ++ plain_anchor (spec.label_at x a b s) ∷ []) g
+    ∙ append_assoc found (plain_anchor (spec.label_at x a b s) ∷ []) _
+body_run (declaration a xs b is) None d s found g =
+    rw (append_assoc (spell_declarators xs) (token semicolon b ∷ spell_items is) (token right_brace d ∷ []))
+    (ap (λ (st : State). st.found) (declarators_run xs b (goal.Statement place.Body ∷ []) s found _)
+    ∙ body_run is None d (scope_declarators xs s) found g.1)
+body_run (declaration a xs b is) (Some e) d s found g =
+    rw (append_assoc (spell_declarators xs) (token semicolon b ∷ spell_items is) (token right_brace d ∷ []))
+    (ap (λ (st : State). st.found) (declarators_run xs b (goal.Statement place.Body ∷ []) s found _)
+    ∙ body_run is None d (scope_declarators xs s) found g.1)
+body_run (item (returns a t b) is) o d s found g =
+    ap (λ (ts : List Token). (run (state (pending o) s found) ts).found)
+    (append_assoc (spell_core (returns a t b)) (spell_items is) (token right_brace d ∷ []))
+    ∙ ap (λ (st : State). st.found) (no_ending o (returns a t b) s found (spell_items is ++ token right_brace d ∷ [])
+    ∙ return_run t b (goal.Ending a ∷ goal.Statement place.Body ∷ []) s found (spell_items is ++ token right_brace d ∷ []))
+    ∙ body_run is (Some a) d s found g.1
+body_run (item c is) o d s found g =
+    ap (λ (ts : List Token). (run (state (pending o) s found) ts).found)
+    (append_assoc (spell_core c) (spell_items is) (token right_brace d ∷ []))
+    ∙ ap (λ (st : State). st.found) (no_ending o c s found (spell_items is ++ token right_brace d ∷ [])
+    ∙ core_run c place.Body tt [] s found (spell_items is ++ token right_brace d ∷ []) g.0
+    (goes_on (ending_core c) (spell_items is ++ token right_brace d ∷ []) (items_head is (token right_brace d ∷ []) refl)))
+    ∙ found_then None c is d (end_behind d is d) s found (spell_items is ++ token right_brace d ∷ [])
+    (body_run is None d (scope_core c s) (found ++ plain_anchors (anchors_core c s)) g.1)
+
+-- What the machine finds in the spelling of a function are its anchors.
+pub function_found : (f : Function) → Good f → (run start (spell f)).found ≡ plain_anchors (anchors_of f)
+function_found (function ss n a ps b c is d) h =
+    ap (λ (st : State). st.found)
+    (specifiers_run ss no_scope (spell_function_name n ++ token left_paren a ∷ (spell_parameters ps
+    ++ token right_paren b ∷ token left_brace c ∷ (spell_items is ++ token right_brace d ∷ [])))
+    ∙ (name_run n no_scope (token left_paren a ∷ (spell_parameters ps
+    ++ token right_paren b ∷ token left_brace c ∷ (spell_items is ++ token right_brace d ∷ [])))
+    ∙ parameters_run ps no_scope (token right_paren b ∷ token left_brace c ∷ (spell_items is ++ token right_brace d ∷ []))))
+    ∙ body_run is None d (scope_parameters ps no_scope) [] h
+
+-- What the machine finds at the tokens of a function are its anchors.
+pub read_found : (ts : List Token) (f : Function) → Reads ts f → (run start ts).found ≡ plain_anchors (anchors_of f)
+read_found ts f reads = ap (λ (w : List Token). (run start w).found) (sym reads.spelled) ∙ function_found f reads.good

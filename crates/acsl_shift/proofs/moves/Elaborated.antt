@@ -1,0 +1,230 @@
+-- What an expression without its places is in the core: the same, but for the lines and places of its deeds.
+use Rattle.std.proofs.Common.{◌≡◌, ◌∙◌, ◌++◌, ◌∷◌, ℕ, suc, ℤ, pos, Bool, true, false, List, [], refl, ap, ap₂, subst}
+use Rattle.std.proofs.Common.{if◌then◌else◌}
+use Rattle.lang_tree.specs.declared.form.Form.{Form}
+use Rattle.lang_tree.specs.declared.cond.Rel.TheVariants.{Ne}
+use Rattle.lang_tree.specs.declared.check.CheckKind.TheVariants.{Divisor, Index}
+use Rattle.lang_tree.specs.Tree as tree
+use Rattle.lang_tree.specs.Tree.{Condition, Deed, havocs, wheres}
+use Rattle.source_tree.specs.Expressions.{Operation, plus, minus, times, over, remainder}
+use Rattle.source_tree.specs.Expressions.{Expression, Expressions, number, variable, unknown, call, element, grouped, negative, positive}
+use Rattle.source_tree.specs.Expressions.{inverse, joined, compared, both, either, chosen, none, more}
+use Rattle.source_core.specs.Forms as form
+use Rattle.source_core.specs.Forms.{constant_form, variable_form, opposite, is_constant}
+use Rattle.source_core.specs.Preludes.{all_under}
+use Rattle.source_core.specs.Elaborated.{Result, a_form, a_truth, any, Elaborated, Numbered, Tested, Evaluated, related, selects}
+use Rattle.source_core.specs.Elaborated.{tested, form_behind, is_unit, is_divisor, is_index, as_number, numbered, product}
+use Rattle.source_core.specs.Elaborated.{unless_zero, quotient_by, remainder_by, operated, element_behind, choice, elaborated, evaluated}
+use Rattle.source_core.specs.Elaborated.{checked, divides, havocked}
+use Rattle.acsl_shift.specs.Sources.{expression_without, expressions_without}
+use Rattle.acsl_shift.proofs.moves.Deeds.{bare_deeds, bare_append, bare_under}
+
+-- without the lines and places of its prelude
+abbrev pub bare : Elaborated → Elaborated
+bare e = record { prelude = bare_deeds e.prelude; result = e.result; next = e.next }
+
+-- likewise as a number
+abbrev pub bare_number : Numbered → Numbered
+bare_number a = record { prelude = bare_deeds a.prelude; form = a.form; next = a.next }
+
+-- as a condition
+abbrev pub bare_test : Tested → Tested
+bare_test a = record { prelude = bare_deeds a.prelude; condition = a.condition; next = a.next }
+
+-- and a prelude alone
+abbrev pub bare_evaluated : Evaluated → Evaluated
+bare_evaluated a = record { prelude = bare_deeds a.prelude; next = a.next }
+
+-- a result and the next hidden variable behind a prelude
+abbrev behind : Result → ℕ → List Deed → Elaborated
+behind r h ds = record { prelude = ds; result = r; next = h }
+
+-- a choice of two
+if_bare : (b : Bool) (x y z w : Elaborated) → bare x ≡ z → bare y ≡ w → bare (if b then x else y) ≡ (if b then z else w)
+if_bare true x y z w h i = h
+if_bare false x y z w h i = i
+
+module _ (line : ℕ) where
+  -- a result as a number
+  as_number_bare : (ds : List Deed) (h : ℕ) (r : Result) → bare_number (as_number line ds h r) ≡ as_number 0 (bare_deeds ds) h r
+  as_number_bare ds h (a_form f) = refl
+  as_number_bare ds h (a_truth c) =
+      ap (λ (x : List Deed). let a : Numbered = record { prelude = x; form = variable_form h; next = suc h } in a)
+      (bare_append ds (havocs h line ∷ wheres (selects c h (constant_form (pos 1)) (constant_form (pos 0))) line ∷ []))
+  as_number_bare ds h any =
+      ap (λ (x : List Deed). let a : Numbered = record { prelude = x; form = variable_form h; next = suc h } in a)
+      (bare_append ds (havocs h line ∷ []))
+
+  -- an expression as a number
+  pub numbered_bare : (e : Elaborated) (f : Elaborated) → bare e ≡ f → bare_number (numbered line e) ≡ numbered 0 f
+  numbered_bare e f h = as_number_bare e.prelude e.next e.result ∙ ap (λ (x : Elaborated). numbered 0 x) h
+
+  -- any number
+  havocked_bare : (ds : List Deed) (h : ℕ) → bare (havocked line ds h) ≡ havocked 0 (bare_deeds ds) h
+  havocked_bare ds h = ap (behind (a_form (variable_form h)) (suc h)) (bare_append ds (havocs h line ∷ []))
+
+  -- a product
+  product_bare : (ds : List Deed) (h : ℕ) (f g : Form) → bare (product line ds h f g) ≡ product 0 (bare_deeds ds) h f g
+  product_bare ds h f g = if_bare (is_constant f) _ _ _ _ refl (if_bare (is_constant g) _ _ _ _ refl (havocked_bare ds h))
+
+  -- behind a check of the divisor
+  unless_bare : (ds : List Deed) (h sign : ℕ) (g : Form) → bare (unless_zero line ds h sign g) ≡ unless_zero 0 (bare_deeds ds) h 0 g
+  unless_bare ds h sign g =
+      havocked_bare (ds ++ checked line Divisor sign (related Ne g (constant_form (pos 0))) ∷ []) h
+      ∙ ap (λ (x : List Deed). havocked 0 x h) (bare_append ds (checked line Divisor sign (related Ne g (constant_form (pos 0))) ∷ []))
+
+  -- a quotient by a number
+  quotient_bare : (ds : List Deed) (h : ℕ) (f : Form) (c : ℤ) → bare (quotient_by line ds h f c) ≡ quotient_by 0 (bare_deeds ds) h f c
+  quotient_bare ds h f c =
+      if_bare (is_unit c) _ _ _ _ refl (if_bare (is_constant f) _ _ _ _ refl
+      (ap (behind (a_form (variable_form h)) (suc h)) (bare_append ds (havocs h line ∷ wheres (divides f c h) line ∷ []))))
+
+  -- a remainder by a number
+  remainder_bare : (ds : List Deed) (h : ℕ) (f : Form) (c : ℤ) → bare (remainder_by line ds h f c) ≡ remainder_by 0 (bare_deeds ds) h f c
+  remainder_bare ds h f c =
+      if_bare (is_unit c) _ _ _ _ refl (if_bare (is_constant f) _ _ _ _ refl
+      (ap (behind (a_form (form.minus f (form.scaled c (variable_form h)))) (suc h))
+      (bare_append ds (havocs h line ∷ wheres (divides f c h) line ∷ []))))
+
+  -- an operation
+  operated_bare : (o : Operation) (sign : ℕ) (ds : List Deed) (h : ℕ) (f g : Form)
+      → bare (operated line o sign ds h f g) ≡ operated 0 o 0 (bare_deeds ds) h f g
+  operated_bare plus sign ds h f g = refl
+  operated_bare minus sign ds h f g = refl
+  operated_bare times sign ds h f g = product_bare ds h f g
+  operated_bare over sign ds h f g = if_bare (is_divisor g) _ _ _ _ (quotient_bare ds h f g.constant) (unless_bare ds h sign g)
+  operated_bare remainder sign ds h f g = if_bare (is_divisor g) _ _ _ _ (remainder_bare ds h f g.constant) (unless_bare ds h sign g)
+
+  -- an element
+  element_bare : (size bracket : ℕ) (i j : Numbered) → bare_number i ≡ j
+      → bare (element_behind line size bracket i) ≡ element_behind 0 size 0 j
+  element_bare size bracket i j h =
+      ap (behind any i.next) (bare_append i.prelude (checked line Index bracket (is_index size i.form) ∷ []))
+      ∙ ap (λ (x : Numbered). element_behind 0 size 0 x) h
+
+  -- what is made of two numbers, the second behind the first
+  two_numbers : (K L : List Deed → ℕ → Form → Form → Elaborated)
+      → ((ds : List Deed) (h : ℕ) (f g : Form) → bare (K ds h f g) ≡ L (bare_deeds ds) h f g)
+      → (a x : Numbered) → bare_number a ≡ x → (b : Numbered) (y : ℕ → Numbered) → bare_number b ≡ y a.next
+      → bare (K (a.prelude ++ b.prelude) b.next a.form b.form) ≡ L (x.prelude ++ (y x.next).prelude) (y x.next).next x.form (y x.next).form
+  two_numbers K L same a x ea b y eb =
+      let P : Numbered → Type 0 = λ z. bare (K (a.prelude ++ b.prelude) b.next a.form b.form)
+      ≡ L (z.prelude ++ (y z.next).prelude) (y z.next).next z.form (y z.next).form in
+      let Q : Numbered → Type 0 = λ z. bare (K (a.prelude ++ b.prelude) b.next a.form b.form)
+      ≡ L (bare_deeds a.prelude ++ z.prelude) z.next a.form z.form in
+      subst P ea (subst Q eb (same (a.prelude ++ b.prelude) b.next a.form b.form
+      ∙ ap (λ (ds : List Deed). L ds b.next a.form b.form) (bare_append a.prelude b.prelude)))
+
+  -- what is made of two conditions, the checks of the second under one that the first gives
+  two_tests : (F : Condition → Condition) (G : Condition → Condition → Result) (a x : Tested) → bare_test a ≡ x → (b : Tested)
+      (y : ℕ → Tested) → bare_test b ≡ y a.next → bare (behind (G a.condition b.condition) b.next
+      (a.prelude ++ all_under (F a.condition) b.prelude))
+      ≡ behind (G x.condition (y x.next).condition) (y x.next).next (x.prelude ++ all_under (F x.condition) (y x.next).prelude)
+  two_tests F G a x ea b y eb =
+      let K = behind (G a.condition b.condition) b.next (a.prelude ++ all_under (F a.condition) b.prelude) in
+      let P : Tested → Type 0 = λ z. bare K
+      ≡ behind (G z.condition (y z.next).condition) (y z.next).next (z.prelude ++ all_under (F z.condition) (y z.next).prelude) in
+      let Q : Tested → Type 0 = λ z. bare K
+      ≡ behind (G a.condition z.condition) z.next (bare_deeds a.prelude ++ all_under (F a.condition) z.prelude) in
+      subst P ea (subst Q eb (ap (behind (G a.condition b.condition) b.next)
+      (bare_append a.prelude (all_under (F a.condition) b.prelude)
+      ∙ ap (λ (ds : List Deed). bare_deeds a.prelude ++ ds) (bare_under (F a.condition) b.prelude))))
+
+  -- the prelude of a choice
+  choice_prelude : (c : Tested) (f g : Numbered) → bare (choice line c f g) ≡ choice 0 (bare_test c) (bare_number f) (bare_number g)
+  choice_prelude c f g =
+      let last = havocs g.next line ∷ wheres (selects c.condition g.next f.form g.form) line ∷ [] in
+      let yes = all_under c.condition f.prelude in
+      let not = all_under (tree.negation c.condition) g.prelude in
+      ap (behind (a_form (variable_form g.next)) (suc g.next))
+      (bare_append c.prelude (yes ++ (not ++ last))
+      ∙ ap (λ (ds : List Deed). bare_deeds c.prelude ++ ds)
+      (bare_append yes (not ++ last)
+      ∙ ap₂ (λ (ds es : List Deed). ds ++ es) (bare_under c.condition f.prelude)
+      (bare_append not last ∙ ap (λ (ds : List Deed). ds ++ bare_deeds last) (bare_under (tree.negation c.condition) g.prelude))))
+
+  -- a choice, each part behind those before it
+  choice_bare : (c x : Tested) → bare_test c ≡ x → (f : Numbered) (y : ℕ → Numbered) → bare_number f ≡ y c.next
+      → (g : Numbered) (z : ℕ → Numbered) → bare_number g ≡ z f.next
+      → bare (choice line c f g) ≡ choice 0 x (y x.next) (z (y x.next).next)
+  choice_bare c x ec f y ef g z eg =
+      let P : Tested → Type 0 = λ w. bare (choice line c f g) ≡ choice 0 w (y w.next) (z (y w.next).next) in
+      let Q : Numbered → Type 0 = λ w. bare (choice line c f g) ≡ choice 0 (bare_test c) w (z w.next) in
+      let R : Numbered → Type 0 = λ w. bare (choice line c f g) ≡ choice 0 (bare_test c) (bare_number f) w in
+      subst P ec (subst Q ef (subst R eg (choice_prelude c f g)))
+
+  -- arguments one behind the other
+  more_bare : (a x : Elaborated) → bare a ≡ x → (b : Evaluated) (y : ℕ → Evaluated) → bare_evaluated b ≡ y a.next
+      → (let e : Evaluated = record { prelude = bare_deeds (a.prelude ++ b.prelude); next = b.next } in e)
+      ≡ (let e : Evaluated = record { prelude = x.prelude ++ (y x.next).prelude; next = (y x.next).next } in e)
+  more_bare a x ea b y eb =
+      let both_of : List Deed → Evaluated → Evaluated = λ ds e. record { prelude = ds ++ e.prelude; next = e.next } in
+      let now : Evaluated = record { prelude = bare_deeds (a.prelude ++ b.prelude); next = b.next } in
+      let P : Elaborated → Type 0 = λ z. now ≡ both_of z.prelude (y z.next) in
+      let Q : Evaluated → Type 0 = λ z. now ≡ both_of (bare_deeds a.prelude) z in
+      subst P ea (subst Q eb (ap (λ (ds : List Deed). let e : Evaluated = record { prelude = ds; next = b.next } in e)
+      (bare_append a.prelude b.prelude)))
+
+  -- an expression that is evaluated to a condition
+  tested_bare : (e : Elaborated) (f : Elaborated) → bare e ≡ f → bare_test (tested e) ≡ tested f
+  tested_bare e f h = ap (λ (x : Elaborated). tested x) h
+
+  mutual
+    -- an expression
+    pub elaborated_bare : (e : Expression) (h : ℕ) → bare (elaborated line e h) ≡ elaborated 0 (expression_without e) h
+    elaborated_bare (number v at) h = refl
+    elaborated_bare (variable i at) h = refl
+    elaborated_bare (unknown at) h = refl
+    elaborated_bare (call es at) h = ap (λ (x : Evaluated). behind any x.next x.prelude) (evaluated_bare es h)
+    elaborated_bare (element size bracket e at) h =
+        element_bare size bracket (numbered line (elaborated line e h)) (numbered 0 (elaborated 0 (expression_without e) h))
+        (numbered_bare (elaborated line e h) (elaborated 0 (expression_without e) h) (elaborated_bare e h))
+    elaborated_bare (grouped at e) h = elaborated_bare e h
+    elaborated_bare (negative at e) h = ap (λ (a : Numbered). form_behind a.prelude a.next (opposite a.form))
+        (numbered_bare (elaborated line e h) (elaborated 0 (expression_without e) h) (elaborated_bare e h))
+    elaborated_bare (positive at e) h = ap (λ (a : Numbered). form_behind a.prelude a.next a.form)
+        (numbered_bare (elaborated line e h) (elaborated 0 (expression_without e) h) (elaborated_bare e h))
+    elaborated_bare (inverse at e) h = ap (λ (a : Tested). behind (a_truth (tree.negation a.condition)) a.next a.prelude)
+        (tested_bare (elaborated line e h) (elaborated 0 (expression_without e) h) (elaborated_bare e h))
+    elaborated_bare (joined o sign e f) h =
+        let a = numbered line (elaborated line e h) in
+        two_numbers (operated line o sign) (operated 0 o 0) (operated_bare o sign) a (numbered 0 (elaborated 0 (expression_without e) h))
+        (numbered_bare (elaborated line e h) (elaborated 0 (expression_without e) h) (elaborated_bare e h))
+        (numbered line (elaborated line f a.next)) (λ n. numbered 0 (elaborated 0 (expression_without f) n))
+        (numbered_bare (elaborated line f a.next) (elaborated 0 (expression_without f) a.next) (elaborated_bare f a.next))
+    elaborated_bare (compared rel sign e f) h =
+        let a = numbered line (elaborated line e h) in
+        let K : List Deed → ℕ → Form → Form → Elaborated = λ ds n x y. behind (a_truth (related rel x y)) n ds in
+        two_numbers K K (λ ds n x y. refl) a (numbered 0 (elaborated 0 (expression_without e) h))
+        (numbered_bare (elaborated line e h) (elaborated 0 (expression_without e) h) (elaborated_bare e h))
+        (numbered line (elaborated line f a.next)) (λ n. numbered 0 (elaborated 0 (expression_without f) n))
+        (numbered_bare (elaborated line f a.next) (elaborated 0 (expression_without f) a.next) (elaborated_bare f a.next))
+    elaborated_bare (both c d) h =
+        let a = tested (elaborated line c h) in
+        two_tests (λ x. x) (λ x y. a_truth (tree.both x y)) a (tested (elaborated 0 (expression_without c) h))
+        (tested_bare (elaborated line c h) (elaborated 0 (expression_without c) h) (elaborated_bare c h))
+        (tested (elaborated line d a.next)) (λ n. tested (elaborated 0 (expression_without d) n))
+        (tested_bare (elaborated line d a.next) (elaborated 0 (expression_without d) a.next) (elaborated_bare d a.next))
+    elaborated_bare (either c d) h =
+        let a = tested (elaborated line c h) in
+        two_tests tree.negation (λ x y. a_truth (tree.either x y)) a (tested (elaborated 0 (expression_without c) h))
+        (tested_bare (elaborated line c h) (elaborated 0 (expression_without c) h) (elaborated_bare c h))
+        (tested (elaborated line d a.next)) (λ n. tested (elaborated 0 (expression_without d) n))
+        (tested_bare (elaborated line d a.next) (elaborated 0 (expression_without d) a.next) (elaborated_bare d a.next))
+    elaborated_bare (chosen sign c e f) h =
+        let a = tested (elaborated line c h) in
+        let b = numbered line (elaborated line e a.next) in
+        choice_bare a (tested (elaborated 0 (expression_without c) h))
+        (tested_bare (elaborated line c h) (elaborated 0 (expression_without c) h) (elaborated_bare c h))
+        b (λ n. numbered 0 (elaborated 0 (expression_without e) n))
+        (numbered_bare (elaborated line e a.next) (elaborated 0 (expression_without e) a.next) (elaborated_bare e a.next))
+        (numbered line (elaborated line f b.next)) (λ n. numbered 0 (elaborated 0 (expression_without f) n))
+        (numbered_bare (elaborated line f b.next) (elaborated 0 (expression_without f) b.next) (elaborated_bare f b.next))
+
+    -- expressions one behind the other
+    pub evaluated_bare : (es : Expressions) (h : ℕ) → bare_evaluated (evaluated line es h) ≡ evaluated 0 (expressions_without es) h
+    evaluated_bare none h = refl
+    evaluated_bare (more e es) h =
+        let a = elaborated line e h in
+        more_bare a (elaborated 0 (expression_without e) h) (elaborated_bare e h) (evaluated line es a.next)
+        (λ n. evaluated 0 (expressions_without es) n) (evaluated_bare es a.next)

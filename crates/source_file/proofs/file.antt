@@ -1,0 +1,4 @@
+pub mod Told
+pub mod Chosen
+pub mod Fronts
+pub mod Found

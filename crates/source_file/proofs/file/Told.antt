@@ -1,0 +1,41 @@
+-- What is told of a function's tokens.
+use Rattle.std.proofs.Common.{◌≡◌, inr, ℕ, List, Result, Ok, Err, sym, ap, subst}
+use Rattle.lang_tokens.specs.Lines.{line_at}
+use Rattle.lang_tree.specs.declared.program.Program.{Program}
+use Rattle.source_grammar.specs.Tokens.{Token}
+use Rattle.source_grammar.specs.Grammar.{Function, Reads}
+use Rattle.source_grammar.specs.Faults.{Finds, whole}
+use Rattle.source_grammar.specs.View.{Are}
+use Rattle.source_grammar.specs.Goals.{scan_of}
+use Rattle.source_grammar.specs.declared.symbol.Piece as code_piece
+use Rattle.source_grammar.specs.declared.machine.Syntax.{Syntax}
+use Rattle.source_meaning.specs.Walk.{walk}
+use Rattle.source_file.specs.Gives.{FunctionGives, Gives, Tells}
+use Rattle.source_file.specs.Meaning.{Answer, FunctionMeans, walked}
+use Rattle.source_file.specs.declared.fault.SourceFault.{SourceFault}
+
+-- what is found of pieces is found of their tokens
+pub found_scan : (syntax s : Syntax) (items slice : List code_piece.Piece) (tokens : List Token) → slice ≡ items → Are tokens items
+    → ((ts : List Token) → Are ts slice → Finds (scan_of syntax) ts) → syntax ≡ s → Finds (scan_of s) tokens
+found_scan syntax s items slice tokens e are f h =
+    subst (λ (x : Syntax). Finds (scan_of x) tokens) h (f tokens (subst (λ (x : List code_piece.Piece). Are tokens x) (sym e) are))
+
+-- what is told for one reason is told for another
+pub tells_too : (r : Result Program SourceFault) (One Other : Answer → Type 0) → ((a : Answer) → One a → Other a) → Tells r One
+    → Tells r Other
+tells_too (Ok p) One Other f (body, one, core) = (body, f (Ok (p.names, body)) one, core)
+tells_too (Err e) One Other f h = λ n. f (Err e) (h n)
+
+-- what is told is given where it is the only thing
+pub tells_gives : (r : Result Program SourceFault) (Means : Answer → Type 0) (wanted : Answer)
+    → ((one : Answer) → Means one → one ≡ wanted) → Tells r Means → Gives r wanted
+tells_gives (Ok p) Means wanted once (body, one, core) = (body, sym (once (Ok (p.names, body)) one), core)
+tells_gives (Err e) Means wanted once h = λ n. sym (once (Err e) (h n))
+
+module _ (text : List ℕ) (ts : List Token) where
+  -- a program is told
+  pub program_told : (p : Program) → Finds whole ts
+      → ((f : Function) → Reads ts f → FunctionGives (Ok p) (walk (line_at text) f)) → Tells (Ok p) (FunctionMeans text ts)
+  program_told p ((f, reads), fine) gives =
+      let g : FunctionGives (Ok p) (walk (line_at text) f) = gives f reads in
+      (g.0, inr (inr (f, reads, fine, ap walked (sym g.1))), g.2)

@@ -1,0 +1,63 @@
+-- Tokens mean something.
+use Rattle.std.proofs.Common.{◌≡◌, inl, inr, ℕ, List, [], Option, Some, None, Result, Err, refl}
+use Rattle.lang_tokens.specs.declared.token.Token.{Token}
+use Rattle.lang_tokens.specs.Lines.{line_at}
+use Rattle.source_items.specs.Divisions as file
+use Rattle.source_grammar.specs.Tokens as g
+use Rattle.source_grammar.specs.Faults as grammar
+use Rattle.source_grammar.specs.Machine.{start}
+use Rattle.source_grammar.specs.Verdicts.{scan}
+use Rattle.source_grammar.proofs.faults.Scanned.{found_by}
+use Rattle.source_meaning.specs.Walk.{walk}
+use Rattle.source_tokens.specs.View.{marks_of}
+use Rattle.source_file.specs.declared.functions.Defined.{Defined}
+use Rattle.source_file.specs.declared.fault.SourceFault.{SourceFault}
+use Rattle.source_file.specs.declared.fault.SourceFault.TheVariants as fault
+use Rattle.source_file.specs.Functions.{functions_of}
+use Rattle.source_file.specs.Choice.{repeated, chosen}
+use Rattle.source_file.specs.Meaning.{Answer, place_of, item_of, walked, FunctionMeans, ChosenMeans, FunctionsMean, Means, named_in}
+use Rattle.source_file.specs.Meaning.{NamesAre}
+use Rattle.source_file.proofs.wholes.Functions.{AllWhole, all_whole, chosen_whole, whole_never_short}
+use Rattle.source_items.proofs.files.Every.{each_division}
+
+by_scan : (text : List ℕ) (ts : List g.Token) (s : grammar.Scan) → grammar.Finds s ts → (grammar.Finds grammar.short ts → ⊥)
+    → (r : Answer) × FunctionMeans text ts r
+by_scan text ts grammar.whole ((f, reads), fine) n = (walked (walk (line_at text) f), inr (inr (f, reads, fine, refl)))
+by_scan text ts grammar.short f n = absurd (n f)
+by_scan text ts (grammar.unexpected a) f n = (Err (fault.Unexpected a), inl (a, f, refl))
+by_scan text ts (grammar.nested a) f n = (Err (fault.Nesting a), inr (inl (a, f, refl)))
+
+each_chosen : (text : List ℕ) (asked : Option (List ℕ)) (ts : List Token) (ds : List Defined) → AllWhole ts ds → (o : Option Defined)
+    → chosen asked ds ≡ o → (r : Answer) × ChosenMeans text ts o r
+each_chosen text asked ts ds h None e = (Err fault.WhichFunction, refl)
+each_chosen text asked ts ds h (Some d) e =
+    let tokens = item_of text ts d in
+    by_scan text tokens (scan start tokens) (found_by (scan start tokens) tokens refl)
+    (λ f. whole_never_short text ts d (chosen_whole ts asked ds d h e) f)
+
+each_functions : (text : List ℕ) (asked : Option (List ℕ)) (ts : List Token) (ds : List Defined) → AllWhole ts ds → (o : Option ℕ)
+    → (r : Answer) × FunctionsMean text asked ts ds o r
+each_functions text asked ts ds h (Some at) = (Err (fault.NameTwice at), refl)
+each_functions text asked ts ds h None = each_chosen text asked ts ds h (chosen asked ds) refl
+
+by_outcome : (text : List ℕ) (asked : Option (List ℕ)) (ts : List Token) (o : file.Outcome) → file.Finds o (marks_of ts)
+    → (r : Answer) × Means text asked ts r
+by_outcome text asked ts (file.unexpected i) f = (Err (fault.Unexpected (place_of text ts i)), inl (i, f, refl))
+by_outcome text asked ts (file.divided items) f =
+    let ds = functions_of text ts items in
+    let r = each_functions text asked ts ds (all_whole text ts items f) (repeated [] ds) in
+    (r.0, inr (items, f, r.1))
+
+-- whatever is asked
+pub each_means : (text : List ℕ) (asked : Option (List ℕ)) (ts : List Token) → (r : Answer) × Means text asked ts r
+each_means text asked ts = let o = each_division (marks_of ts) in by_outcome text asked ts o.0 o.1
+
+names_by : (text : List ℕ) (ts : List Token) (o : file.Outcome) → file.Finds o (marks_of ts)
+    → (r : Result (List (List ℕ)) SourceFault) × NamesAre text ts r
+names_by text ts (file.unexpected i) f = (Err (fault.Unexpected (place_of text ts i)), inl (i, f, refl))
+names_by text ts (file.divided items) f =
+    let ds = functions_of text ts items in (named_in ds (repeated [] ds), inr (items, f, refl))
+
+-- and have functions, or a fault
+pub each_names : (text : List ℕ) (ts : List Token) → (r : Result (List (List ℕ)) SourceFault) × NamesAre text ts r
+each_names text ts = let o = each_division (marks_of ts) in names_by text ts o.0 o.1

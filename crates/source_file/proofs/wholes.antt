@@ -1,0 +1,4 @@
+pub mod Turns
+pub mod Spelled
+pub mod Parts
+pub mod Functions

@@ -1,0 +1,40 @@
+-- What is true of each text's tokens.
+use Rattle.std.specs.Prelude.{◌≡◌, ℕ, List, Option, Result, Ok, Contains}
+use Rattle.std.specs.List.{All}
+use Rattle.lang_tokens.specs.declared.token.Token.{Token}
+use Rattle.lang_tokens.specs.Lexemes.{IsName}
+use Rattle.source_items.specs.declared.item.Item.{Item}
+use Rattle.source_items.specs.Divisions as file
+use Rattle.source_grammar.specs.Faults as grammar
+use Rattle.source_tree.specs.Statements.{Statements}
+use Rattle.source_meaning.specs.Laws.{AreApart}
+use Rattle.source_tokens.specs.Texts.{AreTokensIn}
+use Rattle.source_tokens.specs.View.{marks_of}
+use Rattle.source_file.specs.Functions.{functions_of}
+use Rattle.source_file.specs.Meaning.{Answer, Means, NamesAre, item_of}
+use Rattle.source_file.specs.declared.functions.Defined.{Defined}
+use Rattle.source_file.specs.declared.fault.SourceFault.{SourceFault}
+
+-- tokens mean one thing at most, whatever is asked
+abbrev pub OneMeaning : Type 0
+OneMeaning = (text : List ℕ) (asked : Option (List ℕ)) (ts : List Token) (one other : Answer)
+    → Means text asked ts one → Means text asked ts other → one ≡ other
+
+-- and something
+abbrev pub SomeMeaning : Type 0
+SomeMeaning = (text : List ℕ) (asked : Option (List ℕ)) (ts : List Token) → (answer : Answer) × Means text asked ts answer
+
+-- and their functions are one list at most
+abbrev pub OneList : Type 0
+OneList = (text : List ℕ) (ts : List Token) (one other : Result (List (List ℕ)) SourceFault)
+    → NamesAre text ts one → NamesAre text ts other → one ≡ other
+
+-- a function's item never ends too early: it is a function, or has a token that doesn't fit
+abbrev pub ItemsAreWhole : Type 0
+ItemsAreWhole = (text : List ℕ) (ts : List Token) (items : List Item) (d : Defined) → file.Finds (file.divided items) (marks_of ts)
+    → Contains (functions_of text ts items) d → grammar.Finds grammar.short (item_of text ts d) → ⊥
+
+-- the variables of a function that tokens of a text mean are names of the language, no two of which are one
+abbrev pub ProgramNamesAreNames : Type 0
+ProgramNamesAreNames = (text : List ℕ) (asked : Option (List ℕ)) (ts : List Token) (names : List (List ℕ)) (body : Statements)
+    → AreTokensIn text ts → Means text asked ts (Ok (names, body)) → All IsName names × AreApart names

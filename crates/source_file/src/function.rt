@@ -1,0 +1,38 @@
+//! What a function means.
+
+ghost use Rattle.std.specs.Prelude.{◌≡◌, ◌≤◌, length};
+ghost use Rattle.base_limits.specs.declared.limits.TheConstants.{MOST_TEXT_BYTES};
+ghost use Rattle.lang_tokens.specs.Lines.{line_at};
+ghost use Rattle.source_grammar.specs.Grammar.{Function, Reads};
+ghost use Rattle.source_meaning.specs.Walk.{walk, width_of};
+ghost use Rattle.source_tokens.specs.Texts.{AreTokensIn};
+ghost use Rattle.source_tokens.specs.View.{tokens_of};
+ghost use Rattle.source_file.specs.Gives.{FunctionGives};
+
+use lang_tokens::Token;
+use lang_tree::Program;
+use source_meaning::FunctionFault;
+use source_reader::Stop;
+use source_statement::function;
+use std::alloc::Global;
+
+/// What the tokens of a function mean, as a program, or its first fault.
+pub(crate) fn program(
+    alloc: Global,
+    text: &[u8],
+    tokens: &[Token],
+    variables: u32,
+) -> Result<Program, FunctionFault>
+    requires size { length text.now ≤ MOST_TEXT_BYTES }
+    requires tokens { AreTokensIn text.now tokens.now }
+    requires read { (f : Function) × Reads (tokens_of text.now tokens.now) f × (variables ≡ width_of f) }
+    ensures { (f : Function) → Reads (tokens_of text.now tokens.now) f → variables ≡ width_of f
+        → FunctionGives result (walk (line_at text.now) f) }
+{
+    match function(alloc, text, tokens, variables) {
+        Ok(program) => Ok(program),
+        Err(Stop::Fault(fault)) => Err(fault),
+        // Tokens that are a function are never unlike one.
+        Err(Stop::Unlike) => unreachable!(),
+    }
+}

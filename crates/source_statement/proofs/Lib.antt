@@ -1,0 +1,5 @@
+pub mod spelled
+pub mod kinds
+pub mod left
+pub mod steps
+pub mod parts

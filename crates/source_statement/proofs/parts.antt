@@ -1,0 +1,11 @@
+pub mod Pushed
+pub mod Read
+pub mod Starting
+pub mod Heads
+pub mod Pushes
+pub mod Updates
+pub mod Named
+pub mod Simple
+pub mod Demands
+pub mod Parameters
+pub mod Functions

@@ -1,0 +1,10 @@
+pub mod Begun
+pub mod Doing
+pub mod Faults
+pub mod Labels
+pub mod Loops
+pub mod Moved
+pub mod Promised
+pub mod Repeats
+pub mod Said
+pub mod Tested

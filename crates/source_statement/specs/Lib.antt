@@ -1,0 +1,6 @@
+pub mod Pushed
+pub mod Onto
+pub mod Parts
+pub mod Whole
+pub mod Headed
+pub mod Starts

@@ -1,0 +1,90 @@
+-- Parts of statements, each with what it may be followed by, and what it is.
+use Rattle.std.specs.Prelude.{◌≡◌, ◌+◌, ℕ, Bool, List, ◌∷◌, Result, Ok}
+use Rattle.source_grammar.specs.Tokens.{Kind, else_word, Token, token}
+use Rattle.source_grammar.specs.Grammar.{Expr, Optional, Updates, ForFirst, Sub, Core, Items, GoodSub, GoodCore, GoodDeclarators, Ending}
+use Rattle.source_grammar.specs.Grammar.{shut, ending_sub, no_items, item}
+use Rattle.source_grammar.specs.Grammar as tree
+use Rattle.source_grammar.proofs.grammar.Follow.{NotElse, AfterCore}
+use Rattle.source_tree.specs.Expressions.{Expression}
+use Rattle.source_tree.specs.Statements.{Change, Statements, nil, branch, label}
+use Rattle.source_meaning.specs.declared.fault.FunctionFault.{FunctionFault}
+use Rattle.source_meaning.specs.Results.{◌>>=◌}
+use Rattle.source_meaning.specs.Names.{State}
+use Rattle.source_meaning.specs.Limits.{counted}
+use Rattle.source_meaning.specs.Statements.{read_condition, prelude_of, read_sub, read_core, read_declarators, read_first, read_test}
+use Rattle.source_meaning.specs.Statements.{read_updates, new_label, one}
+use Rattle.source_statement.specs.Onto.{onto_sub}
+
+-- what stands behind an `else`, if there is one
+pub data Other : Type 0 where
+  no_other : Other
+  other : ℕ → Sub → Other
+
+-- how that is spelled before other tokens
+abbrev pub onto_other : Other → List Token → List Token
+onto_other no_other w = w
+onto_other (other d t) w = token else_word d ∷ onto_sub t w
+
+-- it is good behind this statement
+abbrev pub GoodOther : Sub → Other → Type 0
+GoodOther s no_other = Unit {0}
+GoodOther s (other d t) = (ending_sub s ≡ shut) × GoodSub t
+
+-- a token of this kind may follow it
+abbrev pub AfterOther : Other → Kind → Type 0
+AfterOther no_other k = NotElse k
+AfterOther (other d t) k = AfterCore (ending_sub t) k
+
+module _ (line : ℕ → ℕ) (n : ℕ) where
+  -- what stands behind an `else`, with its names resolved
+  abbrev pub read_other : (inside : Bool) → State → Other → Result (State × Statements) FunctionFault
+  read_other inside st no_other = Ok (st, nil)
+  read_other inside st (other d t) = read_sub line n inside st t
+
+  -- an `if`
+  abbrev pub read_branch : (inside : Bool) → State → (at : ℕ) → Expr → Sub → Other → Result (State × Statements) FunctionFault
+  read_branch inside st at e s o =
+      read_condition line n st at e >>= λ x. counted at (prelude_of line n at x + 1) st >>= λ now. read_sub line n inside now s
+      >>= λ r. read_other inside r.0 o >>= λ q. Ok (q.0, one (branch x r.1 q.1 (line at)))
+
+  -- the head of a `for`: the statements before it, its condition, and its changes
+  abbrev pub read_head : State → (at : ℕ) → ForFirst → Optional → Updates
+      → Result (State × Statements × Expression × List Change) FunctionFault
+  read_head st at f t us =
+      read_first line n st f >>= λ r. read_test line n r.0 at t >>= λ x. counted at (prelude_of line n at x + 1) r.0
+      >>= λ now. read_updates line n now us >>= λ u. Ok (u.0, r.1, x, u.1)
+
+  -- a label
+  abbrev pub read_label : State → List ℕ → (at : ℕ) → Result (State × Statements) FunctionFault
+  read_label st x at = new_label x at st >>= λ now. Ok (now, one (label x (line at)))
+
+  -- one thing of a block, before others
+  abbrev pub read_one : (inside : Bool) → State → Items → Result (State × Statements) FunctionFault
+  read_one inside st no_items = Ok (st, nil)
+  read_one inside st (tree.label x at b is) = read_label st x at
+  read_one inside st (tree.declaration a xs b is) = read_declarators line n st xs
+  read_one inside st (item c is) = read_core line n inside st c
+
+-- those behind it
+abbrev pub others : Items → Items
+others no_items = no_items
+others (tree.label x at b is) = is
+others (tree.declaration a xs b is) = is
+others (item c is) = is
+
+-- it is good
+abbrev pub GoodOne : Items → Type 0
+GoodOne no_items = ⊥
+GoodOne (tree.label x at b is) = Unit {0}
+GoodOne (tree.declaration a xs b is) = GoodDeclarators xs
+GoodOne (item c is) = GoodCore c
+
+-- a statement has no statements in it
+abbrev pub IsSimple : Core → Type 0
+IsSimple (tree.empty a) = Unit {0}
+IsSimple (tree.jumps j a b) = Unit {0}
+IsSimple (tree.returns a t b) = Unit {0}
+IsSimple (tree.demands k a b e c d) = Unit {0}
+IsSimple (tree.calls x a b es c d) = Unit {0}
+IsSimple (tree.updates u c) = Unit {0}
+IsSimple _ = ⊥

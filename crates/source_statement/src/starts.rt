@@ -1,0 +1,75 @@
+//! What may come next where statements are read.
+
+ghost use Rattle.std.specs.Prelude.{◌≡◌};
+ghost use Rattle.source_grammar.specs.Symbols.{symbol_kind};
+ghost use Rattle.source_reader.specs.Reading.{first_kind};
+ghost use Rattle.source_statement.specs.Starts.{is_closing, start_in, start_of};
+
+use source_grammar::{Demand, Jump, Symbol};
+use source_reader::Reader;
+
+// What comes next, as far as statements ask.
+#[derive(Clone, Copy)]
+pub(crate) enum Start {
+    Block,
+    If,
+    While,
+    Do,
+    For,
+    Jump(Jump),
+    Return,
+    Demand(Demand),
+    Semicolon,
+    Name,
+    Step,
+    Int,
+    Void,
+    Else,
+    Colon,
+    Paren,
+    Comma,
+    Closing,
+    Storage,
+    Other,
+}
+
+fn start_in(symbol: Symbol) -> Start
+    ensures { start_of result ≡ start_in (symbol_kind symbol) }
+{
+    match symbol {
+        Symbol::LeftBrace => Start::Block,
+        Symbol::If => Start::If,
+        Symbol::While => Start::While,
+        Symbol::Do => Start::Do,
+        Symbol::For => Start::For,
+        Symbol::Jump(jump) => Start::Jump(jump),
+        Symbol::Return => Start::Return,
+        Symbol::Demand(demand) => Start::Demand(demand),
+        Symbol::Semicolon => Start::Semicolon,
+        Symbol::Name => Start::Name,
+        Symbol::Step(_) => Start::Step,
+        Symbol::Int => Start::Int,
+        Symbol::Void => Start::Void,
+        Symbol::Else => Start::Else,
+        Symbol::Colon => Start::Colon,
+        Symbol::LeftParen => Start::Paren,
+        Symbol::Comma => Start::Comma,
+        Symbol::RightBrace => Start::Closing,
+        Symbol::Storage => Start::Storage,
+        _ => Start::Other,
+    }
+}
+
+// What comes next.
+pub(crate) fn coming(reader: &Reader) -> Start
+    ensures { start_of result ≡ start_in (first_kind reader.now.ahead) }
+{
+    start_in(reader.symbol())
+}
+
+// Whether a `}` comes next.
+pub(crate) fn is_closing(reader: &Reader) -> bool
+    ensures { result ≡ is_closing (start_in (first_kind reader.now.ahead)) }
+{
+    matches!(coming(reader), Start::Closing)
+}

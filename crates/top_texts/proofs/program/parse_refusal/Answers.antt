@@ -1,7 +1,0 @@
-use Rattle.std.proofs.Common.{subst}
-use Rattle.top_texts.specs.Texts.{Reading}
-use Rattle.top_texts.proofs.program.parse_refusal.Goals as goal
-
-pub returns-in_default : goal.returns-in_default
-returns-in_default c =
-    λ text answer reading is. subst (λ a. Reading text a) (is c.in_default.not-NoMemory) reading
