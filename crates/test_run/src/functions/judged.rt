@@ -259,7 +259,8 @@ const FUNCTIONS: &[(&str, &[u8], Ending)] = &[
         "verify p",
         ROOT,
         Ending::Open(
-            b"check 0 at 9:3: assert: proved\ncheck 1 at 10:3: assert: open at n = 0, r = 1/2, odd = 1, left = 0\nproved 1 of 2\nimprovements: 2\n",
+            b"check 0 at 9:3: assert: proved\
+                \ncheck 1 at 10:3: assert: open at n = 0, r = 1/2, odd = 1, left = 0\nproved 1 of 2\nimprovements: 2\n",
         ),
     ),
     (
@@ -333,14 +334,20 @@ const FUNCTIONS: &[(&str, &[u8], Ending)] = &[
         "verify p",
         BUBBLE,
         Ending::Report(
-            b"check 0 at 6:12: index: proved\ncheck 1 at 6:19: index: proved\ncheck 2 at 6:29: index: proved\ncheck 3 at 6:36: index: proved\nproved 4 of 4\nimprovements: 4\n",
+            b"check 0 at 6:12: index: proved\
+                \ncheck 1 at 6:19: index: proved\
+                \ncheck 2 at 6:29: index: proved\
+                \ncheck 3 at 6:36: index: proved\nproved 4 of 4\nimprovements: 4\n",
         ),
     ),
     (
         "verify p --domain octagons",
         REVERSE,
         Ending::Report(
-            b"check 0 at 5:13: index: proved\ncheck 1 at 6:6: index: proved\ncheck 2 at 6:13: index: proved\ncheck 3 at 7:6: index: proved\nproved 4 of 4\nimprovements: 2\n",
+            b"check 0 at 5:13: index: proved\
+                \ncheck 1 at 6:6: index: proved\
+                \ncheck 2 at 6:13: index: proved\
+                \ncheck 3 at 7:6: index: proved\nproved 4 of 4\nimprovements: 2\n",
         ),
     ),
     (
@@ -383,7 +390,8 @@ const FUNCTIONS: &[(&str, &[u8], Ending)] = &[
         "verify p",
         SCALE,
         Ending::Open(
-            b"check 0 at 4:17: divisor: proved\ncheck 1 at 5:3: assert: open at x = 1, by = 1, up = 0, down = 0\nproved 1 of 2\nimprovements: 1\n",
+            b"check 0 at 4:17: divisor: proved\
+                \ncheck 1 at 5:3: assert: open at x = 1, by = 1, up = 0, down = 0\nproved 1 of 2\nimprovements: 1\n",
         ),
     ),
 ];
