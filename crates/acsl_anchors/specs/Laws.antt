@@ -17,6 +17,7 @@ use Rattle.source_meaning.specs.Walk.{read_parameters, walk}
 use Rattle.acsl_comments.specs.Places.{Ascend, IsEdge, IsBehindNoSlash}
 use Rattle.acsl_anchors.specs.Anchors.{Anchor, Scope, What, a_loop, a_label, anchors_of, scope_first, scope_items, scope_parameters}
 use Rattle.acsl_anchors.specs.Anchors.{the_end}
+use Rattle.base_integers.specs.declared.integers.Integers.{Integers}
 
 -- the point of an anchor, where each place has this line
 abbrev pub what_point : (ℕ → ℕ) → What → ℕ → Point
@@ -44,8 +45,9 @@ anchored (point ∷ points) = if is_anchored point.place then point ∷ anchored
 
 -- The anchors of a function are the points of its core that have one, in their order, each with what it is, its line and its name.
 abbrev pub AnchorsArePoints : Type 0
-AnchorsArePoints = (line : ℕ → ℕ) (f : Function) (names : List (List ℕ)) (body : Statements) → walk line f ≡ Ok (names, body)
-    → map (point_of line) (anchors_of f) ≡ anchored (points_of_program (core_in (length names) body))
+AnchorsArePoints = (integers : Integers) (line : ℕ → ℕ) (f : Function) (names : List (List ℕ)) (body : Statements)
+    → walk integers line f ≡ Ok (names, body)
+    → map (point_of line) (anchors_of f) ≡ anchored (points_of_program (core_in integers (length names) body))
 
 -- they stand in the text in order, each where a token begins or ends, and none right behind a `/`
 pub record AnchorsStandIn (text : List ℕ) (tokens : List lex_token.Token) (anchors : List Anchor) : Type 0 where
@@ -75,15 +77,15 @@ scope_of state = record { declared = state.variables; known = known_in state.nam
 
 -- What is known behind statements is what the language's rule on names says there.
 abbrev pub ScopesAreWalked : Type 0
-ScopesAreWalked = (line : ℕ → ℕ) (n : ℕ) (inside : Bool) (items : Items) (before behind : State) (body : Statements)
-    → read_items line n inside before items ≡ Ok (behind, body) → scope_items items (scope_of before) ≡ scope_of behind
+ScopesAreWalked = (integers : Integers) (line : ℕ → ℕ) (n : ℕ) (inside : Bool) (items : Items) (before behind : State) (body : Statements)
+    → read_items integers line n inside before items ≡ Ok (behind, body) → scope_items items (scope_of before) ≡ scope_of behind
 
 -- So is what is known behind the first part of a `for`'s head, where the invariants of its loop are said.
 abbrev pub HeadsAreWalked : Type 0
-HeadsAreWalked = (line : ℕ → ℕ) (n : ℕ) (first : ForFirst) (before behind : State) (body : Statements)
-    → read_first line n before first ≡ Ok (behind, body) → scope_first first (scope_of before) ≡ scope_of behind
+HeadsAreWalked = (integers : Integers) (line : ℕ → ℕ) (n : ℕ) (first : ForFirst) (before behind : State) (body : Statements)
+    → read_first integers line n before first ≡ Ok (behind, body) → scope_first first (scope_of before) ≡ scope_of behind
 
 -- So is what is known behind the parameters, before the statements of the body.
 abbrev pub ParametersAreWalked : Type 0
-ParametersAreWalked = (line : ℕ → ℕ) (parameters : Parameters) (before behind : State) (body : Statements)
-    → read_parameters line before parameters ≡ Ok (behind, body) → scope_parameters parameters (scope_of before) ≡ scope_of behind
+ParametersAreWalked = (integers : Integers) (line : ℕ → ℕ) (parameters : Parameters) (before behind : State) (body : Statements)
+    → read_parameters integers line before parameters ≡ Ok (behind, body) → scope_parameters parameters (scope_of before) ≡ scope_of behind

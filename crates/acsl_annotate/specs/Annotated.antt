@@ -22,6 +22,7 @@ use Rattle.acsl_notes.specs.Clauses.{Clause, IsTrueAt, clauses}
 use Rattle.acsl_notes.specs.Laws.{SaysTruth}
 use Rattle.acsl_notes.specs.Texts.{annotated, comments_from}
 use Rattle.ask_files.specs.Files.{Request}
+use Rattle.base_integers.specs.declared.integers.Integers.{Integers}
 use Rattle.ask_words.specs.declared.request.Analysis.{Analysis}
 use Rattle.ask_words.specs.declared.request.Domain.{Domain}
 use Rattle.ask_words.specs.declared.request.Purpose.TheVariants.{Report}
@@ -38,16 +39,17 @@ pub record IsTreeOf (program : Program) (names : List (List ℕ)) (statements : 
   pub defined : Defined
   pub is_chosen : IsChosen program.text program.function front defined
   pub tree_is : Reads (item_of program.text front defined) tree
-  pub means : walk (line_at program.text) tree ≡ Ok (names, statements)
+  pub means : walk program.integers (line_at program.text) tree ≡ Ok (names, statements)
 
 -- the comments that say at the anchors of a function what a vector says at the points of its core
 abbrev pub notes : (text : List ℕ) → List (List ℕ) → Statements → List (List ℤ) → Vector → Function → List Comment
 notes text names body template v tree = comments_from text names template v 0 (points_of_program body) (anchors_of tree)
 
 -- each condition that a vector gives at a point is true in every run by C of a function, at every configuration that is there
-abbrev pub SaysTruthByC : (variables : ℕ) → c.Statements → List (List ℤ) → Vector → Type 0
-SaysTruthByC variables statements template v = (p : ℕ) (known : List ℕ) (clause : Clause) → Contains (clauses known template (v p)) clause
-    → IsKeptByC variables statements p (λ state. IsTrueAt clause state)
+abbrev pub SaysTruthByC : Integers → (variables : ℕ) → c.Statements → List (List ℤ) → Vector → Type 0
+SaysTruthByC integers variables statements template v = (p : ℕ) (known : List ℕ) (clause : Clause)
+    → Contains (clauses known template (v p)) clause
+    → IsKeptByC integers variables statements p (λ state. IsTrueAt clause state)
 
 -- the bytes are the text of a file with the annotations of a vector of a function's core: each loop, each label and the end of the function
 -- has, in their order, the point that is said of it; without them the bytes are the text, with them the function means the same, and what
@@ -60,9 +62,10 @@ pub record IsTextWith (program : Program) (names : List (List ℕ)) (body : Stat
   pub points : map (point_of (line_at program.text)) (anchors_of tree) ≡ anchored (points_of_program body)
   pub written : bytes ≡ annotated program.text names (points_of_program body) template v (anchors_of tree)
   pub comes_out : without_comments 0 bytes (notes program.text names body template v tree) ≡ program.text
-  pub means : MeansWith program.text (notes program.text names body template v tree) program.function names has_core.statements
+  pub means : MeansWith program.integers program.text (notes program.text names body template v tree) program.function names
+      has_core.statements
   pub truth : SaysTruth (length names) body template v
-  pub by_c : SaysTruthByC (length names) has_core.statements template v
+  pub by_c : SaysTruthByC program.integers (length names) has_core.statements template v
 
 -- they are the text of the file with the annotations of the function's least vector over the template of these rows
 pub record IsAnnotatedOf (program : Program) (rows : Domain (List ℕ)) (bytes : List ℕ) : Type 0 where

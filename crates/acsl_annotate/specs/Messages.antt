@@ -7,7 +7,7 @@ use Rattle.top_status.specs.declared.status.Status.TheVariants.{Usage}
 -- the line, with its line feed, that says which words are a program and its options
 abbrev pub usage_text : List ℕ
 usage_text = codes "usage: tmpl_acsl PROGRAM [--domain D] [--rows FILE] [--improvements N] [--policy P] [--progress] [--function NAME]"
-    ++ 10 ∷ []
+    ++ (codes " [--int N]" ++ 10 ∷ [])
 
 -- the message of an ending for which the program that reports has this one: the usage has a line of its own
 abbrev pub said_for : Status → List ℕ → List ℕ

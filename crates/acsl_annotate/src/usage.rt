@@ -7,5 +7,5 @@ ghost use Rattle.acsl_annotate.specs.Messages.{usage_text};
 pub fn usage_line() -> &'static [u8]
     ensures { result.now ≡ usage_text }
 {
-    b"usage: tmpl_acsl PROGRAM [--domain D] [--rows FILE] [--improvements N] [--policy P] [--progress] [--function NAME]\n"
+    b"usage: tmpl_acsl PROGRAM [--domain D] [--rows FILE] [--improvements N] [--policy P] [--progress] [--function NAME] [--int N]\n"
 }

@@ -66,8 +66,9 @@ fn function_asked(
     ensures found { IfOk result (λ d. (front : List Lexed) → front ++ end_at (length program.entry.text.now) ∷ [] ≡ tokens.now
         → IsChosen program.entry.text.now (source_text program.entry).function front d) }
     ensures means { IfOk result (λ d. (front : List Lexed) → front ++ end_at (length program.entry.text.now) ∷ [] ≡ tokens.now
-        → (wanted : Answer) → Means program.entry.text.now (source_text program.entry).function front wanted
-        → FunctionMeans program.entry.text.now (item_of program.entry.text.now front d) wanted) }
+        → (wanted : Answer)
+        → Means program.entry.integers program.entry.text.now (source_text program.entry).function front wanted
+        → FunctionMeans program.entry.integers program.entry.text.now (item_of program.entry.text.now front d) wanted) }
 {
     match defined(alloc, tokens, program.text, program.function) {
         Ok(function) => Ok(function),

@@ -11,6 +11,7 @@ use Rattle.acsl_shift.specs.Sources.{without_places}
 use Rattle.acsl_comments.specs.Places.{Ascend, MayStand}
 use Rattle.acsl_comments.specs.Texts.{moved_by, with_comments, without_comments}
 use Rattle.acsl_comments.specs.declared.comment.Comment.{Comment}
+use Rattle.base_integers.specs.declared.integers.Integers.{Integers}
 
 -- the same token where it stands after comments were put in
 abbrev pub token_moved_by : List Comment → Token → Token
@@ -36,21 +37,24 @@ TokensStay = (text : List ℕ) (tokens : List Token) (comments : List Comment) �
     → ReadsWith text tokens comments
 
 -- a text means the same function as before, but for its lines and the places of its tokens
-pub record MeansWith (text : List ℕ) (comments : List Comment) (asked : Option (List ℕ)) (names : List (List ℕ)) (body : Statements) :
+pub record MeansWith (integers : Integers) (text : List ℕ) (comments : List Comment) (asked : Option (List ℕ)) (names : List (List ℕ))
+    (body : Statements) :
     Type 0 where
   -- its tokens but for the end
   pub front : List Token
   -- what it means
   pub now : Statements
   pub reads : Reads (with_comments 0 text comments) (front ++ end_at (length (with_comments 0 text comments)) ∷ [])
-  pub means : Means (with_comments 0 text comments) asked front (Ok (names, now))
+  pub means : Means integers (with_comments 0 text comments) asked front (Ok (names, now))
   -- it is the same without its lines and places
   pub same : without_places now ≡ without_places body
   -- so is its core but for its lines and the places of its checks
-  pub core : without_lines (core_in (length names) now) ≡ without_lines (core_in (length names) body)
+  pub core : without_lines (core_in integers (length names) now) ≡ without_lines (core_in integers (length names) body)
 
 -- A text with comments means the same function but for its lines and the places of its tokens, where comments may stand.
 abbrev pub ProgramsStay : Type 0
-ProgramsStay = (text : List ℕ) (tokens front : List Token) (comments : List Comment) (asked : Option (List ℕ)) (names : List (List ℕ))
-    (body : Statements) → Reads text tokens → front ++ end_at (length text) ∷ [] ≡ tokens → Means text asked front (Ok (names, body))
-    → MayStand text tokens comments → MeansWith text comments asked names body
+ProgramsStay = (integers : Integers) (text : List ℕ) (tokens front : List Token) (comments : List Comment) (asked : Option (List ℕ))
+    (names : List (List ℕ))
+    (body : Statements) → Reads text tokens → front ++ end_at (length text) ∷ [] ≡ tokens
+    → Means integers text asked front (Ok (names, body))
+    → MayStand text tokens comments → MeansWith integers text comments asked names body

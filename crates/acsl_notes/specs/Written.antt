@@ -16,6 +16,7 @@ use Rattle.source_tree.specs.Statements.{Statements}
 use Rattle.source_file.specs.Meaning.{Means}
 use Rattle.acsl_notes.specs.Clauses.{Clause, never, at_most, equals, IsTrueAt}
 use Rattle.acsl_notes.specs.Texts.{clause_text}
+use Rattle.base_integers.specs.declared.integers.Integers.{Integers}
 
 -- Each is a name of the language, and stands once.
 pub record AreNames (names : List (List ℕ)) : Type 0 where
@@ -24,9 +25,10 @@ pub record AreNames (names : List (List ℕ)) : Type 0 where
 
 -- The names of a function that a file means are such names.
 abbrev pub ProgramNamesAreNames : Type 0
-ProgramNamesAreNames = (text : List ℕ) (tokens front : List lex_token.Token) (asked : Option (List ℕ)) (names : List (List ℕ))
+ProgramNamesAreNames = (integers : Integers) (text : List ℕ) (tokens front : List lex_token.Token) (asked : Option (List ℕ))
+    (names : List (List ℕ))
     (body : Statements) → lex.Reads text tokens → front ++ lex.end_at (length text) ∷ [] ≡ tokens
-    → Means text asked front (Ok (names, body)) → AreNames names
+    → Means integers text asked front (Ok (names, body)) → AreNames names
 
 -- A row with a coefficient for each name, of which one isn't 0; its numbers, the factor and their products are numbers of the language.
 pub record IsWritableRow (names : List (List ℕ)) (factor : ℕ) (row : List ℤ) : Type 0 where

@@ -84,9 +84,9 @@ rows_files Intervals = 0
 rows_files Zones = 0
 rows_files Octagons = 0
 
--- a program with the first text in place of its file's name; the name of its function stays
+-- a program with the first text in place of its file's name; the name of its function and its integers stay
 abbrev pub source_with : Source (List ℕ) → List (List ℕ) → Source (List ℕ)
-source_with program contents = record { text = text_at contents 0; function = program.function }
+source_with program contents = record { text = text_at contents 0; function = program.function; integers = program.integers }
 
 -- an analysis with the first text as its program, and the second as its rows where they are a file
 abbrev pub analysis_with : Analysis (List ℕ) → List (List ℕ) → Analysis (List ℕ)

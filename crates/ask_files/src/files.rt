@@ -201,13 +201,14 @@ fn bytes_of<'a>(name: Option<&'a str>) -> Option<&'a [u8]>
     }
 }
 
-// A program with its text in place of its file's name. The name of its function stays.
+// A program with its text in place of its file's name. The name of its function and its integers stay.
 fn source_with<'a>(program: Source<&'a str>, contents: &[&'a [u8]]) -> Source<&'a [u8]>
     ensures { source_text result ≡ source_with (source_text program.entry) (texts_of contents.now) }
 {
     Source {
         text: text_at(contents, 0),
         function: bytes_of(program.function),
+        integers: program.integers,
     }
 }
 

@@ -39,9 +39,9 @@ progress_option = codes "[--progress]"
 abbrev pub format_option : Text
 format_option = codes "[--format F]"
 
--- the option of commands that ask about one function
-abbrev pub function_option : Text
-function_option = codes "[--function NAME]"
+-- the options of commands that ask about one function
+abbrev pub function_options : Text
+function_options = codes "[--function NAME] [--int N]"
 
 -- a command that has the options of `solve`
 abbrev pub as_solve : Topic → Text
@@ -56,7 +56,7 @@ usage_text = codes "usage: tmpl " ++ head_of page.Solve ++ codes " " ++ analysis
     ++ codes " | " ++ as_solve page.Verify ++ codes " | solve, check, transitions, equations, prove, verify: " ++ format_option
     ++ codes " | solve, certify, prove, verify, transitions, equations: " ++ progress_option
     ++ codes " | " ++ head_of page.Overview ++ codes " | " ++ head_of page.Functions
-    ++ codes " | solve, certify, check, prove, verify: " ++ function_option ++ codes "\n"
+    ++ codes " | solve, certify, check, prove, verify: " ++ function_options ++ codes "\n"
 
 -- ---- the pages
 
@@ -102,14 +102,14 @@ on_a_line options = codes "\n         " ++ options
 
 -- all options of `solve`
 abbrev pub program_options : Text
-program_options = on_a_line analysis_options ++ on_a_line format_option ++ codes " " ++ progress_option ++ codes " " ++ function_option
+program_options = on_a_line analysis_options ++ on_a_line format_option ++ codes " " ++ progress_option ++ codes " " ++ function_options
 
 -- the options of a command, where it has some
 abbrev pub options_of : Topic → Text
 options_of page.Overview = []
 options_of page.Solve = program_options
-options_of page.Certify = on_a_line analysis_options ++ on_a_line progress_option ++ codes " " ++ function_option
-options_of page.Check = on_a_line format_option ++ codes " " ++ function_option
+options_of page.Certify = on_a_line analysis_options ++ on_a_line progress_option ++ codes " " ++ function_options
+options_of page.Check = on_a_line format_option ++ codes " " ++ function_options
 options_of page.Bench = []
 options_of page.Upgrade = []
 options_of page.Prove = program_options
@@ -139,9 +139,15 @@ about_format = codes "  --format F        how it is written: text if absent, or 
 abbrev pub about_function : Text
 about_function = codes "the function asked about; main, or the only one, if absent\n"
 
+-- the integers by which it computes, on two lines; the second begins with these blanks
+abbrev pub about_integers : (blanks : Text) → Text
+about_integers blanks = codes "integers of N bits (8, 16 or 32), each operation checked\n"
+    ++ blanks ++ codes "for overflow; mathematical integers if absent\n"
+
 -- a program and the options of its analysis
 abbrev pub about_program : Text
 about_program = about_analysis ++ codes "  --function NAME   " ++ about_function
+    ++ codes "  --int N           " ++ about_integers (codes "                    ")
 
 -- what the words of a command stand for
 abbrev pub about : Topic → Text
@@ -153,6 +159,7 @@ about page.Certify = codes "  PROGRAM           a C file\n"
 about page.Check = codes "  PROGRAM          a C file\n"
     ++ codes "  CERT             a certificate, as certify writes it\n"
     ++ codes "  --function NAME  " ++ about_function
+    ++ codes "  --int N          " ++ about_integers (codes "                   ")
     ++ codes "  --format F       how it is written: text if absent, or json\n"
 about page.Bench = codes "  --seed N   from which the program is drawn, 0 to 2147483647\n"
     ++ codes "  --loops K  how many loops it has, 1 to 46\n"

@@ -5,12 +5,15 @@ use Rattle.std.specs.List.{list_any}
 use Rattle.std.specs.Option.{option_map_or}
 use Rattle.std.specs.Str.{bytes_eq}
 use Rattle.std.specs.Borrow.{Bor}
+use Rattle.base_integers.specs.declared.integers.Integers.TheVariants.{Mathematical, Machine}
+use Rattle.base_integers.specs.declared.integers.Width.{Width}
+use Rattle.base_integers.specs.declared.integers.Width.TheVariants.{Bits8, Bits16, Bits32}
 use Rattle.base_limits.specs.declared.limits.TheConstants.{MOST_IMPROVEMENTS}
 use Rattle.clap.specs.Words.{App, Kinds, Row, Rule, Text, fault_of, first_of, new_app, new_rule, subcommand_of, with_rule, with_subcommand}
 use Rattle.clap.specs.Simple.{on_top}
 use Rattle.clap.specs.declared.builder.action.ArgAction.TheVariants.{SetTrue}
 use Rattle.ask_words.specs.Help.{topic_in}
-use Rattle.ask_words.specs.Values.{check_formats, domain_in, formats, meaning_in, number_in, policies}
+use Rattle.ask_words.specs.Values.{check_formats, domain_in, formats, integers_in, meaning_in, number_in, policies}
 use Rattle.ask_words.specs.declared.format.Format.{Format}
 use Rattle.ask_words.specs.declared.format.Format.TheVariants as format
 use Rattle.ask_words.specs.declared.help.Topic.TheVariants as page
@@ -47,9 +50,9 @@ flag_rule id = record (new_rule id) { long = Some id; action = Some SetTrue }
 abbrev pub in_formats : App → App
 in_formats app = with_rule app (option_rule (codes "format"))
 
--- a command that asks about a function of its program
+-- a command that asks about a function of its program, and by which integers it computes
 abbrev pub of_function : App → App
-of_function app = with_rule app (option_rule (codes "function"))
+of_function app = with_rule (with_rule app (option_rule (codes "function"))) (option_rule (codes "int"))
 
 -- a command that analyses what has points, with five options; `transitions FILE` has a format, too
 abbrev pub analysis_app : Text → App
@@ -58,7 +61,7 @@ analysis_app name =
     (word_rule (codes "program"))) (option_rule (codes "domain"))) (option_rule (codes "rows")))
     (option_rule (codes "improvements"))) (option_rule (codes "policy"))) (flag_rule (codes "progress"))
 
--- `certify PROGRAM`, with six options; `solve PROGRAM` and `verify PROGRAM` have one more
+-- `certify PROGRAM`, with seven options; `solve PROGRAM` and `verify PROGRAM` have one more
 abbrev pub program_app : Text → App
 program_app name = of_function (analysis_app name)
 
@@ -121,7 +124,7 @@ domain_text (Rows file) = Rows file.now
 
 -- the program with the names of its file and of its function as texts
 abbrev pub source_text : Source (Bor Text) → Source Text
-source_text s = record { text = s.text.now; function = option_map (λ name. name.now) s.function }
+source_text s = record { text = s.text.now; function = option_map (λ name. name.now) s.function; integers = s.integers }
 
 -- the analysis with its names as texts
 abbrev pub analysis_text : Analysis (Bor Text) → Analysis Text
@@ -160,9 +163,15 @@ policy_in given = meaning_in policies (unwrap_or (first_of (codes "policy") give
 abbrev pub format_in : List (Text × Format) → List Row → Option Format
 format_in table given = meaning_in table (unwrap_or (first_of (codes "format") given) (codes "text"))
 
--- the program, and the name of the function that is asked about, where one is given
+-- the program, the name of the function that is asked about, where one is given, and the integers by which it computes
 abbrev pub source_in : List Row → Option (Source Text)
-source_in given = option_map (λ text. record { text = text; function = first_of (codes "function") given })
+source_in given =
+    option_and_then (λ text.
+    option_map (λ integers. record {
+      text = text;
+      function = first_of (codes "function") given;
+      integers = integers;
+    }) (integers_in (first_of (codes "int") given)))
     (first_of (codes "program") given)
 
 -- what is analysed, and how
@@ -287,19 +296,23 @@ wants_progress words = told_unless_fault (fault_of tmpl_app words) (progress_in 
 
 -- ---- examples
 
--- a program of which no function is named
+-- a program of which no function is named, and that computes by mathematical integers
 abbrev pub whole_source : Text → Source Text
-whole_source text = record { text = text; function = None }
+whole_source text = record { text = text; function = None; integers = Mathematical }
 
--- a program of which this function is asked about
+-- a program of which this function is asked about, by mathematical integers
 abbrev pub source_of : (text function : Text) → Source Text
-source_of text function = record { text = text; function = Some function }
+source_of text function = record (whole_source text) { function = Some function }
+
+-- a program of which no function is named, by integers of a machine
+abbrev pub source_by : Text → Width → Source Text
+source_by text width = record (whole_source text) { integers = Machine width }
 
 -- the analysis of a program over a domain, with the other options left out
 abbrev pub analysis_of : Source Text → Domain Text → Analysis Text
 analysis_of program domain = record { program = program; domain = domain; improvements = 1000; policy = Best }
 
--- and no function named
+-- with no function named, and by mathematical integers
 abbrev pub plain_analysis : Text → Domain Text → Analysis Text
 plain_analysis program domain = analysis_of (whole_source program) domain
 
@@ -366,6 +379,42 @@ abbrev pub function_refusals : List (List Text)
 function_refusals = (codes "solve" ∷ codes "p" ∷ codes "--function=f" ∷ codes "--function=f" ∷ [])
     ∷ (codes "solve" ∷ codes "p" ∷ codes "--function" ∷ [])
     ∷ (codes "transitions" ∷ codes "p" ∷ codes "--function=f" ∷ [])
+    ∷ []
+
+-- words that give the number of bits that integers have, and what they ask for
+abbrev pub integer_examples : List (List Text × Request Text)
+integer_examples =
+    -- the number stands before the program or behind it, in one word or in two, as any option
+    (
+      codes "solve" ∷ codes "--int=8" ∷ codes "p" ∷ [],
+      Analyse Report (analysis_of (source_by (codes "p") Bits8) Intervals) format.Text,
+    )
+    ∷ (
+      codes "certify" ∷ codes "p" ∷ codes "--int" ∷ codes "16" ∷ [],
+      Analyse Certificate (analysis_of (source_by (codes "p") Bits16) Intervals) format.Text,
+    )
+    ∷ (codes "check" ∷ codes "p" ∷ codes "--int=32" ∷ codes "c" ∷ [], Check (source_by (codes "p") Bits32) (codes "c") format.Text)
+    -- zeros before it are passed over, as in any number
+    ∷ (
+      codes "prove" ∷ codes "p" ∷ codes "c" ∷ codes "--int=08" ∷ [],
+      Prove (codes "c") (analysis_of (source_by (codes "p") Bits8) Intervals) format.Text,
+    )
+    -- and a function may be named beside it
+    ∷ (
+      codes "verify" ∷ codes "--int=16" ∷ codes "--function=f" ∷ codes "p" ∷ [],
+      Verify (codes "p") (analysis_of (record (source_by (codes "p") Bits16) { function = Some (codes "f") }) Intervals) format.Text,
+    )
+    ∷ []
+
+-- words that ask for nothing: the number is given twice, or there is none, or another one, or no number, or the command has no function
+abbrev pub integer_refusals : List (List Text)
+integer_refusals = (codes "solve" ∷ codes "p" ∷ codes "--int=8" ∷ codes "--int=8" ∷ [])
+    ∷ (codes "solve" ∷ codes "p" ∷ codes "--int" ∷ [])
+    ∷ (codes "certify" ∷ codes "p" ∷ codes "--int=" ∷ [])
+    ∷ (codes "check" ∷ codes "p" ∷ codes "--int=64" ∷ codes "c" ∷ [])
+    ∷ (codes "prove" ∷ codes "p" ∷ codes "c" ∷ codes "--int=9" ∷ [])
+    ∷ (codes "verify" ∷ codes "p" ∷ codes "--int=+8" ∷ [])
+    ∷ (codes "transitions" ∷ codes "p" ∷ codes "--int=8" ∷ [])
     ∷ []
 
 -- the commands that have an option of this name, in the order of the command line

@@ -1,10 +1,14 @@
 -- What the value of an option means.
-use Rattle.std.specs.Prelude.{◌&&◌, ℕ, List, [], ◌∷◌, length, find, Option, Some, None, if◌then◌else◌, nat_le, nat_lt, codes, option_map}
+use Rattle.std.specs.Prelude.{◌&&◌, ◌==◌, ℕ, List, [], ◌∷◌, length, find, Option, Some, None, if◌then◌else◌, nat_le, nat_lt, codes}
+use Rattle.std.specs.Prelude.{option_and_then, option_map}
 use Rattle.std.specs.Char.{is_ascii_digit}
 use Rattle.std.specs.List.{list_all}
 use Rattle.std.specs.Str.{bytes_eq}
 use Rattle.std.specs.Str.Parse.{digits_value}
 use Rattle.clap.specs.Words.{Text}
+use Rattle.base_integers.specs.declared.integers.Integers.{Integers}
+use Rattle.base_integers.specs.declared.integers.Integers.TheVariants.{Mathematical, Machine}
+use Rattle.base_integers.specs.declared.integers.Width.TheVariants.{Bits8, Bits16, Bits32}
 use Rattle.ask_words.specs.declared.format.Format.{Format}
 use Rattle.ask_words.specs.declared.format.Format.TheVariants as format
 use Rattle.ask_words.specs.declared.request.Policy.{Policy}
@@ -18,6 +22,17 @@ number_in least most text =
     if nat_lt 0 (length text) && (nat_le (length text) 10 && (list_all is_ascii_digit text
     && (nat_le least (digits_value 10 text) && nat_le (digits_value 10 text) most)))
     then Some (digits_value 10 text) else None
+
+-- the integers of a machine that have so many bits
+abbrev pub machine_in : (bits : ℕ) → Option Integers
+machine_in bits =
+    if bits == 8 then Some (Machine Bits8)
+    else (if bits == 16 then Some (Machine Bits16) else (if bits == 32 then Some (Machine Bits32) else None))
+
+-- the integers of a machine, where the number of their bits is given, and else the mathematical ones
+abbrev pub integers_in : (bits : Option Text) → Option Integers
+integers_in None = Some Mathematical
+integers_in (Some word) = option_and_then machine_in (number_in 8 32 word)
 
 -- what a word stands for in a table
 abbrev pub meaning_in : {A : Type 0} → List (Text × A) → Text → Option A

@@ -51,7 +51,8 @@ fn program_command<'a>(alloc: Global, name: &'a str) -> Result<Command<'a>, Allo
     ensures app { IfOk result (λ command. app_of command ≡ program_app name.entry.now) }
     ensures local { IfOk result (λ command. (out-Command command).has_globals ≡ false) }
 {
-    Ok(analysis_command(alloc, name)?.arg(option(alloc, "function"))?)
+    let function = analysis_command(alloc, name)?.arg(option(alloc, "function"))?;
+    Ok(function.arg(option(alloc, "int"))?)
 }
 
 fn transitions_command<'a>(alloc: Global) -> Result<Command<'a>, AllocError>
@@ -81,7 +82,8 @@ fn check_command<'a>(alloc: Global) -> Result<Command<'a>, AllocError>
     let program = Command::new(alloc, "check").arg(word(alloc, "program"))?;
     let certificate = program.arg(word(alloc, "certificate"))?;
     let function = certificate.arg(option(alloc, "function"))?;
-    Ok(function.arg(option(alloc, "format"))?)
+    let integers = function.arg(option(alloc, "int"))?;
+    Ok(integers.arg(option(alloc, "format"))?)
 }
 
 fn bench_command<'a>(alloc: Global) -> Result<Command<'a>, AllocError>

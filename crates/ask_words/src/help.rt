@@ -54,7 +54,7 @@ never exceeds there.
 
 usage: tmpl solve PROGRAM
          [--domain D] [--rows FILE] [--improvements N] [--policy P]
-         [--format F] [--progress] [--function NAME]
+         [--format F] [--progress] [--function NAME] [--int N]
 
   PROGRAM           a C file
   --domain D        the rows: intervals if absent, zones, octagons or rows
@@ -63,6 +63,8 @@ usage: tmpl solve PROGRAM
   --policy P        which edge a round picks: best if absent, or first
   --progress        tells rounds, turns and pivots on standard error
   --function NAME   the function asked about; main, or the only one, if absent
+  --int N           integers of N bits (8, 16 or 32), each operation checked
+                    for overflow; mathematical integers if absent
   --format F        how it is written: text if absent, or json
 
 example: tmpl solve examples/sum.c --domain octagons
@@ -78,7 +80,7 @@ and why nothing smaller would do. Another program, or check, can follow it.
 
 usage: tmpl certify PROGRAM
          [--domain D] [--rows FILE] [--improvements N] [--policy P]
-         [--progress] [--function NAME]
+         [--progress] [--function NAME] [--int N]
 
   PROGRAM           a C file
   --domain D        the rows: intervals if absent, zones, octagons or rows
@@ -87,6 +89,8 @@ usage: tmpl certify PROGRAM
   --policy P        which edge a round picks: best if absent, or first
   --progress        tells rounds, turns and pivots on standard error
   --function NAME   the function asked about; main, or the only one, if absent
+  --int N           integers of N bits (8, 16 or 32), each operation checked
+                    for overflow; mathematical integers if absent
 
 example: tmpl certify examples/sum.c --domain octagons > sum.cert
 
@@ -99,11 +103,13 @@ const CHECK: &[u8] = b"Checks a certificate, whoever made it, and prints the bou
 valid: they are the least bounds of the program over the certificate's rows.
 
 usage: tmpl check PROGRAM CERT
-         [--format F] [--function NAME]
+         [--format F] [--function NAME] [--int N]
 
   PROGRAM          a C file
   CERT             a certificate, as certify writes it
   --function NAME  the function asked about; main, or the only one, if absent
+  --int N          integers of N bits (8, 16 or 32), each operation checked
+                   for overflow; mathematical integers if absent
   --format F       how it is written: text if absent, or json
 
 example: tmpl check examples/sum.c sum.cert
@@ -144,7 +150,7 @@ program prove it, with a state that they allow where it is open.
 
 usage: tmpl prove PROGRAM CLAIMS
          [--domain D] [--rows FILE] [--improvements N] [--policy P]
-         [--format F] [--progress] [--function NAME]
+         [--format F] [--progress] [--function NAME] [--int N]
 
   PROGRAM           a C file
   CLAIMS            a file of claims, as LABEL: x <= 10;
@@ -154,6 +160,8 @@ usage: tmpl prove PROGRAM CLAIMS
   --policy P        which edge a round picks: best if absent, or first
   --progress        tells rounds, turns and pivots on standard error
   --function NAME   the function asked about; main, or the only one, if absent
+  --int N           integers of N bits (8, 16 or 32), each operation checked
+                    for overflow; mathematical integers if absent
   --format F        how it is written: text if absent, or json
 
 example: tmpl prove examples/pair.c examples/pair.claims
@@ -222,7 +230,7 @@ state that they allow where it is open.
 
 usage: tmpl verify PROGRAM
          [--domain D] [--rows FILE] [--improvements N] [--policy P]
-         [--format F] [--progress] [--function NAME]
+         [--format F] [--progress] [--function NAME] [--int N]
 
   PROGRAM           a C file
   --domain D        the rows: intervals if absent, zones, octagons or rows
@@ -231,6 +239,8 @@ usage: tmpl verify PROGRAM
   --policy P        which edge a round picks: best if absent, or first
   --progress        tells rounds, turns and pivots on standard error
   --function NAME   the function asked about; main, or the only one, if absent
+  --int N           integers of N bits (8, 16 or 32), each operation checked
+                    for overflow; mathematical integers if absent
   --format F        how it is written: text if absent, json or sarif
 
 example: tmpl verify examples/assertions.c --domain octagons
@@ -325,5 +335,5 @@ pub fn usage_line() -> &'static [u8]
       | equations FILE [--improvements N] [--policy P] | points PROGRAM | verify PROGRAM (the options of solve) \
       | solve, check, transitions, equations, prove, verify: [--format F] \
       | solve, certify, prove, verify, transitions, equations: [--progress] | help [COMMAND] | functions PROGRAM \
-      | solve, certify, check, prove, verify: [--function NAME]\n"
+      | solve, certify, check, prove, verify: [--function NAME] [--int N]\n"
 }

@@ -2,11 +2,12 @@
 
 ghost use Rattle.std.specs.Prelude.{◌≡◌, ◌≢◌, ◌++◌, ℕ, List, [], ◌∷◌, None, Some, codes, map, true, false};
 ghost use Rattle.clap.specs.Simple.{Shape};
-ghost use Rattle.clap.specs.Words.{Text};
+ghost use Rattle.clap.specs.Words.{Row, Text, first_of};
+ghost use Rattle.base_integers.specs.declared.integers.Integers.TheVariants.{Mathematical};
 ghost use Rattle.ask_words.specs.Help.{head_of, help_text, is_screen, options_of, stands_in, topics};
 ghost use Rattle.ask_words.specs.Laws.{SolveReports};
-ghost use Rattle.ask_words.specs.Request.{commands_with, examples, function_examples, function_refusals, plain_analysis, request_of};
-ghost use Rattle.ask_words.specs.Request.{tmpl_app, wants_progress};
+ghost use Rattle.ask_words.specs.Request.{commands_with, examples, function_examples, function_refusals, integer_examples};
+ghost use Rattle.ask_words.specs.Request.{integer_refusals, plain_analysis, request_of, source_in, tmpl_app, wants_progress};
 ghost use Rattle.ask_words.specs.declared.format.Format.TheVariants as Format;
 ghost use Rattle.ask_words.specs.declared.help.Topic.{Topic};
 ghost use Rattle.ask_words.specs.declared.help.Topic.TheVariants as page;
@@ -14,6 +15,7 @@ ghost use Rattle.ask_words.specs.declared.request.Domain.TheVariants.{Intervals,
 ghost use Rattle.ask_words.specs.declared.request.Purpose.TheVariants.{Report};
 ghost use Rattle.ask_words.specs.declared.request.Request.{Request};
 ghost use Rattle.ask_words.specs.declared.request.Request.TheVariants.{Analyse};
+ghost use Rattle.ask_words.specs.declared.request.Source.{Source};
 
 /// Nothing happens here: the clauses are the laws.
 pub fn request_laws()
@@ -75,6 +77,23 @@ pub fn function_laws()
 
     // It isn't given twice, nor without a name, nor to a command that doesn't have it.
     ensures refused { map (λ (words : List Text). request_of words) function_refusals ≡ map (λ words. None) function_refusals }
+{}
+
+/// What is so of `--int`.
+pub fn integer_laws()
+    // It says how many bits the integers have by which a program computes that is solved, checked, proved or verified.
+    ensures given { map (λ (line : List Text × Request Text). request_of line.0) integer_examples
+        ≡ map (λ line. Some line.1) integer_examples }
+
+    // Where it isn't among the words of a command, integers are mathematical.
+    ensures absent { (given : List Row) (source : Source Text) → first_of (codes "int") given ≡ None
+        → source_in given ≡ Some source → source.integers ≡ Mathematical }
+
+    // No other command has it: those that have `--function` do.
+    ensures commands { commands_with (codes "int") ≡ commands_with (codes "function") }
+
+    // It isn't given twice, nor without a number, nor with another one, nor to a command that doesn't have it.
+    ensures refused { map (λ (words : List Text). request_of words) integer_refusals ≡ map (λ words. None) integer_refusals }
 {}
 
 /// What is so of the pages of `help`.

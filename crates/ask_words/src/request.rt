@@ -10,7 +10,8 @@ ghost use Rattle.ask_words.specs.Values.{check_formats, formats};
 
 use crate::format::Format;
 use crate::help::{Topic, topic_of};
-use crate::values::{check_format, domain, number, plain_format, policy};
+use crate::values::{check_format, domain, integers, number, plain_format, policy};
+use base_integers::Integers;
 use base_limits::MOST_IMPROVEMENTS;
 use clap::ArgMatches;
 
@@ -32,13 +33,15 @@ pub enum Domain<T> {
     Rows(T),
 }
 
-/// A program, which is a function of a C file; or a transition system, where no function is named.
+/// A program, which is a function of a C file; or a transition system, where no function is named and integers are mathematical.
 #[derive(Clone, Copy, Debug, PartialEq, Eq)]
 pub struct Source<T> {
     /// The name of its file, or its text.
     pub text: T,
     /// The name of the function that is asked about, if one is named.
     pub function: Option<T>,
+    /// The integers by which it computes.
+    pub integers: Integers,
 }
 
 /// A program or a transition system, and how it is solved.
@@ -208,14 +211,16 @@ fn certify<'a>(given: &ArgMatches<'a>) -> Option<Request<&'a str>>
     })
 }
 
-// The program, and the function that is asked about.
+// The program, the function that is asked about, and the integers by which it computes.
 fn source_in<'a>(given: &ArgMatches<'a>) -> Option<Source<&'a str>>
     ensures { option_map source_text result ≡ source_in (rows_of (found_of given.now)) }
 {
     let text = value(given, "program")?;
+    let integers = integers(value(given, "int"))?;
     Some(Source {
         text,
         function: value(given, "function"),
+        integers,
     })
 }
 

@@ -4,10 +4,12 @@ ghost use Rattle.std.specs.Prelude.{◌≡◌, codes, option_map};
 ghost use Rattle.std.specs.List.{list_all};
 ghost use Rattle.std.specs.Char.{is_ascii_digit};
 ghost use Rattle.ask_words.specs.Request.{domain_text};
-ghost use Rattle.ask_words.specs.Values.{built_in_domains, check_formats, domain_in, formats, meaning_in, number_in, policies};
+ghost use Rattle.ask_words.specs.Values.{built_in_domains, check_formats, domain_in, formats, integers_in, machine_in, meaning_in};
+ghost use Rattle.ask_words.specs.Values.{number_in, policies};
 
 use crate::format::Format;
 use crate::request::{Domain, Policy};
+use base_integers::{Integers, Width};
 
 /// The number of one to ten decimal digits, where it lies between `least` and `most`.
 pub(crate) fn number(text: &str, least: u32, most: u32) -> Option<u32>
@@ -33,6 +35,28 @@ fn is_digits(text: &str) -> bool
     ensures { result ≡ list_all is_ascii_digit text.now }
 {
     text.as_bytes().iter().all(|b| b.is_ascii_digit())
+}
+
+/// The integers of a machine that have so many bits, or the mathematical ones, where no number is given.
+pub(crate) fn integers(bits: Option<&str>) -> Option<Integers>
+    ensures { result ≡ integers_in (option_map (λ text. text.now) bits.entry) }
+{
+    match bits {
+        Some(text) => machine(number(text, 8, 32)?),
+        None => Some(Integers::Mathematical),
+    }
+}
+
+// Those of a machine, of so many bits.
+fn machine(bits: u32) -> Option<Integers>
+    ensures { result ≡ machine_in bits }
+{
+    match bits {
+        8 => Some(Integers::Machine(Width::Bits8)),
+        16 => Some(Integers::Machine(Width::Bits16)),
+        32 => Some(Integers::Machine(Width::Bits32)),
+        _ => None,
+    }
 }
 
 /// The policy of this name.

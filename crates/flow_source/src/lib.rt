@@ -3,4 +3,4 @@
 
 mod laws;
 
-pub use laws::{bounds_hold_by_c, checks_hold_by_c};
+pub use laws::{bounds_hold_by_c, checks_hold_by_c, runs_are_by_all};

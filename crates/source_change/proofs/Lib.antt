@@ -1,7 +1,6 @@
 pub mod results
 pub mod limited
 pub mod lists
-pub mod values
 pub mod changed
 pub mod loops
 pub mod spelled

@@ -15,6 +15,7 @@ use Rattle.source_core.specs.Core.{change_deeds}
 use Rattle.source_change.specs.declared.deeds.Changed.{Changed}
 use Rattle.source_change.specs.declared.deeds.Changed.TheVariants as changed
 use Rattle.source_change.specs.declared.places.Target.{Target}
+use Rattle.base_integers.specs.declared.integers.Integers.{Integers}
 
 -- a place with its name resolved: a variable, or an element of an array
 pub data Aim : Type 0 where
@@ -32,28 +33,28 @@ var_of (a_variable i a) = Some i
 var_of (an_element e) = None
 
 -- over n variables, in this line
-module _ (n line : ℕ) where
+module _ (integers : Integers) (n line : ℕ) where
   -- the code has this change
   abbrev pub StandsChange : Changed → Change → Type 0
-  StandsChange (changed.Sets var value) (sets i e k) = (var ≡ i) × (k ≡ line) × Stands n value (elaborated line e n)
+  StandsChange (changed.Sets var value) (sets i e k) = (var ≡ i) × (k ≡ line) × Stands n value (elaborated integers line e n)
   StandsChange (changed.Sets var value) (evaluates es k) = ⊥
   StandsChange (changed.Evaluates all) (sets i e k) = ⊥
-  StandsChange (changed.Evaluates all) (evaluates es k) = (k ≡ line) × StandsEvaluated n all (evaluated line es n)
+  StandsChange (changed.Evaluates all) (evaluates es k) = (k ≡ line) × StandsEvaluated n all (evaluated integers line es n)
 
   -- the code has this place
   pub record StandsTarget (t : Target) (a : Aim) : Type 0 where
-    pub old : Stands n t.old (elaborated line (old_of a) n)
+    pub old : Stands n t.old (elaborated integers line (old_of a) n)
     pub var : t.var ≡ var_of a
 
   -- what the place is that this name at this place, with this index, stands for
   abbrev pub aim : State → List ℕ → (at : ℕ) → Index → Result Aim FunctionFault
   aim st x a no_index = variable_of x a st >>= λ i. Ok (a_variable i a)
-  aim st x a (index b e c) = read_element n line st x a b e >>= λ old. Ok (an_element old)
+  aim st x a (index b e c) = read_element integers n line st x a b e >>= λ old. Ok (an_element old)
 
   -- what is done to a place
   abbrev pub done_to : State → Aim → Effect → Result Change FunctionFault
-  done_to st (a_variable i a) f = affected n line st i a f
-  done_to st (an_element old) f = evaluated_by n line st old f
+  done_to st (a_variable i a) f = affected integers n line st i a f
+  done_to st (an_element old) f = evaluated_by integers n line st old f
 
 -- a place takes a value; an element is only evaluated
 abbrev pub change_to : Aim → Expression → (line : ℕ) → Change
@@ -70,8 +71,9 @@ joined_by g.divides = Some over
 joined_by g.remains = Some remainder
 
 -- a change within its limits, which counts as statements
-abbrev pub counted_change : (n line at : ℕ) → State → Change → Result (State × Change) FunctionFault
-counted_change n line at st g = few n line at g g >>= λ g. counted at (length (change_deeds n g)) st >>= λ st. Ok (st, g)
+abbrev pub counted_change : (integers : Integers) (n line at : ℕ) → State → Change → Result (State × Change) FunctionFault
+counted_change integers n line at st g = few integers n line at g g >>= λ g. counted at (length
+    (change_deeds integers n g)) st >>= λ st. Ok (st, g)
 
 -- the operation of a step
 abbrev pub step_by : g.Direction → Operation

@@ -1,5 +1,5 @@
 -- How what is read is spelled before other tokens. (proofs/spelled/Changes.antt: it is the spelling of the grammar with them behind it.)
-use Rattle.std.specs.Prelude.{List, [], ◌∷◌, ◌++◌}
+use Rattle.std.specs.Prelude.{List, ◌∷◌, ◌++◌}
 use Rattle.source_grammar.specs.Tokens.{replaces, a_name, a_number, left_bracket, right_bracket, comma, change_sign, step_sign, Token}
 use Rattle.source_grammar.specs.Tokens.{token}
 use Rattle.source_grammar.specs.Grammar.{spell_expr, Index, no_index, index, Place, place, Effect, assigns, steps, Update, update}

@@ -11,6 +11,7 @@ use Rattle.source_meaning.specs.Names.{State}
 use Rattle.source_reader.specs.Reading.{Reading, at_tokens}
 use Rattle.source_change.specs.declared.conditions.Test.{Test}
 use Rattle.source_change.specs.declared.names.Named.{Named}
+use Rattle.base_integers.specs.declared.integers.Integers.{Integers}
 
 -- the code has this condition behind its prelude
 pub record IsTest (t : Test) (u : core.Tested) : Type 0 where
@@ -19,28 +20,30 @@ pub record IsTest (t : Test) (u : core.Tested) : Type 0 where
 
 -- Statements over n variables were read, up to these tokens: what was met of names is known, and the core's statements stand behind those
 -- that were there.
-pub record WasRead (n : ℕ) (rest : List Token) (old new : Reading) (met : State) (before after : List Stmt)
+pub record WasRead (integers : Integers) (n : ℕ) (rest : List Token) (old new : Reading) (met : State) (before after : List Stmt)
     (r : State × Statements) : Type 0 where
   pub known : met ≡ r.0
-  pub out : statements_of after ≡ followed_by (statements_of before) (core_in n r.1)
+  pub out : statements_of after ≡ followed_by (statements_of before) (core_in integers n r.1)
   pub reader : new ≡ at_tokens old rest
 
 -- A change over n variables was read, up to these tokens: what was met of names is known, and the code has its deeds.
-pub record WasChanged (n : ℕ) (rest : List Token) (old new : Reading) (met : State) (list : List Deed) (r : State × Change) : Type 0 where
+pub record WasChanged (integers : Integers) (n : ℕ) (rest : List Token) (old new : Reading) (met : State) (list : List Deed) (r : State
+    × Change) : Type 0 where
   pub known : met ≡ r.0
-  pub deeds : deeds_of list ≡ change_deeds n r.1
+  pub deeds : deeds_of list ≡ change_deeds integers n r.1
   pub reader : new ≡ at_tokens old rest
 
 -- So were changes in order; their deeds stand behind others.
-pub record WereChanged (n : ℕ) (rest : List Token) (old new : Reading) (met : State) (before after : List Deed) (r : State × List Change) :
+pub record WereChanged (integers : Integers) (n : ℕ) (rest : List Token) (old new : Reading) (met : State) (before after : List Deed)
+    (r : State × List Change) :
     Type 0 where
   pub known : met ≡ r.0
-  pub deeds : deeds_of after ≡ deeds_of before ++ changes_deeds n r.1
+  pub deeds : deeds_of after ≡ deeds_of before ++ changes_deeds integers n r.1
   pub reader : new ≡ at_tokens old rest
 
 -- a change was counted
-abbrev pub WasCounted : (n : ℕ) (known : State) (deeds : List Deed) → State × Change → Type 0
-WasCounted n known deeds r = (known ≡ r.0) × (deeds_of deeds ≡ change_deeds n r.1)
+abbrev pub WasCounted : (integers : Integers) (n : ℕ) (known : State) (deeds : List Deed) → State × Change → Type 0
+WasCounted integers n known deeds r = (known ≡ r.0) × (deeds_of deeds ≡ change_deeds integers n r.1)
 
 -- a name was taken with its place
 abbrev pub WasTaken : (rest : List Token) (old new : Reading) → Named → List ℕ × ℕ → Type 0

@@ -29,8 +29,9 @@ use source_reader::{Reader, Stop};
 pub fn update_of(reader: &mut Reader, known: &mut Known, first: &Named) -> Result<Vec<Deed>, Stop>
     ensures reads { (i : Index) (f : Effect) (rest : List Token) → GoodIndex i → GoodEffect f
         → reader.old.ahead ≡ onto_index i (onto_effect f rest) → AfterPart (first_kind rest)
-        → Answers (λ deeds r. WasChanged reader.old.variables rest reader.old reader.new known.new deeds.items r) result
-        (read_update (line_at reader.old.text) reader.old.variables known.old (update (place first.now.name first.now.at i) f)) }
+        → Answers (λ deeds r. WasChanged reader.old.integers reader.old.variables rest reader.old reader.new known.new deeds.items r) result
+        (read_update reader.old.integers (line_at reader.old.text) reader.old.variables known.old
+        (update (place first.now.name first.now.at i) f)) }
     ensures shorter { OnOk result (length reader.new.ahead ≤ length reader.old.ahead) }
 {
     let site = reader.site(first.at);
@@ -47,8 +48,9 @@ fn step_before(
     at: u32,
 ) -> Result<Vec<Deed>, Stop>
     ensures reads { (p : Place) (rest : List Token) → GoodPlace p → reader.old.ahead ≡ onto_place p rest → AfterPart (first_kind rest)
-        → Answers (λ deeds r. WasChanged reader.old.variables rest reader.old reader.new known.new deeds.items r) result
-        (read_update (line_at reader.old.text) reader.old.variables known.old (step_before (direction_of direction) at p)) }
+        → Answers (λ deeds r. WasChanged reader.old.integers reader.old.variables rest reader.old reader.new known.new deeds.items r) result
+        (read_update reader.old.integers (line_at reader.old.text) reader.old.variables known.old
+        (step_before (direction_of direction) at p)) }
     ensures shorter { OnOk result (length reader.new.ahead ≤ length reader.old.ahead) }
 {
     let site = reader.site(at);
@@ -61,8 +63,8 @@ fn step_before(
 /// The change that comes next, as deeds, which count as statements (docs/MEANING.md, "Functions of C").
 pub fn update(reader: &mut Reader, known: &mut Known) -> Result<Vec<Deed>, Stop>
     ensures reads { (u : Update) (rest : List Token) → GoodUpdate u → reader.old.ahead ≡ onto_update u rest → AfterPart (first_kind rest)
-        → Answers (λ deeds r. WasChanged reader.old.variables rest reader.old reader.new known.new deeds.items r) result (read_update
-        (line_at reader.old.text) reader.old.variables known.old u) }
+        → Answers (λ deeds r. WasChanged reader.old.integers reader.old.variables rest reader.old reader.new known.new deeds.items r)
+        result (read_update reader.old.integers (line_at reader.old.text) reader.old.variables known.old u) }
     ensures shorter { OnOk result (length reader.new.ahead < length reader.old.ahead) }
 {
     match step(reader) {
@@ -82,8 +84,9 @@ pub fn update(reader: &mut Reader, known: &mut Known) -> Result<Vec<Deed>, Stop>
 fn more_updates(reader: &mut Reader, known: &mut Known, deeds: &mut Vec<Deed>) -> Result<(), Stop>
     ensures reads { (us : MoreUpdates) (rest : List Token) → GoodMoreUpdates us → reader.old.ahead ≡ onto_more_updates us rest
         → AfterList (first_kind rest)
-        → Answers (λ _ r. WereChanged reader.old.variables rest reader.old reader.new known.new deeds.old.items deeds.new.items r) result
-        (read_more_updates (line_at reader.old.text) reader.old.variables known.old us) }
+        → Answers (λ _ r. WereChanged reader.old.integers reader.old.variables rest reader.old reader.new
+        known.new deeds.old.items deeds.new.items r) result
+        (read_more_updates reader.old.integers (line_at reader.old.text) reader.old.variables known.old us) }
     ensures shorter { OnOk result (length reader.new.ahead ≤ length reader.old.ahead) }
 {
     'changes: while has_comma(reader) {
@@ -98,8 +101,9 @@ fn more_updates(reader: &mut Reader, known: &mut Known, deeds: &mut Vec<Deed>) -
 pub fn updates(reader: &mut Reader, known: &mut Known) -> Result<Vec<Deed>, Stop>
     ensures reads { (us : Updates) (rest : List Token) → GoodUpdates us → reader.old.ahead ≡ onto_updates us rest
         → AfterList (first_kind rest)
-        → Answers (λ deeds r. WereChanged reader.old.variables rest reader.old reader.new known.new [] deeds.items r) result
-        (read_updates (line_at reader.old.text) reader.old.variables known.old us) }
+        → Answers (λ deeds r. WereChanged reader.old.integers reader.old.variables rest reader.old reader.new
+        known.new [] deeds.items r) result
+        (read_updates reader.old.integers (line_at reader.old.text) reader.old.variables known.old us) }
     ensures shorter { OnOk result (length reader.new.ahead ≤ length reader.old.ahead) }
 {
     if !has_change(reader) {

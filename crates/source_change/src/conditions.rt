@@ -27,9 +27,9 @@ pub struct Test {
 /// The condition of the statement that begins at `at`, within its limits (docs/FORMATS.md, "Functions").
 pub fn read_test(reader: &mut Reader, known: &Known, at: u32) -> Result<Test, Stop>
     ensures reads { (e : Expr) (rest : List Token) → Groups 0 e → reader.old.ahead ≡ spell_expr e ++ rest → AfterExpr (first_kind rest)
-        → Answers (λ t x. IsTest t (condition_of reader.old.variables (line_at reader.old.text at) x)
+        → Answers (λ t x. IsTest t (condition_of reader.old.integers reader.old.variables (line_at reader.old.text at) x)
         × (reader.new ≡ at_tokens reader.old rest)) result
-        (read_condition (line_at reader.old.text) reader.old.variables known.now at e) }
+        (read_condition reader.old.integers (line_at reader.old.text) reader.old.variables known.now at e) }
     ensures shorter { OnOk result (length reader.new.ahead ≤ length reader.old.ahead) }
 {
     let site = reader.site(at);
@@ -41,9 +41,9 @@ pub fn read_test(reader: &mut Reader, known: &Known, at: u32) -> Result<Test, St
 pub fn parenthesised(reader: &mut Reader, known: &Known, at: u32) -> Result<Test, Stop>
     ensures reads { (b : ℕ) (e : Expr) (c : ℕ) (rest : List Token) → Groups 0 e
         → reader.old.ahead ≡ token left_paren b ∷ (spell_expr e ++ token right_paren c ∷ rest)
-        → Answers (λ t x. IsTest t (condition_of reader.old.variables (line_at reader.old.text at) x)
+        → Answers (λ t x. IsTest t (condition_of reader.old.integers reader.old.variables (line_at reader.old.text at) x)
         × (reader.new ≡ at_tokens reader.old rest)) result
-        (read_condition (line_at reader.old.text) reader.old.variables known.now at e) }
+        (read_condition reader.old.integers (line_at reader.old.text) reader.old.variables known.now at e) }
     ensures shorter { OnOk result (length reader.new.ahead < length reader.old.ahead) }
 {
     reader.take(Mark::LeftParen)?;

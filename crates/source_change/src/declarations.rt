@@ -20,19 +20,25 @@ use lang_tree::Stmt;
 use source_expression::expression;
 use source_names::Known;
 use source_reader::{Mark, Reader, Stop};
+use source_value::declared;
 
-// A name that is declared without a value.
-fn bare(reader: &Reader, known: &mut Known, first: &Named, out: &mut Vec<Stmt>) -> Result<(), Stop>
-    ensures { Answers (λ _ r. WasRead reader.now.variables reader.now.ahead reader.now reader.now known.new out.old.items out.new.items r)
-        result (read_declarator (line_at reader.now.text) reader.now.variables known.old (declarator first.now.name first.now.at bare)) }
+/// A name that is declared without a value, or a parameter: the variable takes any of the integers.
+pub fn bare(
+    reader: &Reader,
+    known: &mut Known,
+    first: &Named,
+    out: &mut Vec<Stmt>,
+) -> Result<(), Stop>
+    ensures { Answers (λ _ r. WasRead reader.now.integers reader.now.variables reader.now.ahead reader.now reader.now
+        known.new out.old.items out.new.items r)
+        result (read_declarator reader.now.integers (line_at reader.now.text) reader.now.variables known.old
+        (declarator first.now.name first.now.at bare)) }
 {
     let var = known.variables();
     known.add_variable(&first.name, first.at)?;
-    known.count(first.at, 1)?;
-    out.push(Stmt::Havoc {
-        var,
-        line: reader.line(first.at),
-    })?;
+    let deeds = declared(reader.alloc(), reader.site(first.at), var)?;
+    known.count(first.at, deeds.len())?;
+    push_deeds(out, deeds)?;
     Ok(())
 }
 
@@ -46,9 +52,10 @@ fn given(
     ensures reads { (b : ℕ) (e : Expr) (rest : List Token) → Groups 0 e → reader.old.ahead ≡ token (change_sign replaces) b ∷
         (spell_expr e ++ rest)
         → AfterPart (first_kind rest)
-        → Answers (λ _ r. WasRead reader.old.variables rest reader.old reader.new known.new out.old.items out.new.items r)
-        result (read_declarator (line_at reader.old.text) reader.old.variables known.old (declarator first.now.name first.now.at
-        (given b e))) }
+        → Answers (λ _ r. WasRead reader.old.integers reader.old.variables rest reader.old reader.new
+        known.new out.old.items out.new.items r)
+        result (read_declarator reader.old.integers (line_at reader.old.text) reader.old.variables known.old
+        (declarator first.now.name first.now.at (given b e))) }
     ensures shorter { OnOk result (length reader.new.ahead ≤ length reader.old.ahead) }
 {
     reader.skip();
@@ -65,9 +72,10 @@ fn given(
 // The brackets of an array that is declared.
 fn sized(reader: &mut Reader, known: &mut Known, first: &Named) -> Result<(), Stop>
     ensures reads { (b size c d : ℕ) (rest : List Token) → reader.old.ahead ≡ onto_initialiser (sized b size c d) rest
-        → (out : List Stmt) → Answers (λ _ r. WasRead reader.old.variables rest reader.old reader.new known.new out out r)
-        result (read_declarator (line_at reader.old.text) reader.old.variables known.old (declarator first.now.name first.now.at
-        (sized b size c d))) }
+        → (out : List Stmt) → Answers (λ _ r. WasRead reader.old.integers reader.old.variables rest reader.old reader.new
+        known.new out out r)
+        result (read_declarator reader.old.integers (line_at reader.old.text) reader.old.variables known.old
+        (declarator first.now.name first.now.at (sized b size c d))) }
     ensures shorter { OnOk result (length reader.new.ahead ≤ length reader.old.ahead) }
 {
     reader.take(Mark::LeftBracket)?;
@@ -88,8 +96,10 @@ fn initialiser(
 ) -> Result<(), Stop>
     ensures reads { (i : Initialiser) (rest : List Token) → GoodInitialiser i → reader.old.ahead ≡ onto_initialiser i rest
         → AfterPart (first_kind rest)
-        → Answers (λ _ r. WasRead reader.old.variables rest reader.old reader.new known.new out.old.items out.new.items r)
-        result (read_declarator (line_at reader.old.text) reader.old.variables known.old (declarator first.now.name first.now.at i)) }
+        → Answers (λ _ r. WasRead reader.old.integers reader.old.variables rest reader.old reader.new
+        known.new out.old.items out.new.items r)
+        result (read_declarator reader.old.integers (line_at reader.old.text) reader.old.variables known.old
+        (declarator first.now.name first.now.at i)) }
     ensures shorter { OnOk result (length reader.new.ahead ≤ length reader.old.ahead) }
 {
     match coming(reader) {
@@ -103,8 +113,9 @@ fn initialiser(
 fn declarator(reader: &mut Reader, known: &mut Known, out: &mut Vec<Stmt>) -> Result<(), Stop>
     ensures reads { (x : Declarator) (rest : List Token) → GoodDeclarator x → reader.old.ahead ≡ onto_declarator x rest
         → AfterPart (first_kind rest)
-        → Answers (λ _ r. WasRead reader.old.variables rest reader.old reader.new known.new out.old.items out.new.items r)
-        result (read_declarator (line_at reader.old.text) reader.old.variables known.old x) }
+        → Answers (λ _ r. WasRead reader.old.integers reader.old.variables rest reader.old reader.new
+        known.new out.old.items out.new.items r)
+        result (read_declarator reader.old.integers (line_at reader.old.text) reader.old.variables known.old x) }
     ensures shorter { OnOk result (length reader.new.ahead < length reader.old.ahead) }
 {
     let first = take_name(reader)?;
@@ -115,8 +126,9 @@ fn declarator(reader: &mut Reader, known: &mut Known, out: &mut Vec<Stmt>) -> Re
 fn more_declarators(reader: &mut Reader, known: &mut Known, out: &mut Vec<Stmt>) -> Result<(), Stop>
     ensures reads { (xs : MoreDeclarators) (rest : List Token) → GoodMoreDeclarators xs → reader.old.ahead ≡ onto_more_declarators xs rest
         → AfterList (first_kind rest)
-        → Answers (λ _ r. WasRead reader.old.variables rest reader.old reader.new known.new out.old.items out.new.items r)
-        result (read_more_declarators (line_at reader.old.text) reader.old.variables known.old xs) }
+        → Answers (λ _ r. WasRead reader.old.integers reader.old.variables rest reader.old reader.new
+        known.new out.old.items out.new.items r)
+        result (read_more_declarators reader.old.integers (line_at reader.old.text) reader.old.variables known.old xs) }
     ensures shorter { OnOk result (length reader.new.ahead ≤ length reader.old.ahead) }
 {
     'names: while has_comma(reader) {
@@ -131,8 +143,9 @@ fn more_declarators(reader: &mut Reader, known: &mut Known, out: &mut Vec<Stmt>)
 pub fn declarators(reader: &mut Reader, known: &mut Known, out: &mut Vec<Stmt>) -> Result<(), Stop>
     ensures reads { (xs : Declarators) (rest : List Token) → GoodDeclarators xs → reader.old.ahead ≡ onto_declarators xs rest
         → AfterList (first_kind rest)
-        → Answers (λ _ r. WasRead reader.old.variables rest reader.old reader.new known.new out.old.items out.new.items r)
-        result (read_declarators (line_at reader.old.text) reader.old.variables known.old xs) }
+        → Answers (λ _ r. WasRead reader.old.integers reader.old.variables rest reader.old reader.new
+        known.new out.old.items out.new.items r)
+        result (read_declarators reader.old.integers (line_at reader.old.text) reader.old.variables known.old xs) }
     ensures shorter { OnOk result (length reader.new.ahead < length reader.old.ahead) }
 {
     declarator(reader, known, out)?;

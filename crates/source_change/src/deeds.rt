@@ -34,17 +34,16 @@ fn is_any(outcome: &Outcome) -> bool
 
 // The variable takes the value: any without a hidden variable.
 fn sets(alloc: Global, site: Site, at: u32, var: u32, value: Value) -> Result<Vec<Deed>, Stop>
-    ensures { (e : Expression) → Stands site.variables value (elaborated site.line e site.variables)
-        → Answers (λ deeds h. deeds_of deeds.items ≡ change_deeds site.variables h) result
-        (few site.variables site.line at (sets var e site.line) (sets var e site.line)) }
+    ensures { (e : Expression) → Stands site.variables value (elaborated site.integers site.line e site.variables)
+        → Answers (λ deeds h. deeds_of deeds.items ≡ change_deeds site.integers site.variables h) result
+        (few site.integers site.variables site.line at (sets var e site.line) (sets var e site.line)) }
 {
     if is_any(&value.result) {
-        let mut deeds = limited_deeds(site, at, value.prelude, value.next)?;
-        deeds.push(Deed::Havoc {
-            var,
-            line: site.line,
-        })?;
-        return Ok(deeds);
+        let before = Evaluated {
+            prelude: value.prelude,
+            next: value.next,
+        };
+        return evaluated(site, at, before.with_any(alloc, site, var)?);
     }
     let number = value.into_number(alloc, site)?;
     let mut deeds = limited_deeds(site, at, number.prelude, number.next)?;
@@ -58,8 +57,9 @@ fn sets(alloc: Global, site: Site, at: u32, var: u32, value: Value) -> Result<Ve
 
 // The change as deeds, within the limits of the statement that begins at `at`.
 fn limited_change(alloc: Global, site: Site, at: u32, changed: Changed) -> Result<Vec<Deed>, Stop>
-    ensures { (g : Tree) → StandsChange site.variables site.line changed g
-        → Answers (λ deeds h. deeds_of deeds.items ≡ change_deeds site.variables h) result (few site.variables site.line at g g) }
+    ensures { (g : Tree) → StandsChange site.integers site.variables site.line changed g
+        → Answers (λ deeds h. deeds_of deeds.items ≡ change_deeds site.integers site.variables h) result
+        (few site.integers site.variables site.line at g g) }
 {
     match changed {
         Changed::Sets { var, value } => sets(alloc, site, at, var, value),
@@ -75,9 +75,9 @@ pub(crate) fn counted_change(
     at: u32,
     changed: Changed,
 ) -> Result<Vec<Deed>, Stop>
-    ensures { (g : Tree) → StandsChange site.variables site.line changed g
-        → Answers (λ deeds r. WasCounted site.variables known.new deeds.items r) result
-        (counted_change site.variables site.line at known.old g) }
+    ensures { (g : Tree) → StandsChange site.integers site.variables site.line changed g
+        → Answers (λ deeds r. WasCounted site.integers site.variables known.new deeds.items r) result
+        (counted_change site.integers site.variables site.line at known.old g) }
 {
     let deeds = limited_change(alloc, site, at, changed)?;
     known.count(at, deeds.len())?;

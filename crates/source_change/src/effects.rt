@@ -3,6 +3,7 @@
 ghost use Rattle.std.specs.Prelude.{◌≡◌, ◌≤◌, ◌++◌, ℕ, List, Some, length, OnOk};
 ghost use Rattle.source_meaning.specs.Names.{State};
 ghost use Rattle.std.specs.Option.{option_map};
+ghost use Rattle.base_integers.specs.declared.integers.Integers.{Integers};
 ghost use Rattle.source_grammar.specs.Symbols.{direction_of, change_of};
 ghost use Rattle.source_grammar.specs.Tokens.{Token};
 ghost use Rattle.source_grammar.specs.Tokens as g;
@@ -54,8 +55,8 @@ fn step_by(direction: Direction) -> Operation
 
 // The place with this variable, if it is one, takes a value: an element is only evaluated.
 fn change_to(var: Option<u32>, value: Value) -> Changed
-    ensures { (n line : ℕ) (a : Aim) (e : Expression) → var ≡ var_of a → Stands n value (elaborated line e n)
-        → StandsChange n line result (change_to a e line) }
+    ensures { (integers : Integers) (n line : ℕ) (a : Aim) (e : Expression) → var ≡ var_of a
+        → Stands n value (elaborated integers line e n) → StandsChange integers n line result (change_to a e line) }
 {
     match var {
         Some(var) => Changed::Sets { var, value },
@@ -74,13 +75,13 @@ pub(crate) fn stepped(
     direction: Direction,
     sign: u32,
 ) -> Result<Changed, Stop>
-    ensures { (a : Aim) (st : State) → StandsTarget site.variables site.line target a
-        → Answers (λ c h. StandsChange site.variables site.line c h) result
-        (done_to site.variables site.line st a (steps (direction_of direction) sign)) }
+    ensures { (a : Aim) (st : State) → StandsTarget site.integers site.variables site.line target a
+        → Answers (λ c h. StandsChange site.integers site.variables site.line c h) result
+        (done_to site.integers site.variables site.line st a (steps (direction_of direction) sign)) }
 {
     let operation = step_by(direction);
     let old = target.old.into_number(alloc, site)?;
-    let one = ranged(Value::number(alloc, site, old.next, 1), sign)?;
+    let one = ranged(Value::number(alloc, site, old.next, 1, sign), sign)?;
     let one = one.into_number(alloc, site)?;
     let value = ranged(operated(alloc, site, operation, sign, old, one), sign)?;
     Ok(change_to(target.var, value))
@@ -88,10 +89,11 @@ pub(crate) fn stepped(
 
 // What stands behind the `=` of an assignment to the place.
 fn replaced(reader: &mut Reader, known: &Known, site: Site, target: Target) -> Result<Changed, Stop>
-    ensures reads { (a : Aim) (sign : ℕ) (e : Expr) (rest : List Token) → StandsTarget site.variables site.line target a → Groups 0 e
+    ensures reads { (a : Aim) (sign : ℕ) (e : Expr) (rest : List Token) → StandsTarget site.integers site.variables site.line target a
+        → Groups 0 e
         → reader.old.ahead ≡ spell_expr e ++ rest → AfterExpr (first_kind rest)
-        → Answers (λ c h. StandsChange site.variables site.line c h × (reader.new ≡ at_tokens reader.old rest)) result
-        (done_to site.variables site.line known.now a (assigns g.replaces sign e)) }
+        → Answers (λ c h. StandsChange site.integers site.variables site.line c h × (reader.new ≡ at_tokens reader.old rest)) result
+        (done_to site.integers site.variables site.line known.now a (assigns g.replaces sign e)) }
     ensures shorter { OnOk result (length reader.new.ahead ≤ length reader.old.ahead) }
 {
     match target.var {
@@ -120,11 +122,12 @@ fn joined(
     operation: Operation,
     sign: u32,
 ) -> Result<Changed, Stop>
-    ensures reads { (a : Aim) (c : g.Change) (e : Expr) (rest : List Token) → StandsTarget site.variables site.line target a → Groups 0 e
+    ensures reads { (a : Aim) (c : g.Change) (e : Expr) (rest : List Token)
+        → StandsTarget site.integers site.variables site.line target a → Groups 0 e
         → Some (operation_of operation) ≡ joined_by c
         → reader.old.ahead ≡ spell_expr e ++ rest → AfterExpr (first_kind rest)
-        → Answers (λ c h. StandsChange site.variables site.line c h × (reader.new ≡ at_tokens reader.old rest)) result
-        (done_to site.variables site.line known.now a (assigns c sign e)) }
+        → Answers (λ c h. StandsChange site.integers site.variables site.line c h × (reader.new ≡ at_tokens reader.old rest)) result
+        (done_to site.integers site.variables site.line known.now a (assigns c sign e)) }
     ensures shorter { OnOk result (length reader.new.ahead ≤ length reader.old.ahead) }
 {
     let alloc = reader.alloc();
@@ -142,10 +145,10 @@ pub(crate) fn effect(
     site: Site,
     target: Target,
 ) -> Result<Changed, Stop>
-    ensures reads { (a : Aim) (f : Effect) (rest : List Token) → StandsTarget site.variables site.line target a → GoodEffect f
+    ensures reads { (a : Aim) (f : Effect) (rest : List Token) → StandsTarget site.integers site.variables site.line target a → GoodEffect f
         → reader.old.ahead ≡ onto_effect f rest → AfterExpr (first_kind rest)
-        → Answers (λ c h. StandsChange site.variables site.line c h × (reader.new ≡ at_tokens reader.old rest)) result
-        (done_to site.variables site.line known.now a f) }
+        → Answers (λ c h. StandsChange site.integers site.variables site.line c h × (reader.new ≡ at_tokens reader.old rest)) result
+        (done_to site.integers site.variables site.line known.now a f) }
     ensures shorter { OnOk result (length reader.new.ahead ≤ length reader.old.ahead) }
 {
     let what = coming(reader);

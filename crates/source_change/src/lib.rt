@@ -16,7 +16,7 @@ mod ranges;
 
 pub use changes::{update, update_of, updates};
 pub use conditions::{Test, parenthesised, read_test};
-pub use declarations::declarators;
+pub use declarations::{bare, declarators};
 pub use limits::evaluated;
 pub use names::{Named, take_name};
 pub use pushed::push_deeds;

@@ -37,8 +37,9 @@ fn read_element(
 ) -> Result<Value, Stop>
     ensures reads { (b : ℕ) (e : Expr) (c : ℕ) (rest : List Token) → Groups 0 e
         → reader.old.ahead ≡ token left_bracket b ∷ (spell_expr e ++ token right_bracket c ∷ rest)
-        → Answers (λ v x. Stands site.variables v (elaborated site.line x site.variables) × (reader.new ≡ at_tokens reader.old rest))
-        result (read_element site.variables site.line known.now named.now.name named.now.at b e) }
+        → Answers (λ v x. Stands site.variables v (elaborated site.integers site.line x site.variables) ×
+        (reader.new ≡ at_tokens reader.old rest))
+        result (read_element site.integers site.variables site.line known.now named.now.name named.now.at b e) }
     ensures shorter { OnOk result (length reader.new.ahead ≤ length reader.old.ahead) }
 {
     let size = known.array(named.name.bytes(), named.at)?;
@@ -54,8 +55,8 @@ fn read_element(
 
 // The variable with this name.
 fn variable(reader: &Reader, known: &Known, site: Site, named: &Named) -> Result<Target, Stop>
-    ensures { Answers (λ t a. StandsTarget site.variables site.line t a) result
-        (aim site.variables site.line known.now named.now.name named.now.at Index.no_index) }
+    ensures { Answers (λ t a. StandsTarget site.integers site.variables site.line t a) result
+        (aim site.integers site.variables site.line known.now named.now.name named.now.at Index.no_index) }
 {
     let var = known.variable(named.name.bytes(), named.at)?;
     Ok(Target {
@@ -72,8 +73,8 @@ pub(crate) fn place(
     named: &Named,
 ) -> Result<Target, Stop>
     ensures reads { (i : Index) (rest : List Token) → GoodIndex i → reader.old.ahead ≡ onto_index i rest → AfterPlace (first_kind rest)
-        → Answers (λ t a. StandsTarget site.variables site.line t a × (reader.new ≡ at_tokens reader.old rest)) result
-        (aim site.variables site.line known.now named.now.name named.now.at i) }
+        → Answers (λ t a. StandsTarget site.integers site.variables site.line t a × (reader.new ≡ at_tokens reader.old rest)) result
+        (aim site.integers site.variables site.line known.now named.now.name named.now.at i) }
     ensures shorter { OnOk result (length reader.new.ahead ≤ length reader.old.ahead) }
 {
     match coming(reader) {

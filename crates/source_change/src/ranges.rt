@@ -1,6 +1,7 @@
 //! Numbers that have to be in their ranges.
 
 ghost use Rattle.std.specs.Prelude.{ℕ};
+ghost use Rattle.base_integers.specs.declared.integers.Integers.{Integers};
 ghost use Rattle.source_tree.specs.Expressions.{Expression};
 ghost use Rattle.source_core.specs.Elaborated.{elaborated};
 ghost use Rattle.source_core.specs.Fits.{fits};
@@ -14,8 +15,8 @@ use source_value::{OperationFault, Value};
 
 // What an operation whose sign stands at `sign` answers, or the fault that a number leaves its range.
 pub(crate) fn ranged(made: Result<Value, OperationFault>, sign: u32) -> Result<Value, Stop>
-    ensures { (n line h : ℕ) (e : Expression) → value.Answers (Stands n) fits made (elaborated line e h)
-        → Answers (λ v x. Stands n v (elaborated line x h)) result (ranged line sign h e) }
+    ensures { (integers : Integers) (n line h : ℕ) (e : Expression) → value.Answers (Stands n) fits made (elaborated integers line e h)
+        → Answers (λ v x. Stands n v (elaborated integers line x h)) result (ranged integers line sign h e) }
 {
     placed(made, sign)
 }

@@ -3,7 +3,11 @@ pub mod Operated
 pub mod Values
 pub mod Operands
 pub mod Kept
+pub mod Ranges
+pub mod Exact
+pub mod Failing
+pub mod Overflowing
 pub mod Breaking
 pub mod Broken
-pub mod Exact
 pub mod Exactly
+pub mod Same

@@ -2,3 +2,4 @@ pub mod Integers
 pub mod Tests
 pub mod Forms
 pub mod Over
+pub mod Quotients

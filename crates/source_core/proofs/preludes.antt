@@ -1,2 +1,4 @@
 pub mod Preludes
 pub mod Parts
+pub mod Held
+pub mod Results

@@ -5,12 +5,14 @@ use Rattle.lang_tree.specs.declared.check.CheckKind.TheVariants.{Assert, Error}
 use Rattle.lang_tree.specs.Tree.{Deed, statement_by}
 use Rattle.lang_tree.specs.Tree as tree
 use Rattle.lang_tree.specs.PointNumbers as points
+use Rattle.base_integers.specs.declared.integers.Integers.{Integers}
 use Rattle.source_tree.specs.Expressions.{Expression}
 use Rattle.source_tree.specs.Statements.{Change, sets, evaluates, LoopKind, while_loop, for_loop, do_loop}
 use Rattle.source_tree.specs.Statements.{Statement, Statements, declares, changes, assumes, asserts, never, branch, loop, jump, label, nil}
 use Rattle.source_tree.specs.Statements.{cons}
 use Rattle.source_core.specs.Forms.{constant_form}
-use Rattle.source_core.specs.Elaborated.{Result, a_form, a_truth, any, Elaborated, Tested, elaborated, evaluated, numbered, tested}
+use Rattle.source_core.specs.Elaborated.{Result, a_form, a_truth, any, Elaborated, Tested, elaborated, evaluated, held, numbered}
+use Rattle.source_core.specs.Elaborated.{tested}
 
 -- one list of statements and then another
 abbrev pub followed_by : tree.Statements → tree.Statements → tree.Statements
@@ -26,18 +28,23 @@ behind (d ∷ ds) rest = tree.cons (statement_by d) (behind ds rest)
 abbrev pub one : tree.Statement → tree.Statements
 one s = tree.cons s tree.nil
 
--- a variable takes a number; any value is taken by the variable itself, without a hidden one
-abbrev pub taken : (var line : ℕ) → Elaborated → Result → List Deed
-taken var line e (a_form f) = (numbered line e).prelude ++ (tree.sets var (numbered line e).form line ∷ [])
-taken var line e (a_truth c) = (numbered line e).prelude ++ (tree.sets var (numbered line e).form line ∷ [])
-taken var line e any = e.prelude ++ (tree.havocs var line ∷ [])
+module _ (integers : Integers) where
+  -- a variable takes any of the integers
+  abbrev pub taken_any : (var line : ℕ) → List Deed
+  taken_any var line = tree.havocs var line ∷ held integers line var
+
+  -- a variable takes a number; any value is taken by the variable itself, without a hidden one
+  abbrev pub taken : (var line : ℕ) → Elaborated → Result → List Deed
+  taken var line e (a_form f) = (numbered integers line e).prelude ++ (tree.sets var (numbered integers line e).form line ∷ [])
+  taken var line e (a_truth c) = (numbered integers line e).prelude ++ (tree.sets var (numbered integers line e).form line ∷ [])
+  taken var line e any = e.prelude ++ taken_any var line
 
 -- hidden variables are numbered from n anew for each of these
-module _ (n : ℕ) where
+module _ (integers : Integers) (n : ℕ) where
   -- a change as deeds
   abbrev pub change_deeds : Change → List Deed
-  change_deeds (sets var e line) = taken var line (elaborated line e n) (elaborated line e n).result
-  change_deeds (evaluates es line) = (evaluated line es n).prelude
+  change_deeds (sets var e line) = taken integers var line (elaborated integers line e n) (elaborated integers line e n).result
+  change_deeds (evaluates es line) = (evaluated integers line es n).prelude
 
   -- changes in order as deeds
   abbrev pub changes_deeds : List Change → List Deed
@@ -45,7 +52,7 @@ module _ (n : ℕ) where
 
   -- the condition of a statement of this line, behind its prelude
   abbrev pub condition_of : (line : ℕ) → Expression → Tested
-  condition_of line e = tested (elaborated line e n)
+  condition_of line e = tested (elaborated integers line e n)
 
   -- a loop with its prelude
   abbrev pub kind_of : LoopKind → List Deed → tree.LoopKind
@@ -56,7 +63,7 @@ module _ (n : ℕ) where
   abbrev mutual
     -- a statement as statements of the core: its prelude and what it does
     pub core_of : Statement → tree.Statements
-    core_of (declares var line) = one (tree.havoc var line)
+    core_of (declares var line) = behind (taken_any integers var line) tree.nil
     core_of (changes g) = behind (change_deeds g) tree.nil
     core_of (assumes e line) =
         behind (condition_of line e).prelude (one (tree.assume (condition_of line e).condition line))

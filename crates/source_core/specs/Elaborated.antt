@@ -1,5 +1,5 @@
 -- Expressions of C as what the core has: a prelude, and a form, a condition, or any number.
-use Rattle.std.specs.Prelude.{ℕ, suc, ℤ, pos, negsuc, ◌-ℤ◌, int_div, int_rem, nat_abs, Bool, true, false, List, [], ◌∷◌, ◌++◌}
+use Rattle.std.specs.Prelude.{ℕ, nat_le, suc, ℤ, pos, negsuc, ◌-ℤ◌, int_div, int_rem, nat_abs, Bool, true, false, List, [], ◌∷◌, ◌++◌}
 use Rattle.std.specs.Prelude.{if◌then◌else◌}
 use Rattle.std.specs.Prelude.{◌||◌, ◌&&◌}
 use Rattle.std.specs.Ordering.{int_eq}
@@ -7,10 +7,14 @@ use Rattle.lang_tree.specs.declared.form.Form.{Form}
 use Rattle.lang_tree.specs.declared.cond.Rel.{Rel}
 use Rattle.lang_tree.specs.declared.cond.Rel.TheVariants.{Eq, Ne, Le, Ge}
 use Rattle.lang_tree.specs.declared.check.CheckKind.{CheckKind}
-use Rattle.lang_tree.specs.declared.check.CheckKind.TheVariants.{Divisor, Index}
+use Rattle.lang_tree.specs.declared.check.CheckKind.TheVariants.{Divisor, Index, Range}
 use Rattle.lang_tree.specs.Tree.{Condition}
 use Rattle.lang_tree.specs.Tree.{Deed, havocs, wheres, checks}
 use Rattle.lang_tree.specs.Tree as tree
+use Rattle.base_integers.specs.declared.integers.Width.{Width}
+use Rattle.base_integers.specs.declared.integers.Integers.{Integers}
+use Rattle.base_integers.specs.declared.integers.Integers.TheVariants.{Mathematical, Machine}
+use Rattle.base_integers.specs.Integers.{greatest}
 use Rattle.source_tree.specs.Expressions.{Operation, plus, minus, times, over, remainder}
 use Rattle.source_tree.specs.Expressions.{Expression, Expressions, number, variable, unknown, call, element, grouped, negative, positive}
 use Rattle.source_tree.specs.Expressions.{inverse, joined, compared, both, either, chosen, none, more}
@@ -69,6 +73,20 @@ divides f c q =
 abbrev pub is_index : ℕ → Form → Condition
 is_index size f = tree.both (related Le (constant_form (pos 0)) f) (related Le f (constant_form (pos size -ℤ pos 1)))
 
+-- a form is one of the integers of this width
+abbrev pub is_held : Width → Form → Condition
+is_held width f =
+    tree.both (related Le (constant_form (negsuc (greatest width))) f) (related Le f (constant_form (pos (greatest width))))
+
+-- a condition that is never true
+abbrev pub never : Condition
+never = tree.compare Ne (constant_form (pos 0))
+
+-- unless the least integer of this width is divided by -1, a quotient is one of them
+abbrev pub is_divided : Width → Form → Form → Condition
+is_divided width f g =
+    tree.negation (tree.both (related Eq f (constant_form (negsuc (greatest width)))) (related Eq g (constant_form (negsuc 0))))
+
 -- this number is 1 or -1
 abbrev pub is_unit : ℤ → Bool
 is_unit c = int_eq c (pos 1) || int_eq c (negsuc 0)
@@ -91,42 +109,31 @@ form_behind ds h f = record { prelude = ds; result = a_form f; next = h }
 abbrev pub is_divisor : Form → Bool
 is_divisor g = is_constant g && (if int_eq g.constant (pos 0) then false else true)
 
+-- when the result of an operation on two forms is one of the integers of this width. Of a product of two forms nothing is known. A
+-- remainder
+-- is taken by a quotient, which has to be one, too
+abbrev pub operation_held : Width → Operation → (f g result : Form) → Condition
+operation_held width plus f g r = is_held width r
+operation_held width minus f g r = is_held width r
+operation_held width times f g r = if is_constant f || is_constant g then is_held width r else never
+operation_held width over f g r = if is_divisor g then is_held width r else is_divided width f g
+operation_held width remainder f g r =
+    if is_divisor g then (if int_eq g.constant (negsuc 0) then is_held width (opposite f) else is_held width r) else is_divided width f g
+
+-- the form of a result that is one
+abbrev pub form_in : Result → Form
+form_in (a_form f) = f
+form_in (a_truth c) = constant_form (pos 0)
+form_in any = constant_form (pos 0)
+
 module _ (line : ℕ) where
-  -- a result as a number: a truth is 1 or 0, and any value is that of a hidden variable
-  abbrev pub as_number : List Deed → ℕ → Result → Numbered
-  as_number ds h (a_form f) = record { prelude = ds; form = f; next = h }
-  as_number ds h (a_truth c) = record {
-    prelude = ds ++ havocs h line ∷ wheres (selects c h (constant_form (pos 1)) (constant_form (pos 0))) line ∷ [];
-    form = variable_form h;
-    next = suc h;
-  }
-  as_number ds h any = record { prelude = ds ++ havocs h line ∷ []; form = variable_form h; next = suc h }
-
-  -- a result as a number, behind its prelude
-  abbrev pub numbered : Elaborated → Numbered
-  numbered e = as_number e.prelude e.next e.result
-
-  -- any value, behind a prelude, as that of a hidden variable
-  abbrev pub havocked : List Deed → ℕ → Elaborated
-  havocked ds h = form_behind (ds ++ havocs h line ∷ []) (suc h) (variable_form h)
-
   -- a check of this kind at this place
   abbrev pub checked : CheckKind → ℕ → Condition → Deed
   checked kind at c = checks (record { kind = kind; at = at }) c line
 
-  -- a product: a multiple where one side is constant, and otherwise any number
-  abbrev pub product : List Deed → ℕ → Form → Form → Elaborated
-  product ds h f g =
-      if is_constant f then form_behind ds h (scaled f.constant g)
-      else (if is_constant g then form_behind ds h (scaled g.constant f) else havocked ds h)
-
   -- a hidden variable is the quotient of a form by a number that is not 0
   abbrev pub quotient_behind : List Deed → ℕ → Form → ℤ → List Deed
   quotient_behind ds h f c = ds ++ havocs h line ∷ wheres (divides f c h) line ∷ []
-
-  -- any number, behind a check that the divisor is not 0
-  abbrev pub unless_zero : List Deed → ℕ → (sign : ℕ) → Form → Elaborated
-  unless_zero ds h sign g = havocked (ds ++ checked Divisor sign (related Ne g (constant_form (pos 0))) ∷ []) h
 
   -- a quotient by a number that is not 0: exact by 1 and -1 and of a constant, else that of a hidden variable
   abbrev pub quotient_by : List Deed → ℕ → Form → ℤ → Elaborated
@@ -142,14 +149,6 @@ module _ (line : ℕ) where
       else (if is_constant f then form_behind ds h (constant_form (int_rem f.constant c))
       else form_behind (quotient_behind ds h f c) (suc h) (form.minus f (scaled c (variable_form h))))
 
-  -- an operation on two forms behind their preludes
-  abbrev pub operated : Operation → (sign : ℕ) → List Deed → ℕ → Form → Form → Elaborated
-  operated plus sign ds h f g = form_behind ds h (form.plus f g)
-  operated minus sign ds h f g = form_behind ds h (form.minus f g)
-  operated times sign ds h f g = product ds h f g
-  operated over sign ds h f g = if is_divisor g then quotient_by ds h f g.constant else unless_zero ds h sign g
-  operated remainder sign ds h f g = if is_divisor g then remainder_by ds h f g.constant else unless_zero ds h sign g
-
   -- an element is any number, behind a check of its index
   abbrev pub element_behind : (size bracket : ℕ) → Numbered → Elaborated
   element_behind size bracket i = record {
@@ -164,16 +163,82 @@ module _ (line : ℕ) where
       (c.prelude ++ (all_under c.condition f.prelude ++ (all_under (tree.negation c.condition) g.prelude
       ++ (havocs g.next line ∷ wheres (selects c.condition g.next f.form g.form) line ∷ [])))) (suc g.next) (variable_form g.next)
 
+module _ (integers : Integers) (line : ℕ) where
+  -- a variable that took any value has one of the integers
+  abbrev pub held : (var : ℕ) → List Deed
+  held var = elim integers [ Mathematical ↦ [] | Machine width ↦ wheres (is_held width (variable_form var)) line ∷ [] ]
+
+  -- an operation at this place, with a check behind it that its result is one of the integers
+  abbrev pub ranged : (place : ℕ) → (Width → Form → Condition) → Elaborated → Elaborated
+  ranged place holds e = elim integers [
+    | Mathematical ↦ e
+    | Machine width ↦ record {
+      prelude = e.prelude ++ checked line Range place (holds width (form_in e.result)) ∷ [];
+      result = e.result;
+      next = e.next;
+    }
+  ]
+
+  -- a number of the text, with a check where it is above all of the integers
+  abbrev pub number_at : (value at : ℕ) → ℕ → Elaborated
+  number_at v at h = elim integers [
+    | Mathematical ↦ form_behind [] h (constant_form (pos v))
+    | Machine width ↦
+        (if nat_le v (greatest width) then form_behind [] h (constant_form (pos v))
+        else form_behind (checked line Range at (is_held width (constant_form (pos v))) ∷ []) h (constant_form (pos v)))
+  ]
+
+  -- a result as a number: a truth is 1 or 0, and any value is that of a hidden variable
+  abbrev pub as_number : List Deed → ℕ → Result → Numbered
+  as_number ds h (a_form f) = record { prelude = ds; form = f; next = h }
+  as_number ds h (a_truth c) = record {
+    prelude = ds ++ havocs h line ∷ wheres (selects c h (constant_form (pos 1)) (constant_form (pos 0))) line ∷ [];
+    form = variable_form h;
+    next = suc h;
+  }
+  as_number ds h any = record { prelude = ds ++ havocs h line ∷ held h; form = variable_form h; next = suc h }
+
+  -- a result as a number, behind its prelude
+  abbrev pub numbered : Elaborated → Numbered
+  numbered e = as_number e.prelude e.next e.result
+
+  -- any value, behind a prelude, as that of a hidden variable
+  abbrev pub havocked : List Deed → ℕ → Elaborated
+  havocked ds h = form_behind (ds ++ havocs h line ∷ held h) (suc h) (variable_form h)
+
+  -- a product: a multiple where one side is constant, and otherwise any number
+  abbrev pub product : List Deed → ℕ → Form → Form → Elaborated
+  product ds h f g =
+      if is_constant f then form_behind ds h (scaled f.constant g)
+      else (if is_constant g then form_behind ds h (scaled g.constant f) else havocked ds h)
+
+  -- any number, behind a check that the divisor is not 0
+  abbrev pub unless_zero : List Deed → ℕ → (sign : ℕ) → Form → Elaborated
+  unless_zero ds h sign g = havocked (ds ++ checked line Divisor sign (related Ne g (constant_form (pos 0))) ∷ []) h
+
+  -- an operation on two forms behind their preludes
+  abbrev pub operated : Operation → (sign : ℕ) → List Deed → ℕ → Form → Form → Elaborated
+  operated plus sign ds h f g = form_behind ds h (form.plus f g)
+  operated minus sign ds h f g = form_behind ds h (form.minus f g)
+  operated times sign ds h f g = product ds h f g
+  operated over sign ds h f g = if is_divisor g then quotient_by line ds h f g.constant else unless_zero ds h sign g
+  operated remainder sign ds h f g = if is_divisor g then remainder_by line ds h f g.constant else unless_zero ds h sign g
+
+  -- with a check behind it that the result is one of the integers
+  abbrev pub operation_on : Operation → (sign : ℕ) → List Deed → ℕ → Form → Form → Elaborated
+  operation_on o sign ds h f g = ranged sign (λ width r. operation_held width o f g r) (operated o sign ds h f g)
+
   abbrev mutual
     -- hidden variables are taken in order from h, operands read from the left, each with all of its prelude before the next
     pub elaborated : Expression → ℕ → Elaborated
-    elaborated (number v at) h = form_behind [] h (constant_form (pos v))
+    elaborated (number v at) h = number_at v at h
     elaborated (variable i at) h = form_behind [] h (variable_form i)
     elaborated (unknown at) h = record { prelude = []; result = any; next = h }
     elaborated (call es at) h = record { prelude = (evaluated es h).prelude; result = any; next = (evaluated es h).next }
-    elaborated (element size bracket e at) h = element_behind size bracket (numbered (elaborated e h))
+    elaborated (element size bracket e at) h = element_behind line size bracket (numbered (elaborated e h))
     elaborated (grouped at e) h = elaborated e h
-    elaborated (negative at e) h = let a = numbered (elaborated e h) in form_behind a.prelude a.next (opposite a.form)
+    elaborated (negative at e) h =
+        let a = numbered (elaborated e h) in ranged at is_held (form_behind a.prelude a.next (opposite a.form))
     elaborated (positive at e) h = let a = numbered (elaborated e h) in form_behind a.prelude a.next a.form
     elaborated (inverse at e) h = let a = tested (elaborated e h) in record {
       prelude = a.prelude;
@@ -183,7 +248,7 @@ module _ (line : ℕ) where
     elaborated (joined o sign e f) h =
         let a = numbered (elaborated e h) in
         let b = numbered (elaborated f a.next) in
-        operated o sign (a.prelude ++ b.prelude) b.next a.form b.form
+        operation_on o sign (a.prelude ++ b.prelude) b.next a.form b.form
     elaborated (compared rel sign e f) h =
         let a = numbered (elaborated e h) in
         let b = numbered (elaborated f a.next) in
@@ -208,7 +273,7 @@ module _ (line : ℕ) where
         let a = tested (elaborated c h) in
         let b = numbered (elaborated e a.next) in
         let d = numbered (elaborated f b.next) in
-        choice a b d
+        choice line a b d
 
     -- arguments are evaluated, and their values not used
     pub evaluated : Expressions → ℕ → Evaluated

@@ -1,5 +1,5 @@
 -- Whether all numbers of what an expression is in the core are in their ranges.
-use Rattle.std.specs.Prelude.{ℕ, ◌+◌, Bool, true, ◌&&◌, List, nat_abs, nat_le}
+use Rattle.std.specs.Prelude.{◌+◌, Bool, true, ◌&&◌, List, nat_abs, nat_le}
 use Rattle.std.specs.List.{list_all}
 use Rattle.lang_tree.specs.declared.form.Form.{Form}
 use Rattle.lang_tree.specs.Tree.{Condition, free, compare, negation, both, either, Deed, sets, havocs, wheres, checks}

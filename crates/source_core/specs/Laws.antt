@@ -2,6 +2,9 @@
 use Rattle.std.specs.Prelude.{◌≡◌, ◌<◌, ◌≤◌, ℕ, ℤ, pos, Bool, true, false, ◌&&◌, ◌||◌, nat_lt, IsTrue, get_or}
 use Rattle.lang_tree.specs.declared.check.Check.{Check}
 use Rattle.lang_tree.specs.Meaning.{State, value, MayBe}
+use Rattle.base_integers.specs.declared.integers.Integers.{Integers}
+use Rattle.base_integers.specs.declared.integers.Integers.TheVariants.{Mathematical}
+use Rattle.base_integers.specs.Integers.{Has}
 use Rattle.source_tree.specs.Expressions.{Expression, Expressions, number, variable, unknown, call, element, grouped, negative, positive}
 use Rattle.source_tree.specs.Expressions.{inverse, joined, compared, both, either, chosen, none, more}
 use Rattle.source_tree.specs.Values.{truth_number, May, Breaks}
@@ -38,27 +41,35 @@ abbrev mutual
 abbrev pub Agree : ℕ → State → State → Type 0
 Agree n x y = (i : ℕ) → i < n → get_or x i (pos 0) ≡ get_or y i (pos 0)
 
--- a result may be this number at a state
-abbrev pub MayResult : Result → State → ℤ → Type 0
-MayResult (a_form f) y z = z ≡ value f y
-MayResult (a_truth c) y z = (t : Bool) × MayBe t c y × (z ≡ truth_number t)
-MayResult any y z = Unit {0}
+-- the first n variables have each one of the integers
+abbrev pub AreIn : Integers → ℕ → State → Type 0
+AreIn integers n x = (i : ℕ) → i < n → Has integers (get_or x i (pos 0))
+
+-- a result may be this number at a state, any value being one of the integers
+abbrev pub MayResult : Integers → Result → State → ℤ → Type 0
+MayResult integers (a_form f) y z = z ≡ value f y
+MayResult integers (a_truth c) y z = (t : Bool) × MayBe t c y × (z ≡ truth_number t)
+MayResult integers any y z = Has integers z
 
 -- each value that an expression may have is one that its result may be behind its prelude, which keeps the variables
 abbrev pub ValuesAreKept : Type 0
-ValuesAreKept = (line : ℕ) (e : Expression) (n h : ℕ) → n ≤ h → IsTrue (is_over n e) → (x : State) (z : ℤ) → May e x z
-    → (y : State) × AllLeave (elaborated line e h).prelude x y × Agree h x y × MayResult (elaborated line e h).result y z
+ValuesAreKept = (integers : Integers) (line : ℕ) (e : Expression) (n h : ℕ) → n ≤ h → IsTrue (is_over n e) → (x : State) (z : ℤ)
+    → May integers e x z
+    → (y : State) × AllLeave (elaborated integers line e h).prelude x y × Agree h x y
+    × MayResult integers (elaborated integers line e h).result y z
 
 -- no prelude stops a run, whether or not the expression has a value, and each keeps the variables
 abbrev pub NothingStops : Type 0
-NothingStops = (line : ℕ) (e : Expression) (n h : ℕ) → n ≤ h → IsTrue (is_over n e)
-    → ((x : State) → (y : State) × AllLeave (elaborated line e h).prelude x y)
-    × ((x y : State) → AllLeave (elaborated line e h).prelude x y → Agree h x y)
+NothingStops = (integers : Integers) (line : ℕ) (e : Expression) (n h : ℕ) → n ≤ h → IsTrue (is_over n e)
+    → ((x : State) → (y : State) × AllLeave (elaborated integers line e h).prelude x y)
+    × ((x y : State) → AllLeave (elaborated integers line e h).prelude x y → Agree h x y)
 
 -- where an expression breaks a check, the check may be false on the way through the prelude
 abbrev pub BreaksAreKept : Type 0
-BreaksAreKept = (line : ℕ) (e : Expression) (n h : ℕ) → n ≤ h → IsTrue (is_over n e) → (x : State) (about : Check) → Breaks e x about
-    → MayFail (elaborated line e h).prelude x about
+BreaksAreKept = (integers : Integers) (line : ℕ) (e : Expression) (n h : ℕ) → n ≤ h → IsTrue (is_over n e) → (x : State)
+    → AreIn integers n x
+    → (about : Check) → Breaks integers e x about
+    → MayFail (elaborated integers line e h).prelude x about
 
 -- an operation on these forms has the values that it has by C, and no more: no product of two forms, and no division by anything but a
 -- number other than 0
@@ -82,23 +93,24 @@ module _ (line : ℕ) where
   is_exact (positive at e) h = is_exact e h
   is_exact (inverse at e) h = is_exact e h
   is_exact (joined o sign e f) h =
-      let a = numbered line (elaborated line e h) in
-      let b = numbered line (elaborated line f a.next) in
+      let a = numbered Mathematical line (elaborated Mathematical line e h) in
+      let b = numbered Mathematical line (elaborated Mathematical line f a.next) in
       is_exact e h && (is_exact f a.next && is_exact_on o a.form b.form)
-  is_exact (compared rel sign e f) h = is_exact e h && is_exact f (numbered line (elaborated line e h)).next
-  is_exact (both c d) h = is_exact c h && is_exact d (elaborated line c h).next
-  is_exact (either c d) h = is_exact c h && is_exact d (elaborated line c h).next
+  is_exact (compared rel sign e f) h = is_exact e h && is_exact f (numbered Mathematical line (elaborated Mathematical line e h)).next
+  is_exact (both c d) h = is_exact c h && is_exact d (elaborated Mathematical line c h).next
+  is_exact (either c d) h = is_exact c h && is_exact d (elaborated Mathematical line c h).next
   is_exact (chosen sign c e f) h =
-      let a = elaborated line c h in
-      let b = numbered line (elaborated line e a.next) in
+      let a = elaborated Mathematical line c h in
+      let b = numbered Mathematical line (elaborated Mathematical line e a.next) in
       is_exact c h && (is_exact e a.next && is_exact f b.next)
 
   -- each of some expressions
   abbrev pub are_exact : Expressions → (h : ℕ) → Bool
   are_exact none h = true
-  are_exact (more e es) h = is_exact e h && are_exact es (elaborated line e h).next
+  are_exact (more e es) h = is_exact e h && are_exact es (elaborated Mathematical line e h).next
 
 -- the values that an exact expression may have are all that its result may be behind its prelude
 abbrev pub ValuesAreExact : Type 0
 ValuesAreExact = (line : ℕ) (e : Expression) (n h : ℕ) → n ≤ h → IsTrue (is_over n e) → IsTrue (is_exact line e h) → (x y : State) (z : ℤ)
-    → AllLeave (elaborated line e h).prelude x y → MayResult (elaborated line e h).result y z → May e x z
+    → AllLeave (elaborated Mathematical line e h).prelude x y → MayResult Mathematical (elaborated Mathematical line e h).result y z
+    → May Mathematical e x z

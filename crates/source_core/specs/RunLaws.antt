@@ -4,10 +4,12 @@ use Rattle.std.specs.List.{list_all}
 use Rattle.lang_tree.specs.declared.check.Check.{Check}
 use Rattle.lang_tree.specs.Tree.{Condition}
 use Rattle.lang_tree.specs.Runs as core
+use Rattle.base_integers.specs.declared.integers.Integers.{Integers}
+use Rattle.base_integers.specs.declared.integers.Integers.TheVariants.{Mathematical}
 use Rattle.source_tree.specs.Statements.{Change, sets, evaluates, LoopKind, while_loop, for_loop, do_loop}
 use Rattle.source_tree.specs.Statements.{Statement, Statements, declares, changes, assumes, asserts, never, branch, loop, jump, label, nil}
 use Rattle.source_tree.specs.Statements.{cons}
-use Rattle.source_core.specs.Laws.{is_over, are_over, is_exact, are_exact}
+use Rattle.source_core.specs.Laws.{AreIn, is_over, are_over, is_exact, are_exact}
 use Rattle.source_core.specs.Core.{core_in}
 use Rattle.source_core.specs.SourceRuns.{Configuration, IsRun, IsAt, CheckIsTrue}
 
@@ -72,22 +74,33 @@ abbrev mutual
 
 -- for each run of a source program there is a run of its core that is at the same points in the same states of its variables
 abbrev pub RunsAreKept : Type 0
-RunsAreKept = (n : ℕ) (body : Statements) → IsTrue (are_statements_over n body) → (run : List Configuration) → IsRun n body run
-    → (kept : List core.Configuration) × core.IsRun n (core_in n body) kept
+RunsAreKept = (integers : Integers) (n : ℕ) (body : Statements) → IsTrue (are_statements_over n body) → (run : List Configuration)
+    → IsRun integers n body run
+    → (kept : List core.Configuration) × core.IsRun n (core_in integers n body) kept
     × ((c : Configuration) → Contains run c → (p : ℕ) → IsAt c p
     → (d : core.Configuration) × Contains kept d × core.IsAt d p × (d.state ≡ c.state))
 
 -- a check that is true in each run of the core, whatever its condition there, is true in each run of the source
 abbrev pub ChecksAreKept : Type 0
-ChecksAreKept = (n : ℕ) (body : Statements) → IsTrue (are_statements_over n body) → (about : Check)
-    → ((run : List core.Configuration) → core.IsRun n (core_in n body) run → (cond : Condition) → core.CheckIsTrue about cond run)
-    → (run : List Configuration) → IsRun n body run → CheckIsTrue about run
+ChecksAreKept = (integers : Integers) (n : ℕ) (body : Statements) → IsTrue (are_statements_over n body) → (about : Check)
+    → ((run : List core.Configuration) → core.IsRun n (core_in integers n body) run → (cond : Condition) → core.CheckIsTrue about cond run)
+    → (run : List Configuration) → IsRun integers n body run → CheckIsTrue integers about run
+
+-- a run by a machine's integers is one by all integers
+abbrev pub MachineRunsAreRuns : Type 0
+MachineRunsAreRuns = (integers : Integers) (n : ℕ) (body : Statements)
+    → (run : List Configuration) → IsRun integers n body run → IsRun Mathematical n body run
+
+-- in each state of a run the variables are in the range of its integers
+abbrev pub StatesAreInRange : Type 0
+StatesAreInRange = (integers : Integers) (n : ℕ) (body : Statements) → IsTrue (are_statements_over n body)
+    → (run : List Configuration) → IsRun integers n body run → (c : Configuration) → Contains run c → AreIn integers n c.state
 
 -- the other way round where operations are exact: for each run of the core there is a run of the source that is at the same points in the
 -- same states
 abbrev pub RunsAreExact : Type 0
 RunsAreExact = (n : ℕ) (body : Statements) → IsTrue (are_statements_over n body) → IsTrue (are_statements_exact n body)
-    → (run : List core.Configuration) → core.IsRun n (core_in n body) run
-    → (kept : List Configuration) × IsRun n body kept
+    → (run : List core.Configuration) → core.IsRun n (core_in Mathematical n body) run
+    → (kept : List Configuration) × IsRun Mathematical n body kept
     × ((d : core.Configuration) → Contains run d → (p : ℕ) → core.IsAt d p
     → (c : Configuration) × Contains kept c × IsAt c p × (c.state ≡ d.state))

@@ -1,16 +1,20 @@
--- Runs of a source program over integer states, by the list of work that is left to do. An operation without a value ends a run, and so
--- does an assumption that is false. Points are those of the core.
+-- Runs of a source program over integer states, by the list of work that is left to do, and by all integers or by those of a machine. An
+-- operation without a value, which one that overflows is, ends a run, and so does an assumption that is false. Points are those of the
+-- core.
 use Rattle.std.specs.Prelude.{◌≡◌, ◌≢◌, ◌⊎◌, ℕ, ℤ, pos, ◌+◌, Bool, List, [], ◌∷◌, ◌++◌, length, if◌then◌else◌, Contains}
 use Rattle.lang_tree.specs.declared.check.Check.{Check}
 use Rattle.lang_tree.specs.declared.check.CheckKind.TheVariants.{Assert, Error}
 use Rattle.lang_tree.specs.Tree.{breaks, continues, returns}
 use Rattle.lang_tree.specs.Meaning.{State, put}
 use Rattle.lang_tree.specs.PointNumbers.{splits}
+use Rattle.base_integers.specs.declared.integers.Integers.{Integers}
+use Rattle.base_integers.specs.Integers.{Has}
 use Rattle.source_tree.specs.Expressions.{Expression}
 use Rattle.source_tree.specs.Values.{Tells, May, AllMay, Breaks, SomeBreaks}
 use Rattle.source_tree.specs.Statements.{Change, sets, evaluates, LoopKind, while_loop, for_loop, do_loop}
 use Rattle.source_tree.specs.Statements.{Statement, Statements, declares, changes, assumes, asserts, never, branch, loop, jump, label, nil}
 use Rattle.source_tree.specs.Statements.{cons}
+use Rattle.source_core.specs.Laws.{AreIn}
 use Rattle.source_core.specs.Core.{condition_of, points_of, points_in}
 
 -- a node: a statement with the number of the first point that it makes; a change of a `for`; the mark of a point; the turn of a loop, at
@@ -23,9 +27,9 @@ pub data Item : Type 0 where
   end : LoopKind → Expression → Statements → (line head : ℕ) → Item
 
 -- a change may lead from one state to another
-abbrev pub Changes : Change → State → State → Type 0
-Changes (sets var e line) x y = (z : ℤ) × May e x z × (y ≡ put (pos 0) x var z)
-Changes (evaluates es line) x y = AllMay es x × (y ≡ x)
+abbrev pub Changes : Integers → Change → State → State → Type 0
+Changes integers (sets var e line) x y = (z : ℤ) × May integers e x z × (y ≡ put (pos 0) x var z)
+Changes integers (evaluates es line) x y = AllMay integers es x × (y ≡ x)
 
 -- the work past the innermost loop
 abbrev pub past_loop : List Item → List Item
@@ -50,16 +54,16 @@ abbrev pub changes_work : List Change → List Item → List Item
 changes_work [] rest = rest
 changes_work (g ∷ gs) rest = change g ∷ changes_work gs rest
 
--- over n variables
-module _ (n : ℕ) where
+-- by these integers, over n variables
+module _ (integers : Integers) (n : ℕ) where
   -- the nodes of a list of statements, the first point that they make being m
   abbrev pub nodes : Statements → ℕ → List Item
   nodes nil m = []
-  nodes (cons s rest) m = node s m ∷ nodes rest (m + points_of n s)
+  nodes (cons s rest) m = node s m ∷ nodes rest (m + points_of integers n s)
 
   -- the number of the exit, behind all other points
   abbrev pub exit_of : Statements → ℕ
-  exit_of body = points_in n body + 1
+  exit_of body = points_in integers n body + 1
 
   -- the entry's mark, the nodes of the body, and the exit's mark
   abbrev pub start_work : Statements → List Item
@@ -67,8 +71,8 @@ module _ (n : ℕ) where
 
   -- a branch of an `if`, and then the mark of the point behind both
   abbrev pub branch_work : Bool → Statements → Statements → ℕ → List Item → List Item
-  branch_work truth first second m rest = (if truth then nodes first m else nodes second (m + points_in n first))
-      ++ (mark (m + points_in n first + points_in n second) ∷ rest)
+  branch_work truth first second m rest = (if truth then nodes first m else nodes second (m + points_in integers n first))
+      ++ (mark (m + points_in integers n first + points_in integers n second) ∷ rest)
 
   -- the body of a loop and its end
   abbrev pub body_work : LoopKind → Expression → Statements → (line m : ℕ) → List Item → List Item
@@ -99,21 +103,21 @@ module _ (n : ℕ) where
   -- one step with the first item, behind which `rest` is left, in a state: the work and the state after it
   abbrev pub Does : (exit : ℕ) → Item → (rest : List Item) → State → List Item → State → Type 0
   Does exit (mark p) rest x work y = (work ≡ rest) × (y ≡ x)
-  Does exit (change g) rest x work y = (work ≡ rest) × Changes g x y
-  Does exit (node (declares var line) m) rest x work y = (z : ℤ) × (work ≡ rest) × (y ≡ put (pos 0) x var z)
-  Does exit (node (changes g) m) rest x work y = (work ≡ rest) × Changes g x y
-  Does exit (node (assumes e line) m) rest x work y = (z : ℤ) × May e x z × (z ≢ pos 0)
-      × (work ≡ (if splits (condition_of n line e).condition then mark m ∷ rest else rest)) × (y ≡ x)
-  Does exit (node (asserts e at line) m) rest x work y = (z : ℤ) × May e x z × (z ≢ pos 0) × (work ≡ rest) × (y ≡ x)
+  Does exit (change g) rest x work y = (work ≡ rest) × Changes integers g x y
+  Does exit (node (declares var line) m) rest x work y = (z : ℤ) × Has integers z × (work ≡ rest) × (y ≡ put (pos 0) x var z)
+  Does exit (node (changes g) m) rest x work y = (work ≡ rest) × Changes integers g x y
+  Does exit (node (assumes e line) m) rest x work y = (z : ℤ) × May integers e x z × (z ≢ pos 0)
+      × (work ≡ (if splits (condition_of integers n line e).condition then mark m ∷ rest else rest)) × (y ≡ x)
+  Does exit (node (asserts e at line) m) rest x work y = (z : ℤ) × May integers e x z × (z ≢ pos 0) × (work ≡ rest) × (y ≡ x)
   Does exit (node (never at line) m) rest x work y = (work ≡ rest) × (y ≡ x)
-  Does exit (node (branch e first second line) m) rest x work y = (z : ℤ) × (t : Bool) × May e x z × Tells t z
+  Does exit (node (branch e first second line) m) rest x work y = (z : ℤ) × (t : Bool) × May integers e x z × Tells t z
       × (work ≡ branch_work t first second m rest) × (y ≡ x)
   Does exit (node (loop kind e body line) m) rest x work y = (work ≡ mark m ∷ head_work kind e body line m rest) × (y ≡ x)
   Does exit (node (jump breaks line) m) rest x work y = (work ≡ past_loop rest) × (y ≡ x)
   Does exit (node (jump continues line) m) rest x work y = (work ≡ end_of_body rest) × (y ≡ x)
   Does exit (node (jump returns line) m) rest x work y = (work ≡ mark exit ∷ []) × (y ≡ x)
   Does exit (node (label name line) m) rest x work y = (work ≡ mark m ∷ rest) × (y ≡ x)
-  Does exit (turn kind e body line m) rest x work y = (z : ℤ) × (t : Bool) × May e x z × Tells t z
+  Does exit (turn kind e body line m) rest x work y = (z : ℤ) × (t : Bool) × May integers e x z × Tells t z
       × (work ≡ turn_work t kind e body line m rest) × (y ≡ x)
   Does exit (end kind e body line m) rest x work y = (work ≡ end_work kind e body line m rest) × (y ≡ x)
 
@@ -123,48 +127,51 @@ pub record Configuration : Type 0 where
   pub state : State
 
 -- a step from one configuration to another
-pub record Step (n exit : ℕ) (before after : Configuration) : Type 0 where
+pub record Step (integers : Integers) (n exit : ℕ) (before after : Configuration) : Type 0 where
   pub item : Item
   pub rest : List Item
   pub first : before.work ≡ item ∷ rest
-  pub does : Does n exit item rest before.state after.work after.state
+  pub does : Does integers n exit item rest before.state after.work after.state
 
 -- each configuration is a step from the one before it
-abbrev pub Follows : (n exit : ℕ) → Configuration → List Configuration → Type 0
-Follows n exit c [] = Unit {0}
-Follows n exit c (d ∷ ds) = Step n exit c d × Follows n exit d ds
+abbrev pub Follows : Integers → (n exit : ℕ) → Configuration → List Configuration → Type 0
+Follows integers n exit c [] = Unit {0}
+Follows integers n exit c (d ∷ ds) = Step integers n exit c d × Follows integers n exit d ds
 
--- a run of a function of n variables: the first configuration is the start work with any state
-abbrev pub IsRun : ℕ → Statements → List Configuration → Type 0
-IsRun n body [] = ⊥
-IsRun n body (c ∷ cs) = (c.work ≡ start_work n body) × (length c.state ≡ n) × Follows n (exit_of n body) c cs
+-- a run of a function of n variables by these integers: the first configuration is the start work with any state of them
+abbrev pub IsRun : Integers → ℕ → Statements → List Configuration → Type 0
+IsRun integers n body [] = ⊥
+IsRun integers n body (c ∷ cs) =
+    (c.work ≡ start_work integers n body) × (length c.state ≡ n) × AreIn integers n c.state
+    × Follows integers n (exit_of integers n body) c cs
 
 -- a configuration is at a point
 abbrev pub IsAt : Configuration → ℕ → Type 0
 IsAt c p = (rest : List Item) × (c.work ≡ mark p ∷ rest)
 
 -- in a change a check may not be true
-abbrev pub ChangeBreaks : Change → State → Check → Type 0
-ChangeBreaks (sets var e line) x about = Breaks e x about
-ChangeBreaks (evaluates es line) x about = SomeBreaks es x about
+abbrev pub ChangeBreaks : Integers → Change → State → Check → Type 0
+ChangeBreaks integers (sets var e line) x about = Breaks integers e x about
+ChangeBreaks integers (evaluates es line) x about = SomeBreaks integers es x about
 
 -- with this first item, in a state, a check may not be true: of an operation without a value, an assertion, or a place not to be reached
-abbrev pub ItemBreaks : Item → State → Check → Type 0
-ItemBreaks (mark p) x about = ⊥
-ItemBreaks (change g) x about = ChangeBreaks g x about
-ItemBreaks (node (declares var line) m) x about = ⊥
-ItemBreaks (node (changes g) m) x about = ChangeBreaks g x about
-ItemBreaks (node (assumes e line) m) x about = Breaks e x about
-ItemBreaks (node (asserts e at line) m) x about = Breaks e x about ⊎ (May e x (pos 0) × (about ≡ record { kind = Assert; at = at }))
-ItemBreaks (node (never at line) m) x about = about ≡ record { kind = Error; at = at }
-ItemBreaks (node (branch e first second line) m) x about = Breaks e x about
-ItemBreaks (node (loop kind e body line) m) x about = ⊥
-ItemBreaks (node (jump kind line) m) x about = ⊥
-ItemBreaks (node (label name line) m) x about = ⊥
-ItemBreaks (turn kind e body line m) x about = Breaks e x about
-ItemBreaks (end kind e body line m) x about = ⊥
+abbrev pub ItemBreaks : Integers → Item → State → Check → Type 0
+ItemBreaks integers (mark p) x about = ⊥
+ItemBreaks integers (change g) x about = ChangeBreaks integers g x about
+ItemBreaks integers (node (declares var line) m) x about = ⊥
+ItemBreaks integers (node (changes g) m) x about = ChangeBreaks integers g x about
+ItemBreaks integers (node (assumes e line) m) x about = Breaks integers e x about
+ItemBreaks integers (node (asserts e at line) m) x about = Breaks integers e x about ⊎ (May integers e x (pos 0)
+    × (about ≡ record { kind = Assert; at = at }))
+ItemBreaks integers (node (never at line) m) x about = about ≡ record { kind = Error; at = at }
+ItemBreaks integers (node (branch e first second line) m) x about = Breaks integers e x about
+ItemBreaks integers (node (loop kind e body line) m) x about = ⊥
+ItemBreaks integers (node (jump kind line) m) x about = ⊥
+ItemBreaks integers (node (label name line) m) x about = ⊥
+ItemBreaks integers (turn kind e body line m) x about = Breaks integers e x about
+ItemBreaks integers (end kind e body line m) x about = ⊥
 
 -- a check is true in a run: at no configuration of it does its first item break it
-abbrev pub CheckIsTrue : Check → List Configuration → Type 0
-CheckIsTrue about run = (c : Configuration) → Contains run c → (item : Item) → (rest : List Item) → c.work ≡ item ∷ rest
-    → ¬ (ItemBreaks item c.state about)
+abbrev pub CheckIsTrue : Integers → Check → List Configuration → Type 0
+CheckIsTrue integers about run = (c : Configuration) → Contains run c → (item : Item) → (rest : List Item) → c.work ≡ item ∷ rest
+    → ¬ (ItemBreaks integers item c.state about)

@@ -1,7 +1,7 @@
 -- Expressions as their leftmost operands and the signs behind these.
-use Rattle.std.proofs.Common.{◌≡◌, ◌∙◌, ◌≤◌, ◌++◌, ℕ, suc, Bool, true, false, List, [], ◌∷◌, Option, Some, None, Result, Ok, Err, refl}
+use Rattle.std.proofs.Common.{◌≡◌, ◌∙◌, ◌≤◌, ◌++◌, ℕ, suc, List, [], ◌∷◌, Option, Some, None, Result, Ok, Err, refl}
 use Rattle.std.proofs.Common.{sym, ap, ap₂}
-use Rattle.std.proofs.Common.{subst, arith, append_assoc, append-nil}
+use Rattle.std.proofs.Common.{arith, append_assoc, append-nil}
 use Rattle.source_tree.specs.Expressions.{Expression}
 use Rattle.source_grammar.specs.Tokens.{Op, Token, token, infix_sign, level}
 use Rattle.source_grammar.specs.Grammar as tree
@@ -13,14 +13,14 @@ use Rattle.source_meaning.specs.Expressions.{first_of, read}
 use Rattle.source_value.specs.declared.site.Site.{Site}
 use Rattle.source_value.specs.declared.value.Value.{Value}
 use Rattle.source_reader.specs.declared.stop.Stop.{Stop}
-use Rattle.source_reader.specs.Answers.{Answers}
 use Rattle.source_reader.specs.Reading.{Reading, first_kind}
-use Rattle.source_expression.specs.Signs.{goes_on, sign_in}
+use Rattle.source_expression.specs.Signs.{sign_in}
 use Rattle.source_expression.specs.Sides.{IsRead}
 use Rattle.source_expression.specs.Readings.{Reads}
 use Rattle.source_expression.specs.Joins.{Join, spell_joins, Falls, Stops, joined_with, goes_with}
-use Rattle.source_expression.proofs.Answering.{err_then, ok_then, wanted_of}
+use Rattle.source_expression.proofs.Answering.{err_then, wanted_of}
 use Rattle.source_expression.proofs.Shapes.{level_between, stops_more, stops_looser, stops_signs, sign_found}
+use Rattle.base_integers.specs.declared.integers.Integers.{Integers}
 
 -- ---- results
 bind_ok : {A : Type 0} (r : Result A FunctionFault) → (r >>= λ x. Ok x) ≡ r
@@ -56,16 +56,17 @@ spell_more [] j = ap (λ ts. token (infix_sign j.op) j.at ∷ ts) (append-nil (s
 spell_more (k ∷ js) j = ap (λ ts. token (infix_sign k.op) k.at ∷ ts)
     (ap (λ ts. spell_expr k.right ++ ts) (spell_more js j) ∙ sym (append_assoc (spell_expr k.right) (spell_joins js) _))
 
-module _ (line : ℕ) (st : State) (first h : ℕ) where
-  goes_more : (x : Expression) (js : List Join) (j : Join) → goes_with line st first x (one_more js j) h
-      ≡ (goes_with line st first x js h >>= λ y. joined_with line st first y j h)
-  goes_more x [] j = bind_ok (joined_with line st first x j h)
-  goes_more x (k ∷ js) j = bind_same (joined_with line st first x k h) (λ y. goes_with line st first y (one_more js j) h)
-      (λ y. goes_with line st first y js h >>= λ z. joined_with line st first z j h) (λ y. goes_more y js j)
-      ∙ sym (bind_assoc (joined_with line st first x k h) (λ y. goes_with line st first y js h) (λ z. joined_with line st first z j h))
+module _ (integers : Integers) (line : ℕ) (st : State) (first h : ℕ) where
+  goes_more : (x : Expression) (js : List Join) (j : Join) → goes_with integers line st first x (one_more js j) h
+      ≡ (goes_with integers line st first x js h >>= λ y. joined_with integers line st first y j h)
+  goes_more x [] j = bind_ok (joined_with integers line st first x j h)
+  goes_more x (k ∷ js) j = bind_same (joined_with integers line st first x k h) (λ y. goes_with integers line st first y (one_more js j) h)
+      (λ y. goes_with integers line st first y js h >>= λ z. joined_with integers line st first z j h) (λ y. goes_more y js j)
+      ∙ sym (bind_assoc (joined_with integers line st first x k h) (λ y. goes_with integers line st first y js h)
+      (λ z. joined_with integers line st first z j h))
 
 -- An expression is an operand with the signs behind it, none of which holds looser than this level.
-pub record Split (line : ℕ) (st : State) (h least : ℕ) (e : Expr) : Type 0 where
+pub record Split (integers : Integers) (line : ℕ) (st : State) (h least : ℕ) (e : Expr) : Type 0 where
   -- the leftmost operand
   pub operand : Expr
   -- the signs behind it
@@ -79,10 +80,10 @@ pub record Split (line : ℕ) (st : State) (h least : ℕ) (e : Expr) : Type 0 w
   -- both are spelled alike
   pub spelled : spell_expr e ≡ spell_expr operand ++ spell_joins joins
   -- both are read alike
-  pub reads : read line st e h ≡ (read line st operand h >>= λ x. goes_with line st (first_of operand) x joins h)
+  pub reads : read integers line st e h ≡ (read integers line st operand h >>= λ x. goes_with integers line st (first_of operand) x joins h)
 
-module _ (line : ℕ) (st : State) (h : ℕ) where
-  alone : (least : ℕ) (e : Expr) → Groups 7 e → Split line st h least e
+module _ (integers : Integers) (line : ℕ) (st : State) (h : ℕ) where
+  alone : (least : ℕ) (e : Expr) → Groups 7 e → Split integers line st h least e
   alone least e g = record {
     operand = e;
     joins = [];
@@ -90,11 +91,11 @@ module _ (line : ℕ) (st : State) (h : ℕ) where
     falls = tt;
     first = refl;
     spelled = sym (append-nil (spell_expr e));
-    reads = sym (bind_ok (read line st e h));
+    reads = sym (bind_ok (read integers line st e h));
   }
 
   with_join : (least : ℕ) (e : Expr) (o : Op) (a : ℕ) (f : Expr) → least ≤ level o → Groups (suc (level o)) f
-      → Split line st h (level o) e → Split line st h least (tree.joined e o a f)
+      → Split integers line st h (level o) e → Split integers line st h least (tree.joined e o a f)
   with_join least e o a f l g s =
       let j : Join = record { op = o; at = a; right = f } in
       let first = first_of s.operand in
@@ -107,13 +108,14 @@ module _ (line : ℕ) (st : State) (h : ℕ) where
         spelled = ap (λ ts. ts ++ token (infix_sign o) a ∷ spell_expr f) s.spelled
             ∙ append_assoc (spell_expr s.operand) (spell_joins s.joins) _
             ∙ ap (λ ts. spell_expr s.operand ++ ts) (sym (spell_more s.joins j));
-        reads = ap₂ (λ r n. r >>= λ x. joined_with line st n x j h) s.reads s.first
-            ∙ bind_assoc (read line st s.operand h) (λ x. goes_with line st first x s.joins h) (λ y. joined_with line st first y j h)
-            ∙ bind_same (read line st s.operand h) _ _ (λ x. sym (goes_more line st first h x s.joins j));
+        reads = ap₂ (λ r n. r >>= λ x. joined_with integers line st n x j h) s.reads s.first
+            ∙ bind_assoc (read integers line st s.operand h) (λ x. goes_with integers line st first x s.joins h)
+            (λ y. joined_with integers line st first y j h)
+            ∙ bind_same (read integers line st s.operand h) _ _ (λ x. sym (goes_more integers line st first h x s.joins j));
       }
 
   -- each is one
-  pub split : (least : ℕ) (e : Expr) → 1 ≤ least → Groups least e → Split line st h least e
+  pub split : (least : ℕ) (e : Expr) → 1 ≤ least → Groups least e → Split integers line st h least e
   split least (tree.number v a) l g = alone least (tree.number v a) g
   split least (tree.variable x a) l g = alone least (tree.variable x a) g
   split least (tree.element x a b e c) l g = alone least (tree.element x a b e c) g
@@ -141,7 +143,7 @@ pub record Goes (site : Site) (st : State) (h least first : ℕ) (e : Expr) (res
   -- the code has what was read
   pub stands : IsRead site h v so_far
   -- both are read alike
-  pub reads : read site.line st e h ≡ goes_with site.line st first so_far joins h
+  pub reads : read site.integers site.line st e h ≡ goes_with site.integers site.line st first so_far joins h
 
 -- an expression stops before the next of its signs
 pub stops_join : (least : ℕ) (o : Op) (js : List Join) (rest : List Token) → least ≤ level o → Falls least (level o) js → Stops least rest
@@ -154,8 +156,9 @@ module _ (site : Site) (st : State) (h least first : ℕ) (e : Expr) (rest : Lis
   Here v ahead = Goes site st h least first e rest v ahead
 
   -- behind the operand
-  pub goes_first : (s : Split site.line st h least e) (v : Value) (x : Expression) (ahead : List Token) → first ≡ first_of s.operand
-      → read site.line st s.operand h ≡ Ok x → IsRead site h v x → ahead ≡ spell_joins s.joins ++ rest → Here v ahead
+  pub goes_first : (s : Split site.integers site.line st h least e) (v : Value) (x : Expression) (ahead : List Token)
+      → first ≡ first_of s.operand
+      → read site.integers site.line st s.operand h ≡ Ok x → IsRead site h v x → ahead ≡ spell_joins s.joins ++ rest → Here v ahead
   goes_first s v x ahead p r i a = record {
     so_far = x;
     joins = s.joins;
@@ -163,15 +166,16 @@ module _ (site : Site) (st : State) (h least first : ℕ) (e : Expr) (rest : Lis
     falls = s.falls;
     ahead_is = a;
     stands = i;
-    reads = s.reads ∙ ap₂ (λ r n. r >>= λ x. goes_with site.line st n x s.joins h) r (sym p);
+    reads = s.reads ∙ ap₂ (λ r n. r >>= λ x. goes_with site.integers site.line st n x s.joins h) r (sym p);
   }
 
   -- where no sign is found
   pub goes_last : (v : Value) (after : Reading) → Here v after.ahead → sign_in least (first_kind after.ahead) ≡ None
-      → Reads site h (read site.line st e h) rest (Ok v) after
+      → Reads site h (read site.integers site.line st e h) rest (Ok v) after
   goes_last v after g n = by g.joins g.falls g.ahead_is g.reads where
     by : (js : List Join) → Falls least g.most js → after.ahead ≡ spell_joins js ++ rest
-        → read site.line st e h ≡ goes_with site.line st first g.so_far js h → Reads site h (read site.line st e h) rest (Ok v) after
+        → read site.integers site.line st e h ≡ goes_with site.integers site.line st first g.so_far js h
+        → Reads site h (read site.integers site.line st e h) rest (Ok v) after
     by [] f a r = (g.so_far, r, (g.stands, a))
     by (j ∷ js) f a r =
         let k : first_kind after.ahead ≡ infix_sign j.op = ap first_kind a in
@@ -184,16 +188,17 @@ module _ (site : Site) (st : State) (h least first : ℕ) (e : Expr) (rest : Lis
   Joins v o ahead result after = (x : Expression) (h : ℕ) (j : Join) (rest : List Token) → IsRead site h v x → j.op ≡ o
       → Groups (suc (level j.op)) j.right → Stops (suc (level j.op)) rest
       → ahead ≡ token (infix_sign j.op) j.at ∷ (spell_expr j.right ++ rest)
-      → Reads site h (joined_with site.line st first x j h) rest result after
+      → Reads site h (joined_with site.integers site.line st first x j h) rest result after
 
   -- what that has to give
   abbrev pub Then : Result Value Stop → Reading → Type 0
   Then (Ok v) after = Here v after.ahead
-  Then (Err s) after = Reads site h (read site.line st e h) rest (Err s) after
+  Then (Err s) after = Reads site h (read site.integers site.line st e h) rest (Err s) after
 
   then_of : (x : Expression) (j : Join) (js : List Join) (most : ℕ) (result : Result Value Stop) (after : Reading) → Falls least most js
-      → read site.line st e h ≡ (joined_with site.line st first x j h >>= λ y. goes_with site.line st first y js h)
-      → Reads site h (joined_with site.line st first x j h) (spell_joins js ++ rest) result after → Then result after
+      → read site.integers site.line st e h ≡ (joined_with site.integers site.line st first x j h >>= λ y. goes_with site.integers
+      site.line st first y js h)
+      → Reads site h (joined_with site.integers site.line st first x j h) (spell_joins js ++ rest) result after → Then result after
   then_of x j js most (Ok v) after f r a = record {
     so_far = a.0;
     joins = js;
@@ -201,18 +206,18 @@ module _ (site : Site) (st : State) (h least first : ℕ) (e : Expr) (rest : Lis
     falls = f;
     ahead_is = a.2.1;
     stands = a.2.0;
-    reads = r ∙ ap (λ w. w >>= λ y. goes_with site.line st first y js h) a.1;
+    reads = r ∙ ap (λ w. w >>= λ y. goes_with site.integers site.line st first y js h) a.1;
   }
   then_of x j js most (Err s) after f r a = wanted_of (λ v x. IsRead site h v x × (after.ahead ≡ rest)) (Err s) _ _ r
       (err_then (λ v x. IsRead site h v x × (after.ahead ≡ spell_joins js ++ rest)) (λ v x. IsRead site h v x × (after.ahead ≡ rest)) s
-      (joined_with site.line st first x j h) (λ y. goes_with site.line st first y js h) a)
+      (joined_with site.integers site.line st first x j h) (λ y. goes_with site.integers site.line st first y js h) a)
 
   -- where one is found
   pub goes_next : (v : Value) (ahead : List Token) (o : Op) (result : Result Value Stop) (after : Reading) → Here v ahead
       → sign_in least (first_kind ahead) ≡ Some o → Joins v o ahead result after → Then result after
   goes_next v ahead o result after g n k = by g.joins g.falls g.ahead_is g.reads where
     by : (js : List Join) → Falls least g.most js → ahead ≡ spell_joins js ++ rest
-        → read site.line st e h ≡ goes_with site.line st first g.so_far js h → Then result after
+        → read site.integers site.line st e h ≡ goes_with site.integers site.line st first g.so_far js h → Then result after
     by [] f a r =
         let m : Option Op = None in
         let t : Some o ≡ m = sym n ∙ ap (λ ts. sign_in least (first_kind ts)) a ∙ stops_signs least (first_kind rest) stops in

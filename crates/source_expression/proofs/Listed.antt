@@ -1,5 +1,5 @@
 -- Arguments, one after another.
-use Rattle.std.proofs.Common.{◌≡◌, ◌∙◌, ◌≤◌, ◌++◌, ℕ, true, false, List, [], ◌∷◌, Result, Ok, Err, refl, sym, ap, subst, append_assoc}
+use Rattle.std.proofs.Common.{◌≡◌, ◌∙◌, ◌++◌, ℕ, true, false, List, Ok, refl, sym, ap, subst, append_assoc}
 use Rattle.std.proofs.Common.{append-nil}
 use Rattle.lang_tree.specs.Tree.{Deed}
 use Rattle.source_tree.specs.Expressions.{Expression, Expressions, none, more}
@@ -8,7 +8,6 @@ use Rattle.source_grammar.specs.Tokens.{Token, right_paren}
 use Rattle.source_grammar.specs.Grammar.{Expr, MoreArguments, last_argument, next_argument, spell_expr, spell_more_arguments}
 use Rattle.source_grammar.specs.Grammar.{Groups, GoodMoreArguments}
 use Rattle.source_grammar.proofs.grammar.Follow.{AfterExpr}
-use Rattle.source_meaning.specs.declared.fault.FunctionFault.{FunctionFault}
 use Rattle.source_meaning.specs.Results.{◌>>=◌}
 use Rattle.source_meaning.specs.Names.{State}
 use Rattle.source_meaning.specs.Expressions.{read, read_more}
@@ -20,6 +19,7 @@ use Rattle.source_expression.specs.Sides.{IsEvaluatedOf}
 use Rattle.source_expression.specs.Readings.{ReadsAll}
 use Rattle.source_expression.specs.Joins.{with_last, read_behind}
 use Rattle.source_expression.proofs.Joined.{bind_assoc, bind_same}
+use Rattle.base_integers.specs.declared.integers.Integers.{Integers}
 
 made : List Deed → ℕ → Evaluated
 made ds n = record { prelude = ds; next = n }
@@ -28,19 +28,19 @@ made ds n = record { prelude = ds; next = n }
 abbrev pub and_one : Expressions → Expression → Expressions
 and_one xs x = with_last xs (more x none)
 
-module _ (line : ℕ) where
+module _ (integers : Integers) (line : ℕ) where
   -- are evaluated so
-  pub one_more : (xs : Expressions) (x : Expression) (h : ℕ) → evaluated line (and_one xs x) h
+  pub one_more : (xs : Expressions) (x : Expression) (h : ℕ) → evaluated integers line (and_one xs x) h
       ≡ record {
-        prelude = (evaluated line xs h).prelude ++ (elaborated line x (evaluated line xs h).next).prelude;
-        next = (elaborated line x (evaluated line xs h).next).next;
+        prelude = (evaluated integers line xs h).prelude ++ (elaborated integers line x (evaluated integers line xs h).next).prelude;
+        next = (elaborated integers line x (evaluated integers line xs h).next).next;
       }
   unfolding made
-  one_more none x h = ap (λ ds. made ds (elaborated line x h).next) (append-nil (elaborated line x h).prelude)
+  one_more none x h = ap (λ ds. made ds (elaborated integers line x h).next) (append-nil (elaborated integers line x h).prelude)
   one_more (more y ys) x h =
-      let a = elaborated line y h in
-      let b = evaluated line ys a.next in
-      let c = elaborated line x b.next in
+      let a = elaborated integers line y h in
+      let b = evaluated integers line ys a.next in
+      let c = elaborated integers line x b.next in
       ap (λ (e : Evaluated). made (a.prelude ++ e.prelude) e.next) (one_more ys x a.next)
       ∙ ap (λ ds. made ds c.next) (sym (append_assoc a.prelude b.prelude c.prelude))
 
@@ -53,24 +53,28 @@ with_two none x ys = refl
 with_two (more z zs) x ys = ap (more z) (with_two zs x ys)
 
 -- what comes next of a value, and then next of that, comes next
-module _ (line : ℕ) (st : State) where
+module _ (integers : Integers) (line : ℕ) (st : State) where
   -- one more argument is read behind some
   pub read_next : (xs : Expressions) (a : ℕ) (e : Expr) (es : MoreArguments) (h : ℕ)
-      → read_behind line st xs (next_argument a e es) h
-      ≡ (read line st e (evaluated line xs h).next >>= λ x. read_behind line st (and_one xs x) es h)
+      → read_behind integers line st xs (next_argument a e es) h
+      ≡ (read integers line st e (evaluated integers line xs h).next >>= λ x. read_behind integers line st (and_one xs x) es h)
   read_next xs a e es h =
-      let n = (evaluated line xs h).next in
-      bind_assoc (read line st e n) (λ x. read_more line st es (elaborated line x n).next >>= λ ys. Ok (more x ys)) (λ ys. Ok
+      let n = (evaluated integers line xs h).next in
+      bind_assoc (read integers line st e n) (λ x. read_more integers line st es (elaborated integers line x n).next >>= λ ys. Ok
+      (more x ys)) (λ ys. Ok
       (with_last xs ys))
-      ∙ bind_same (read line st e n) _ (λ x. read_behind line st (and_one xs x) es h) (λ x. by x) where
-        by : (x : Expression) → ((read_more line st es (elaborated line x (evaluated line xs h).next).next >>= λ ys. Ok (more x ys))
-            >>= λ ys. Ok (with_last xs ys)) ≡ read_behind line st (and_one xs x) es h
+      ∙ bind_same (read integers line st e n) _ (λ x. read_behind integers line st (and_one xs x) es h) (λ x. by x) where
+        by : (x : Expression) → ((read_more integers line st es (elaborated integers line x
+            (evaluated integers line xs h).next).next >>= λ ys. Ok (more x ys))
+            >>= λ ys. Ok (with_last xs ys)) ≡ read_behind integers line st (and_one xs x) es h
         by x =
-            let n = (evaluated line xs h).next in
-            bind_assoc (read_more line st es (elaborated line x n).next) (λ ys. Ok (more x ys)) (λ ys. Ok (with_last xs ys))
-            ∙ bind_same (read_more line st es (elaborated line x n).next) (λ ys. Ok (with_last xs (more x ys)))
+            let n = (evaluated integers line xs h).next in
+            bind_assoc (read_more integers line st es (elaborated integers line x n).next) (λ ys. Ok (more x ys)) (λ ys. Ok
+            (with_last xs ys))
+            ∙ bind_same (read_more integers line st es (elaborated integers line x n).next) (λ ys. Ok (with_last xs (more x ys)))
             (λ ys. Ok (with_last (and_one xs x) ys)) (λ ys. ap Ok (sym (with_two xs x ys)))
-            ∙ ap (λ (d : Evaluated). read_more line st es d.next >>= λ ys. Ok (with_last (and_one xs x) ys)) (sym (one_more line xs x h))
+            ∙ ap (λ (d : Evaluated). read_more integers line st es d.next >>= λ ys. Ok (with_last (and_one xs x) ys)) (sym
+            (one_more integers line xs x h))
 
 -- arguments are read up to some of them
 pub record Listing (site : Site) (st : State) (h : ℕ) (xs : Expressions) (es : MoreArguments) (rest : List Token) (v : prelude.Evaluated)
@@ -86,7 +90,7 @@ pub record Listing (site : Site) (st : State) (h : ℕ) (xs : Expressions) (es :
   -- the code has what was read
   pub stands : IsEvaluatedOf site h v so_far
   -- all are read alike
-  pub reads : read_behind site.line st xs es h ≡ read_behind site.line st so_far others h
+  pub reads : read_behind site.integers site.line st xs es h ≡ read_behind site.integers site.line st so_far others h
 
 module _ (site : Site) (st : State) (h : ℕ) (xs : Expressions) (es : MoreArguments) (rest : List Token) where
   abbrev Here : prelude.Evaluated → List Token → Type 0
@@ -99,11 +103,11 @@ module _ (site : Site) (st : State) (h : ℕ) (xs : Expressions) (es : MoreArgum
 
   -- where no comma comes next
   pub listing_last : (v : prelude.Evaluated) (after : Reading) → Here v after.ahead → is_comma (first_kind after.ahead) ≡ false
-      → ReadsAll site h (read_behind site.line st xs es h) rest (Ok v) after
+      → ReadsAll site h (read_behind site.integers site.line st xs es h) rest (Ok v) after
   listing_last v after g n = by g.others g.ahead_is g.reads where
     by : (fs : MoreArguments) → after.ahead ≡ spell_more_arguments fs ++ rest
-        → read_behind site.line st xs es h ≡ read_behind site.line st g.so_far fs h
-        → ReadsAll site h (read_behind site.line st xs es h) rest (Ok v) after
+        → read_behind site.integers site.line st xs es h ≡ read_behind site.integers site.line st g.so_far fs h
+        → ReadsAll site h (read_behind site.integers site.line st xs es h) rest (Ok v) after
     by last_argument a r = (with_last g.so_far none, r, (subst (IsEvaluatedOf site h v) (sym (with_none g.so_far)) g.stands, a))
     by (next_argument b f fs) a r =
         let t : true ≡ false = sym (ap (λ ts. is_comma (first_kind ts)) a) ∙ n in
@@ -114,15 +118,16 @@ module _ (site : Site) (st : State) (h : ℕ) (xs : Expressions) (es : MoreArgum
       → is_comma (first_kind ahead) ≡ true → behind ≡ behind_first ahead
       → (e : Expr) × (fs : MoreArguments) × (xs' : Expressions) × Groups 0 e × GoodMoreArguments fs × IsEvaluatedOf site h v xs'
       × (behind ≡ spell_expr e ++ (spell_more_arguments fs ++ rest))
-      × (read_behind site.line st xs es h ≡ (read site.line st e (evaluated site.line xs' h).next
-      >>= λ x. read_behind site.line st (and_one xs' x) fs h))
+      × (read_behind site.integers site.line st xs es h ≡ (read site.integers site.line st e (evaluated site.integers site.line xs' h).next
+      >>= λ x. read_behind site.integers site.line st (and_one xs' x) fs h))
   listing_comma v ahead behind g c n b = by g.others g.good g.ahead_is g.reads where
     by : (fs : MoreArguments) → GoodMoreArguments fs → ahead ≡ spell_more_arguments fs ++ rest
-        → read_behind site.line st xs es h ≡ read_behind site.line st g.so_far fs h
+        → read_behind site.integers site.line st xs es h ≡ read_behind site.integers site.line st g.so_far fs h
         → (e : Expr) × (fs : MoreArguments) × (xs' : Expressions) × Groups 0 e × GoodMoreArguments fs × IsEvaluatedOf site h v xs'
         × (behind ≡ spell_expr e ++ (spell_more_arguments fs ++ rest))
-        × (read_behind site.line st xs es h ≡ (read site.line st e (evaluated site.line xs' h).next
-        >>= λ x. read_behind site.line st (and_one xs' x) fs h))
+        × (read_behind site.integers site.line st xs es h ≡ (read site.integers site.line st e
+        (evaluated site.integers site.line xs' h).next
+        >>= λ x. read_behind site.integers site.line st (and_one xs' x) fs h))
     by last_argument o a r =
         let t : false ≡ true = sym (ap is_comma (ap first_kind a ∙ c)) ∙ n in
         absurd cc
@@ -134,7 +139,7 @@ module _ (site : Site) (st : State) (h : ℕ) (xs : Expressions) (es : MoreArgum
       o.1,
       g.stands,
       b ∙ ap behind_first a ∙ append_assoc (spell_expr e) (spell_more_arguments fs) rest,
-      r ∙ read_next site.line st g.so_far d e fs h,
+      r ∙ read_next site.integers site.line st g.so_far d e fs h,
     )
 
 -- what stands behind an argument ends it

@@ -1,5 +1,5 @@
 -- Whole expressions.
-use Rattle.std.proofs.Common.{◌≡◌, ◌∙◌, ◌≤◌, ◌++◌, ℕ, Bool, true, false, List, [], ◌∷◌, Option, Some, None, Result, Ok, Err, refl, sym, ap}
+use Rattle.std.proofs.Common.{◌≡◌, ◌∙◌, ◌≤◌, ◌++◌, ℕ, true, false, List, [], ◌∷◌, Result, Ok, Err, refl, sym, ap}
 use Rattle.std.proofs.Common.{arith, append_assoc}
 use Rattle.std.specs.Result.{IsErrAnd}
 use Rattle.source_tree.specs.Expressions.{Expression}
@@ -7,17 +7,14 @@ use Rattle.source_grammar.specs.Tokens as g
 use Rattle.source_grammar.specs.Tokens.{Kind, Op, Token, token, infix_sign, question, colon}
 use Rattle.source_grammar.specs.Grammar as tree
 use Rattle.source_grammar.specs.Grammar.{Expr, spell_expr, Groups}
-use Rattle.source_grammar.specs.View.{plain_kind}
 use Rattle.source_grammar.proofs.grammar.Follow.{AfterExpr}
-use Rattle.source_meaning.specs.Results.{◌>>=◌}
 use Rattle.source_meaning.specs.Names.{State}
 use Rattle.source_meaning.specs.Expressions.{first_of, read}
 use Rattle.source_value.specs.declared.site.Site.{Site}
 use Rattle.source_value.specs.declared.value.Value.{Value}
 use Rattle.source_reader.specs.declared.stop.Stop.{Stop}
-use Rattle.source_reader.specs.Answers.{Answers}
 use Rattle.source_reader.specs.Reading.{Reading, first_kind, first_place}
-use Rattle.source_expression.specs.Signs.{goes_on, sign_in, is_question}
+use Rattle.source_expression.specs.Signs.{is_question}
 use Rattle.source_expression.specs.Sides.{IsRead}
 use Rattle.source_expression.specs.Readings.{Reads}
 use Rattle.source_expression.specs.Joins.{Join, spell_joins, Stops, chosen_with}
@@ -29,8 +26,8 @@ use Rattle.source_expression.proofs.Joined.{Split, split, Goes, goes_first}
 module _ (site : Site) (st : State) (h least : ℕ) (e : Expr) (rest : List Token) (l : 1 ≤ least) (g : Groups least e)
     (s : Stops least rest) (old : Reading) (q : old.ahead ≡ spell_expr e ++ rest) where
   -- the operand and its signs
-  abbrev pub parts : Split site.line st h least e
-  parts = split site.line st h least e l g
+  abbrev pub parts : Split site.integers site.line st h least e
+  parts = split site.integers site.line st h least e l g
 
   -- what stands behind the operand
   abbrev pub behind_operand : List Token
@@ -49,16 +46,17 @@ module _ (site : Site) (st : State) (h least : ℕ) (e : Expr) (rest : List Toke
 
   -- a fault of the operand
   pub operand_fault : (out : Result Value Stop) (x : Stop) (after later : Reading) → IsErrAnd out (λ z. z ≡ x)
-      → Reads site h (read site.line st parts.operand h) behind_operand (Err x) after
-      → Reads site h (read site.line st e h) rest out later
+      → Reads site h (read site.integers site.line st parts.operand h) behind_operand (Err x) after
+      → Reads site h (read site.integers site.line st e h) rest out later
   operand_fault out x after later k a =
       let As : Value → Expression → Type 0 = λ v x. IsRead site h v x × (later.ahead ≡ rest) in
-      wanted_of As out (read site.line st e h) _ parts.reads
-      (handed_then (λ v x. IsRead site h v x × (after.ahead ≡ behind_operand)) As out x (read site.line st parts.operand h) _ k a)
+      wanted_of As out (read site.integers site.line st e h) _ parts.reads
+      (handed_then (λ v x. IsRead site h v x × (after.ahead ≡ behind_operand)) As out x
+      (read site.integers site.line st parts.operand h) _ k a)
 
   -- where it has none
   pub operand_read : (v : Value) (after : Reading) (first : ℕ) → first ≡ first_place old.ahead
-      → Reads site h (read site.line st parts.operand h) behind_operand (Ok v) after
+      → Reads site h (read site.integers site.line st parts.operand h) behind_operand (Ok v) after
       → Goes site st h least first e rest v after.ahead
   operand_read v after first p a = goes_first site st h least first e rest s parts v a.0 after.ahead
       (p ∙ ap first_place operand_ahead ∙ first_place_of parts.operand behind_operand) a.1 a.2.0 a.2.1
@@ -86,24 +84,24 @@ module _ (site : Site) (st : State) (h : ℕ) (old : Reading) where
   -- what reading an expression without a choice answers
   abbrev pub ReadsJoins : Result Value Stop → Reading → Type 0
   ReadsJoins result after = (e : Expr) (rest : List Token) → 1 ≤ 1 → Groups 1 e → Stops 1 rest → old.ahead ≡ spell_expr e ++ rest
-      → Reads site h (read site.line st e h) rest result after
+      → Reads site h (read site.integers site.line st e h) rest result after
 
   -- what reading an expression answers
   abbrev pub ReadsWhole : Result Value Stop → Reading → Type 0
   ReadsWhole result after = (e : Expr) (rest : List Token) → Groups 0 e → AfterExpr (first_kind rest) → old.ahead ≡ spell_expr e ++ rest
-      → Reads site h (read site.line st e h) rest result after
+      → Reads site h (read site.integers site.line st e h) rest result after
 
   -- a fault of what stands before a `?`, or of the whole
   pub whole_fault : (out : Result Value Stop) (x : Stop) (after later : Reading) → IsErrAnd out (λ z. z ≡ x) → ReadsJoins (Err x) after
       → ReadsWhole out later
   whole_fault out x after later k r e rest g a q =
-      let M : Expr → Type 0 = λ e. old.ahead ≡ spell_expr e ++ rest → Reads site h (read site.line st e h) rest out later in
+      let M : Expr → Type 0 = λ e. old.ahead ≡ spell_expr e ++ rest → Reads site h (read site.integers site.line st e h) rest out later in
       choice_or M e g
       (λ g q. handed (λ v x. IsRead site h v x × (after.ahead ≡ rest)) (λ v x. IsRead site h v x × (later.ahead ≡ rest)) out x
-      (read site.line st e h) k (r e rest (omega arith) g (after_stops 1 (first_kind rest) a) q))
+      (read site.integers site.line st e h) k (r e rest (omega arith) g (after_stops 1 (first_kind rest) a) q))
       (λ c d f b j gc gf gj q. handed_then (λ v x. IsRead site h v x × (after.ahead ≡ behind_condition c d f b j rest))
-      (λ v x. IsRead site h v x × (later.ahead ≡ rest)) out x (read site.line st c h)
-      (λ x. chosen_with site.line st (first_of c) d x f j h) k
+      (λ v x. IsRead site h v x × (later.ahead ≡ rest)) out x (read site.integers site.line st c h)
+      (λ x. chosen_with site.integers site.line st (first_of c) d x f j h) k
       (r c (behind_condition c d f b j rest) (omega arith) gc refl (q ∙ choice_ahead c d f b j rest)))
       q
 
@@ -111,7 +109,8 @@ module _ (site : Site) (st : State) (h : ℕ) (old : Reading) where
   pub whole_read : (v : Value) (after : Reading) → ReadsJoins (Ok v) after → is_question (first_kind after.ahead) ≡ false
       → ReadsWhole (Ok v) after
   whole_read v after r n e rest g a q =
-      let M : Expr → Type 0 = λ e. old.ahead ≡ spell_expr e ++ rest → Reads site h (read site.line st e h) rest (Ok v) after in
+      let M : Expr → Type 0 = λ e. old.ahead ≡ spell_expr e ++ rest
+      → Reads site h (read site.integers site.line st e h) rest (Ok v) after in
       choice_or M e g (λ g q. r e rest (omega arith) g (after_stops 1 (first_kind rest) a) q)
       (λ c d f b j gc gf gj q.
       let t = r c (behind_condition c d f b j rest) (omega arith) gc refl (q ∙ choice_ahead c d f b j rest) in
@@ -124,13 +123,13 @@ module _ (site : Site) (st : State) (h : ℕ) (old : Reading) where
   ReadsChoice first v now result after = (x : Expression) (h sign between : ℕ) (e f : Expr) (rest : List Token) → IsRead site h v x
       → Groups 0 e → Groups 0 f → AfterExpr (first_kind rest)
       → now.ahead ≡ token question sign ∷ (spell_expr e ++ token colon between ∷ (spell_expr f ++ rest))
-      → Reads site h (chosen_with site.line st first sign x e f h) rest result after
+      → Reads site h (chosen_with site.integers site.line st first sign x e f h) rest result after
 
   -- what is read where one does
   pub whole_choice : (first : ℕ) (v : Value) (now after : Reading) (out : Result Value Stop) → first ≡ first_place old.ahead
       → ReadsJoins (Ok v) now → is_question (first_kind now.ahead) ≡ true → ReadsChoice first v now out after → ReadsWhole out after
   whole_choice first v now after out p r n m e rest g a q =
-      let M : Expr → Type 0 = λ e. old.ahead ≡ spell_expr e ++ rest → Reads site h (read site.line st e h) rest out after in
+      let M : Expr → Type 0 = λ e. old.ahead ≡ spell_expr e ++ rest → Reads site h (read site.integers site.line st e h) rest out after in
       choice_or M e g
       (λ g q.
       let t = r e rest (omega arith) g (after_stops 1 (first_kind rest) a) q in
@@ -140,7 +139,8 @@ module _ (site : Site) (st : State) (h : ℕ) (old : Reading) where
       let t = r c (behind_condition c d f b j rest) (omega arith) gc refl w in
       let i : first ≡ first_of c = p ∙ ap first_place w ∙ first_place_of c (behind_condition c d f b j rest) in
       let As : Value → Expression → Type 0 = λ v x. IsRead site h v x × (after.ahead ≡ rest) in
-      ok_then As out (read site.line st c h) t.0 (λ x. chosen_with site.line st (first_of c) d x f j h) t.1
-      (wanted_of As out (chosen_with site.line st (first_of c) d t.0 f j h) (chosen_with site.line st first d t.0 f j h)
-      (ap (λ n. chosen_with site.line st n d t.0 f j h) (sym i)) (m t.0 h d b f j rest t.2.0 gf gj a t.2.1)))
+      ok_then As out (read site.integers site.line st c h) t.0 (λ x. chosen_with site.integers site.line st (first_of c) d x f j h) t.1
+      (wanted_of As out (chosen_with site.integers site.line st (first_of c) d t.0 f j h)
+      (chosen_with site.integers site.line st first d t.0 f j h)
+      (ap (λ n. chosen_with site.integers site.line st n d t.0 f j h) (sym i)) (m t.0 h d b f j rest t.2.0 gf gj a t.2.1)))
       q

@@ -1,9 +1,8 @@
 -- An expression as its leftmost operand and the signs behind it, each with its right side.
-use Rattle.std.specs.Prelude.{◌≡◌, ◌≤◌, ◌++◌, ℕ, suc, Bool, false, List, [], ◌∷◌, Result, Ok}
+use Rattle.std.specs.Prelude.{◌≡◌, ◌≤◌, ◌++◌, ℕ, suc, false, List, [], ◌∷◌, Result, Ok}
 use Rattle.source_tree.specs.Expressions.{Expression, Expressions, chosen, none, more}
 use Rattle.source_core.specs.Elaborated.{evaluated}
 use Rattle.source_grammar.specs.Tokens.{Op, Token, token, infix_sign, level}
-use Rattle.source_grammar.specs.Grammar as tree
 use Rattle.source_grammar.specs.Grammar.{Expr, MoreArguments, spell_expr, Groups}
 use Rattle.source_meaning.specs.declared.fault.FunctionFault.{FunctionFault}
 use Rattle.source_meaning.specs.Results.{◌>>=◌}
@@ -12,6 +11,7 @@ use Rattle.source_meaning.specs.Expressions.{first_of, read, read_more, side, be
 use Rattle.source_meaning.specs.Expressions.{as_condition, ranged, behind, behind_number}
 use Rattle.source_reader.specs.Reading.{first_kind}
 use Rattle.source_expression.specs.Signs.{goes_on}
+use Rattle.base_integers.specs.declared.integers.Integers.{Integers}
 
 -- a sign at its place, with its right side
 pub record Join : Type 0 where
@@ -38,15 +38,16 @@ abbrev pub with_last : Expressions → Expressions → Expressions
 with_last none ys = ys
 with_last (more x xs) ys = more x (with_last xs ys)
 
-module _ (line : ℕ) where
+module _ (integers : Integers) (line : ℕ) where
   module _ (st : State) where
     -- what an operand that was read is with one sign and its right side; the first token of the operand is at this place
     abbrev pub joined_with : (first : ℕ) → Expression → Join → (h : ℕ) → Result Expression FunctionFault
     joined_with first x j h =
-        side line (joins_conditions line j.op) first h x
-        >>= λ x. read line st j.right (behind_side line (joins_conditions line j.op) x h)
-        >>= λ y. side line (joins_conditions line j.op) (first_of j.right) (behind_side line (joins_conditions line j.op) x h) y
-        >>= λ y. operated line j.op j.at h x y
+        side integers line (joins_conditions integers line j.op) first h x
+        >>= λ x. read integers line st j.right (behind_side integers line (joins_conditions integers line j.op) x h)
+        >>= λ y. side integers line (joins_conditions integers line j.op) (first_of j.right) (behind_side integers line
+        (joins_conditions integers line j.op) x h) y
+        >>= λ y. operated integers line j.op j.at h x y
 
     -- and with several
     abbrev pub goes_with : (first : ℕ) → Expression → List Join → (h : ℕ) → Result Expression FunctionFault
@@ -56,15 +57,15 @@ module _ (line : ℕ) where
     -- what an expression that was read is as the condition of a choice between two others, with the places of its first token and of `?`
     abbrev pub chosen_with : (first sign : ℕ) → Expression → (e f : Expr) → (h : ℕ) → Result Expression FunctionFault
     chosen_with first sign x e f h =
-        as_condition line first h x
-        >>= λ x. read line st e (behind line x h)
-        >>= λ y. read line st f (behind_number line y (behind line x h))
-        >>= λ z. ranged line sign h (chosen sign x y z)
+        as_condition integers line first h x
+        >>= λ x. read integers line st e (behind integers line x h)
+        >>= λ y. read integers line st f (behind_number integers line y (behind integers line x h))
+        >>= λ z. ranged integers line sign h (chosen sign x y z)
 
     -- an expression as a condition
     abbrev pub read_condition : Expr → (h : ℕ) → Result Expression FunctionFault
-    read_condition e h = read line st e h >>= λ x. as_condition line (first_of e) h x
+    read_condition e h = read integers line st e h >>= λ x. as_condition integers line (first_of e) h x
 
     -- arguments behind some that were read
     abbrev pub read_behind : Expressions → MoreArguments → (h : ℕ) → Result Expressions FunctionFault
-    read_behind xs es h = read_more line st es (evaluated line xs h).next >>= λ ys. Ok (with_last xs ys)
+    read_behind xs es h = read_more integers line st es (evaluated integers line xs h).next >>= λ ys. Ok (with_last xs ys)

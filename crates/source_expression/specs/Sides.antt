@@ -17,31 +17,32 @@ use Rattle.source_expression.specs.declared.signs.Work.TheVariants as work
 use Rattle.source_expression.specs.Signs.{asks_conditions}
 use Rattle.source_expression.specs.declared.sides.Side.{Side}
 use Rattle.source_expression.specs.declared.sides.Side.TheVariants as side_of
+use Rattle.base_integers.specs.declared.integers.Integers.{Integers}
 
 -- hidden variables are taken from h on, in the statement at this site
 module _ (site : Site) (h : ℕ) where
   -- a value stands for an expression
   abbrev pub IsRead : Value → Expression → Type 0
-  IsRead v x = Stands site.variables v (elaborated site.line x h)
+  IsRead v x = Stands site.variables v (elaborated site.integers site.line x h)
 
   -- a number does
   abbrev pub IsNumberOf : Number → Expression → Type 0
-  IsNumberOf v x = StandsNumber site.variables v (numbered site.line (elaborated site.line x h))
+  IsNumberOf v x = StandsNumber site.variables v (numbered site.integers site.line (elaborated site.integers site.line x h))
 
   -- a condition does
   abbrev pub IsTestedOf : Tested → Expression → Type 0
-  IsTestedOf v x = StandsTested site.variables v (tested (elaborated site.line x h))
+  IsTestedOf v x = StandsTested site.variables v (tested (elaborated site.integers site.line x h))
 
   -- a prelude stands for expressions that are evaluated
   abbrev pub IsEvaluatedOf : Evaluated → Expressions → Type 0
-  IsEvaluatedOf v xs = StandsEvaluated site.variables v (evaluated site.line xs h)
+  IsEvaluatedOf v xs = StandsEvaluated site.variables v (evaluated site.integers site.line xs h)
 
 -- a side of an operation stands for an expression, as a condition or as a number
-abbrev pub StandsSide : (n line : ℕ) → (condition : Bool) → (h : ℕ) → Side → Expression → Type 0
-StandsSide n line true h (side_of.Condition v) x = StandsTested n v (tested (elaborated line x h))
-StandsSide n line false h (side_of.Number v) x = StandsNumber n v (numbered line (elaborated line x h))
-StandsSide n line true h (side_of.Number v) x = ⊥
-StandsSide n line false h (side_of.Condition v) x = ⊥
+abbrev pub StandsSide : (integers : Integers) (n line : ℕ) → (condition : Bool) → (h : ℕ) → Side → Expression → Type 0
+StandsSide integers n line true h (side_of.Condition v) x = StandsTested n v (tested (elaborated integers line x h))
+StandsSide integers n line false h (side_of.Number v) x = StandsNumber n v (numbered integers line (elaborated integers line x h))
+StandsSide integers n line true h (side_of.Number v) x = ⊥
+StandsSide integers n line false h (side_of.Condition v) x = ⊥
 
 -- the next hidden variable behind a side
 abbrev pub next_of : Side → ℕ
@@ -49,13 +50,15 @@ next_of (side_of.Number v) = v.next
 next_of (side_of.Condition v) = v.next
 
 -- what a sign at this place makes of its sides
-abbrev pub worked : (line : ℕ) → Work → (sign h : ℕ) → (x y : Expression) → Result Expression FunctionFault
-worked line work.Either sign h x y = Ok (either x y)
-worked line work.Both sign h x y = Ok (both x y)
-worked line (work.Compare rel) sign h x y = ranged line sign h (compared rel sign x y)
-worked line (work.Operate o) sign h x y = ranged line sign h (joined (operation_of o) sign x y)
+abbrev pub worked : (integers : Integers) (line : ℕ) → Work → (sign h : ℕ) → (x y : Expression) → Result Expression FunctionFault
+worked integers line work.Either sign h x y = Ok (either x y)
+worked integers line work.Both sign h x y = Ok (both x y)
+worked integers line (work.Compare rel) sign h x y = ranged integers line sign h (compared rel sign x y)
+worked integers line (work.Operate o) sign h x y = ranged integers line sign h (joined (operation_of o) sign x y)
 
 -- and of one side that was read and of the value of the other, whose first token is at this place
-abbrev pub sides_worked : (line : ℕ) → Work → (sign first h : ℕ) → (x y : Expression) → Result Expression FunctionFault
-sides_worked line w sign first h x y =
-    side line (asks_conditions w) first (behind_side line (asks_conditions w) x h) y >>= λ y. worked line w sign h x y
+abbrev pub sides_worked : (integers : Integers) (line : ℕ) → Work → (sign first h : ℕ) → (x y : Expression)
+    → Result Expression FunctionFault
+sides_worked integers line w sign first h x y =
+    side integers line (asks_conditions w) first (behind_side integers line (asks_conditions w) x h) y
+    >>= λ y. worked integers line w sign h x y

@@ -22,7 +22,7 @@ pub(crate) fn element_behind(
 ) -> Result<Value, Stop>
     ensures reads { (x : Expression) (h at close : ℕ) (rest : List Token) → IsRead site h index x
         → reader.old.ahead ≡ token right_bracket close ∷ rest
-        → Reads site h (ranged site.line bracket h (tree.element size bracket x at)) rest result reader.new }
+        → Reads site h (ranged site.integers site.line bracket h (tree.element size bracket x at)) rest result reader.new }
     ensures goes { GoesOn reader.old reader.new }
 {
     let _close = reader.take(Mark::RightBracket)?;

@@ -30,7 +30,7 @@ pub fn expression(
     next: u32,
 ) -> Result<Value, Stop>
     ensures reads { (e : Expr) (rest : List Token) → Groups 0 e → AfterExpr (first_kind rest)
-        → reader.old.ahead ≡ spell_expr e ++ rest → Reads site next (read site.line known.now e next) rest result reader.new }
+        → reader.old.ahead ≡ spell_expr e ++ rest → Reads site next (read site.integers site.line known.now e next) rest result reader.new }
     ensures goes { GoesOn reader.old reader.new }
 {
     let first = reader.at();
@@ -51,7 +51,7 @@ pub fn condition(
 ) -> Result<Tested, Stop>
     ensures reads { (e : Expr) (rest : List Token) → Groups 0 e → AfterExpr (first_kind rest)
         → reader.old.ahead ≡ spell_expr e ++ rest
-        → ReadsTested site next (read_condition site.line known.now e next) rest result reader.new }
+        → ReadsTested site next (read_condition site.integers site.line known.now e next) rest result reader.new }
     ensures goes { GoesOn reader.old reader.new }
 {
     let first = reader.at();
@@ -71,7 +71,7 @@ fn choice(
     ensures reads { (x : Expression) (h sign between : ℕ) (e f : Expr) (rest : List Token) → IsRead site h value x
         → Groups 0 e → Groups 0 f → AfterExpr (first_kind rest)
         → reader.old.ahead ≡ token question sign ∷ (spell_expr e ++ token colon between ∷ (spell_expr f ++ rest))
-        → Reads site h (chosen_with site.line known.now first sign x e f h) rest result reader.new }
+        → Reads site h (chosen_with site.integers site.line known.now first sign x e f h) rest result reader.new }
     ensures goes { GoesOn reader.old reader.new }
 {
     let alloc = reader.alloc();
@@ -95,7 +95,7 @@ fn joins(
     least: u8,
 ) -> Result<Value, Stop>
     ensures reads { (e : Expr) (rest : List Token) → 1 ≤ least → Groups least e → Stops least rest
-        → reader.old.ahead ≡ spell_expr e ++ rest → Reads site next (read site.line known.now e next) rest result reader.new }
+        → reader.old.ahead ≡ spell_expr e ++ rest → Reads site next (read site.integers site.line known.now e next) rest result reader.new }
     ensures goes { GoesOn reader.old reader.new }
 {
     let first = reader.at();
@@ -120,7 +120,7 @@ fn join(
     ensures reads { (x : Expression) (h : ℕ) (j : Join) (rest : List Token) → IsRead site h left x → j.op ≡ op_of op
         → Groups (suc (level j.op)) j.right → Stops (suc (level j.op)) rest
         → reader.old.ahead ≡ token (infix_sign j.op) j.at ∷ (spell_expr j.right ++ rest)
-        → Reads site h (joined_with site.line known.now first x j h) rest result reader.new }
+        → Reads site h (joined_with site.integers site.line known.now first x j h) rest result reader.new }
     ensures goes { GoesOn reader.old reader.new }
     ensures fewer { length reader.new.ahead ≤ length (behind_first reader.old.ahead) }
 {

@@ -28,7 +28,7 @@ pub fn arguments(
 ) -> Result<Evaluated, Stop>
     ensures reads { (es : Arguments) (rest : List Token) → GoodArguments es → first_kind rest ≡ right_paren
         → reader.old.ahead ≡ spell_arguments es ++ rest
-        → ReadsAll site next (read_arguments site.line known.now es next) rest result reader.new }
+        → ReadsAll site next (read_arguments site.integers site.line known.now es next) rest result reader.new }
     ensures goes { GoesOn reader.old reader.new }
 {
     let none = Evaluated::none(reader.alloc(), site, next);
@@ -50,7 +50,7 @@ fn more_arguments(
 ) -> Result<Evaluated, Stop>
     ensures reads { (xs : Expressions) (h : ℕ) (es : MoreArguments) (rest : List Token) → IsEvaluatedOf site h before xs
         → GoodMoreArguments es → first_kind rest ≡ right_paren → reader.old.ahead ≡ spell_more_arguments es ++ rest
-        → ReadsAll site h (read_behind site.line known.now xs es h) rest result reader.new }
+        → ReadsAll site h (read_behind site.integers site.line known.now xs es h) rest result reader.new }
     ensures goes { GoesOn reader.old reader.new }
 {
     let mut all = before;

@@ -24,11 +24,11 @@ use source_value::{Site, Value};
 // A number.
 fn number(reader: &mut Reader<'_>, site: Site, next: u32) -> Result<Value, Stop>
     ensures reads { (v a : ℕ) (st : State) (rest : List Token) → reader.old.ahead ≡ token (a_number v) a ∷ rest
-        → Reads site next (read site.line st (spelled.number v a) next) rest result reader.new }
+        → Reads site next (read site.integers site.line st (spelled.number v a) next) rest result reader.new }
     ensures goes { GoesOn reader.old reader.new }
 {
     let at = reader.at();
-    let value = Value::number(reader.alloc(), site, next, reader.number());
+    let value = Value::number(reader.alloc(), site, next, reader.number(), at);
     reader.skip();
     placed(value, at)
 }
@@ -36,7 +36,7 @@ fn number(reader: &mut Reader<'_>, site: Site, next: u32) -> Result<Value, Stop>
 // A variable.
 fn variable(reader: &mut Reader<'_>, known: &Known, site: Site, next: u32) -> Result<Value, Stop>
     ensures reads { (x : List ℕ) (a : ℕ) (rest : List Token) → reader.old.ahead ≡ token (a_name x) a ∷ rest
-        → Reads site next (read site.line known.now (spelled.variable x a) next) rest result reader.new }
+        → Reads site next (read site.integers site.line known.now (spelled.variable x a) next) rest result reader.new }
     ensures goes { GoesOn reader.old reader.new }
 {
     let var = known.variable(reader.name(), reader.at())?;
@@ -48,7 +48,7 @@ fn variable(reader: &mut Reader<'_>, known: &Known, site: Site, next: u32) -> Re
 fn unknown(reader: &mut Reader<'_>, site: Site, next: u32) -> Result<Value, Stop>
     ensures reads { (a b c : ℕ) (st : State) (rest : List Token)
         → reader.old.ahead ≡ token nondet_word a ∷ token left_paren b ∷ token right_paren c ∷ rest
-        → Reads site next (read site.line st (spelled.free a b c) next) rest result reader.new }
+        → Reads site next (read site.integers site.line st (spelled.free a b c) next) rest result reader.new }
     ensures goes { GoesOn reader.old reader.new }
 {
     reader.skip();
@@ -62,7 +62,7 @@ fn unknown(reader: &mut Reader<'_>, site: Site, next: u32) -> Result<Value, Stop
 fn element(reader: &mut Reader<'_>, known: &Known, site: Site, next: u32) -> Result<Value, Stop>
     ensures reads { (x : List ℕ) (a b c : ℕ) (e : Expr) (rest : List Token) → Groups 0 e
         → reader.old.ahead ≡ token (a_name x) a ∷ token left_bracket b ∷ (spell_expr e ++ token right_bracket c ∷ rest)
-        → Reads site next (read site.line known.now (spelled.element x a b e c) next) rest result reader.new }
+        → Reads site next (read site.integers site.line known.now (spelled.element x a b e c) next) rest result reader.new }
     ensures goes { GoesOn reader.old reader.new }
 {
     let size = known.array(reader.name(), reader.at())?;
@@ -77,7 +77,7 @@ fn element(reader: &mut Reader<'_>, known: &Known, site: Site, next: u32) -> Res
 fn call(reader: &mut Reader<'_>, known: &Known, site: Site, next: u32) -> Result<Value, Stop>
     ensures reads { (x : List ℕ) (a b c : ℕ) (es : Arguments) (rest : List Token) → GoodArguments es
         → reader.old.ahead ≡ token (a_name x) a ∷ token left_paren b ∷ (spell_arguments es ++ token right_paren c ∷ rest)
-        → Reads site next (read site.line known.now (spelled.call x a b es c) next) rest result reader.new }
+        → Reads site next (read site.integers site.line known.now (spelled.call x a b es c) next) rest result reader.new }
     ensures goes { GoesOn reader.old reader.new }
 {
     known.called(reader.name(), reader.at())?;
@@ -92,7 +92,7 @@ fn call(reader: &mut Reader<'_>, known: &Known, site: Site, next: u32) -> Result
 fn grouped(reader: &mut Reader<'_>, known: &Known, site: Site, next: u32) -> Result<Value, Stop>
     ensures reads { (a b : ℕ) (e : Expr) (rest : List Token) → Groups 0 e
         → reader.old.ahead ≡ token left_paren a ∷ (spell_expr e ++ token right_paren b ∷ rest)
-        → Reads site next (read site.line known.now (spelled.grouped a e b) next) rest result reader.new }
+        → Reads site next (read site.integers site.line known.now (spelled.grouped a e b) next) rest result reader.new }
     ensures goes { GoesOn reader.old reader.new }
 {
     let _open = reader.take(Mark::LeftParen)?;
@@ -113,7 +113,7 @@ fn prefixed(
     requires { 0 < length reader.old.ahead }
     ensures reads { (a : ℕ) (e : Expr) (rest : List Token) → Groups 7 e → Stops 7 rest
         → reader.old.ahead ≡ token (sign_of (prefix_of prefix)) a ∷ (spell_expr e ++ rest)
-        → Reads site next (read site.line known.now (spelled.prefixed (prefix_of prefix) a e) next) rest result reader.new }
+        → Reads site next (read site.integers site.line known.now (spelled.prefixed (prefix_of prefix) a e) next) rest result reader.new }
     ensures goes { GoesOn reader.old reader.new }
 {
     let sign = reader.at();
@@ -132,7 +132,7 @@ pub(crate) fn operand(
     next: u32,
 ) -> Result<Value, Stop>
     ensures reads { (e : Expr) (rest : List Token) → Groups 7 e → Stops 7 rest
-        → reader.old.ahead ≡ spell_expr e ++ rest → Reads site next (read site.line known.now e next) rest result reader.new }
+        → reader.old.ahead ≡ spell_expr e ++ rest → Reads site next (read site.integers site.line known.now e next) rest result reader.new }
     ensures goes { GoesOn reader.old reader.new }
 {
     match opening_in(reader.symbol(), reader.second()) {

@@ -50,8 +50,8 @@ pub(crate) fn as_side(
     value: Value,
 ) -> Result<Side, Stop>
     ensures { (x : Expression) (h : ℕ) → IsRead site h value x
-        → Answers (StandsSide site.variables site.line (asks_conditions work) h) result
-        (meaning.side site.line (asks_conditions work) first h x) }
+        → Answers (StandsSide site.integers site.variables site.line (asks_conditions work) h) result
+        (meaning.side site.integers site.line (asks_conditions work) first h x) }
 {
     if work.asks_conditions() {
         Ok(Side::Condition(placed(value.into_condition(site), first)?))
@@ -69,7 +69,8 @@ fn of_conditions(
     right: Tested,
 ) -> Result<Value, Stop>
     ensures { (x y : Expression) (h sign : ℕ) → asks_conditions work ≡ true → IsTestedOf site h left x
-        → IsTestedOf site (behind site.line x h) right y → Answers (IsRead site h) result (worked site.line work sign h x y) }
+        → IsTestedOf site (behind site.integers site.line x h) right y
+        → Answers (IsRead site h) result (worked site.integers site.line work sign h x y) }
 {
     match work {
         Work::Either => Ok(either(alloc, site, left, right)?),
@@ -88,8 +89,8 @@ fn of_numbers(
     right: Number,
 ) -> Result<Value, Stop>
     ensures { (x y : Expression) (h : ℕ) → asks_conditions sign.work ≡ false → IsNumberOf site h left x
-        → IsNumberOf site (behind_number site.line x h) right y
-        → Answers (IsRead site h) result (worked site.line sign.work sign.at h x y) }
+        → IsNumberOf site (behind_number site.integers site.line x h) right y
+        → Answers (IsRead site h) result (worked site.integers site.line sign.work sign.at h x y) }
 {
     match sign.work {
         Work::Compare(rel) => placed(compared(alloc, site, rel, left, right), sign.at),
@@ -111,9 +112,9 @@ pub(crate) fn joined(
     first: u32,
     right: Value,
 ) -> Result<Value, Stop>
-    ensures { (x y : Expression) (h : ℕ) → StandsSide site.variables site.line (asks_conditions sign.work) h left x
-        → IsRead site (behind_side site.line (asks_conditions sign.work) x h) right y
-        → Answers (IsRead site h) result (sides_worked site.line sign.work sign.at first h x y) }
+    ensures { (x y : Expression) (h : ℕ) → StandsSide site.integers site.variables site.line (asks_conditions sign.work) h left x
+        → IsRead site (behind_side site.integers site.line (asks_conditions sign.work) x h) right y
+        → Answers (IsRead site h) result (sides_worked site.integers site.line sign.work sign.at first h x y) }
 {
     let right = as_side(alloc, site, sign.work, first, right)?;
     match left {
@@ -138,10 +139,13 @@ pub(crate) fn signed(
     value: Value,
 ) -> Result<Value, Stop>
     ensures { (x : Expression) (h : ℕ) → IsRead site h value x
-        → Answers (IsRead site h) result (meaning.prefixed site.line (prefix_of prefix) sign first h x) }
+        → Answers (IsRead site h) result (meaning.prefixed site.integers site.line (prefix_of prefix) sign first h x) }
 {
     match prefix {
-        Prefix::Negative => placed(negative(alloc, value.into_number(alloc, site)?), sign),
+        Prefix::Negative => placed(
+            negative(alloc, site, sign, value.into_number(alloc, site)?),
+            sign,
+        ),
         Prefix::Positive => Ok(positive(value.into_number(alloc, site)?)),
         Prefix::Negation => Ok(inverse(alloc, placed(value.into_condition(site), first)?)?),
     }

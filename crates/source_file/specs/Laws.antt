@@ -14,15 +14,17 @@ use Rattle.source_file.specs.Functions.{functions_of}
 use Rattle.source_file.specs.Meaning.{Answer, Means, NamesAre, item_of}
 use Rattle.source_file.specs.declared.functions.Defined.{Defined}
 use Rattle.source_file.specs.declared.fault.SourceFault.{SourceFault}
+use Rattle.base_integers.specs.declared.integers.Integers.{Integers}
 
 -- tokens mean one thing at most, whatever is asked
 abbrev pub OneMeaning : Type 0
-OneMeaning = (text : List ℕ) (asked : Option (List ℕ)) (ts : List Token) (one other : Answer)
-    → Means text asked ts one → Means text asked ts other → one ≡ other
+OneMeaning = (integers : Integers) (text : List ℕ) (asked : Option (List ℕ)) (ts : List Token) (one other : Answer)
+    → Means integers text asked ts one → Means integers text asked ts other → one ≡ other
 
 -- and something
 abbrev pub SomeMeaning : Type 0
-SomeMeaning = (text : List ℕ) (asked : Option (List ℕ)) (ts : List Token) → (answer : Answer) × Means text asked ts answer
+SomeMeaning = (integers : Integers) (text : List ℕ) (asked : Option (List ℕ)) (ts : List Token)
+    → (answer : Answer) × Means integers text asked ts answer
 
 -- and their functions are one list at most
 abbrev pub OneList : Type 0
@@ -36,5 +38,6 @@ ItemsAreWhole = (text : List ℕ) (ts : List Token) (items : List Item) (d : Def
 
 -- the variables of a function that tokens of a text mean are names of the language, no two of which are one
 abbrev pub ProgramNamesAreNames : Type 0
-ProgramNamesAreNames = (text : List ℕ) (asked : Option (List ℕ)) (ts : List Token) (names : List (List ℕ)) (body : Statements)
-    → AreTokensIn text ts → Means text asked ts (Ok (names, body)) → All IsName names × AreApart names
+ProgramNamesAreNames =
+    (integers : Integers) (text : List ℕ) (asked : Option (List ℕ)) (ts : List Token) (names : List (List ℕ)) (body : Statements)
+    → AreTokensIn text ts → Means integers text asked ts (Ok (names, body)) → All IsName names × AreApart names

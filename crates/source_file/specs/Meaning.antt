@@ -18,6 +18,7 @@ use Rattle.source_file.specs.Choice.{repeated, chosen}
 use Rattle.source_file.specs.declared.functions.Defined.{Defined}
 use Rattle.source_file.specs.declared.fault.SourceFault.{SourceFault}
 use Rattle.source_file.specs.declared.fault.SourceFault.TheVariants as fault
+use Rattle.base_integers.specs.declared.integers.Integers.{Integers}
 
 -- the variables in order of declaration, and the statements of C
 abbrev pub Answer : Type 0
@@ -37,28 +38,29 @@ walked (Result.Ok read) = Result.Ok read
 walked (Result.Err e) = Err (fault.Function e)
 
 -- what the tokens of an item mean that is a function
-abbrev pub FunctionMeans : (text : List ℕ) → List g.Token → Answer → Type 0
-FunctionMeans text ts r =
+abbrev pub FunctionMeans : (integers : Integers) (text : List ℕ) → List g.Token → Answer → Type 0
+FunctionMeans integers text ts r =
     ((a : ℕ) × grammar.Finds (grammar.unexpected a) ts × (r ≡ Err (fault.Unexpected a)))
     ⊎ (((a : ℕ) × grammar.Finds (grammar.nested a) ts × (r ≡ Err (fault.Nesting a)))
-    ⊎ ((f : Function) × Reads ts f × grammar.Fine ts × (r ≡ walked (walk (line_at text) f))))
+    ⊎ ((f : Function) × Reads ts f × grammar.Fine ts × (r ≡ walked (walk integers (line_at text) f))))
 
 -- what is meant where this function is
-abbrev pub ChosenMeans : (text : List ℕ) → List Token → Option Defined → Answer → Type 0
-ChosenMeans text ts None r = r ≡ Err fault.WhichFunction
-ChosenMeans text ts (Some d) r = FunctionMeans text (item_of text ts d) r
+abbrev pub ChosenMeans : (integers : Integers) (text : List ℕ) → List Token → Option Defined → Answer → Type 0
+ChosenMeans integers text ts None r = r ≡ Err fault.WhichFunction
+ChosenMeans integers text ts (Some d) r = FunctionMeans integers text (item_of text ts d) r
 
 -- what is meant where these are the functions of the file
-abbrev pub FunctionsMean : (text : List ℕ) → (asked : Option (List ℕ)) → List Token → List Defined → Option ℕ → Answer → Type 0
-FunctionsMean text asked ts ds (Some at) r = r ≡ Err (fault.NameTwice at)
-FunctionsMean text asked ts ds None r = ChosenMeans text ts (chosen asked ds) r
+abbrev pub FunctionsMean : (integers : Integers) (text : List ℕ) → (asked : Option (List ℕ)) → List Token → List Defined → Option ℕ
+    → Answer → Type 0
+FunctionsMean integers text asked ts ds (Some at) r = r ≡ Err (fault.NameTwice at)
+FunctionsMean integers text asked ts ds None r = ChosenMeans integers text ts (chosen asked ds) r
 
 -- The tokens of a text, without its end, mean this where `asked` is the name of the function that is asked about, if one is named.
-abbrev pub Means : (text : List ℕ) → (asked : Option (List ℕ)) → List Token → Answer → Type 0
-Means text asked ts r =
+abbrev pub Means : (integers : Integers) (text : List ℕ) → (asked : Option (List ℕ)) → List Token → Answer → Type 0
+Means integers text asked ts r =
     ((index : ℕ) × file.Finds (file.unexpected index) (marks_of ts) × (r ≡ Err (fault.Unexpected (place_of text ts index))))
     ⊎ ((items : List Item) × file.Finds (file.divided items) (marks_of ts)
-    × FunctionsMean text asked ts (functions_of text ts items) (repeated [] (functions_of text ts items)) r)
+    × FunctionsMean integers text asked ts (functions_of text ts items) (repeated [] (functions_of text ts items)) r)
 
 -- these are the functions of a file, no two of which have one name
 pub record AreFunctions (text : List ℕ) (ts : List Token) (ds : List Defined) : Type 0 where

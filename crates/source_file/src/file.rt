@@ -3,6 +3,7 @@
 ghost use Rattle.std.specs.Prelude.{◌≡◌, ◌≤◌, ◌<◌, ◌++◌, ◌∷◌, [], ℕ, List, Option, Result, length, Err, IfOk, IfErr, map, slice_range};
 ghost use Rattle.std.specs.Option.{option_copied};
 ghost use Rattle.base_limits.specs.declared.limits.TheConstants.{MOST_TEXT_BYTES};
+ghost use Rattle.base_integers.specs.declared.integers.Integers.{Integers as Numbers};
 ghost use Rattle.lang_tokens.specs.declared.token.Token.{Token as Lexed};
 ghost use Rattle.lang_tokens.specs.Reading.{end_at};
 ghost use Rattle.lang_tokens.specs.TokenLists.{AreTokensOf};
@@ -21,6 +22,7 @@ use crate::fault::SourceFault;
 use crate::function::program;
 use crate::functions::{Defined, functions_of};
 use crate::width::width;
+use base_integers::Integers;
 use lang_tokens::Token;
 use lang_tree::{Names, Program};
 use source_grammar::{Piece, Syntax, examine};
@@ -62,7 +64,8 @@ fn functions(alloc: Global, text: &[u8], tokens: &[Token]) -> Result<Vec<Defined
     requires tokens { AreTokensIn text.now tokens.now }
     ensures found { IfOk result (λ functions. AreFunctions text.now tokens.now functions.items) }
     ensures fault { IfErr result (λ e. (e ≡ NoMemory → ⊥) → NamesAre text.now tokens.now (Err e)) }
-    ensures whatever { IfErr result (λ e. (e ≡ NoMemory → ⊥) → (asked : Option (List ℕ)) → Means text.now asked tokens.now (Err e)) }
+    ensures whatever { IfErr result (λ e. (e ≡ NoMemory → ⊥) → (integers : Numbers) (asked : Option (List ℕ))
+        → Means integers text.now asked tokens.now (Err e)) }
 {
     let items = items(alloc, text, tokens)?;
     let functions = functions_of(alloc, text, tokens, items.as_slice())?;
@@ -77,7 +80,8 @@ fn examined(alloc: Global, text: &[u8], tokens: &[Token]) -> Result<Vec<Piece>, 
     requires { Scanned short (tokens_of text.now tokens.now) → ⊥ }
     ensures are { IfOk result (λ pieces. Are (tokens_of text.now tokens.now) pieces.items) }
     ensures whole { IfOk result (λ _. Scanned whole (tokens_of text.now tokens.now)) }
-    ensures fault { IfErr result (λ e. (e ≡ NoMemory → ⊥) → FunctionMeans text.now (tokens_of text.now tokens.now) (Err e)) }
+    ensures fault { IfErr result (λ e. (e ≡ NoMemory → ⊥) → (integers : Numbers)
+        → FunctionMeans integers text.now (tokens_of text.now tokens.now) (Err e)) }
 {
     let pieces = pieces_of(alloc, tokens)?;
     match examine(alloc, pieces.as_slice())? {
@@ -89,16 +93,21 @@ fn examined(alloc: Global, text: &[u8], tokens: &[Token]) -> Result<Vec<Piece>, 
     }
 }
 
-// A function as a program.
-fn analysed(alloc: Global, text: &[u8], tokens: &[Token]) -> Result<Program, SourceFault>
+// A function as a program, by these integers.
+fn analysed(
+    alloc: Global,
+    text: &[u8],
+    tokens: &[Token],
+    integers: Integers,
+) -> Result<Program, SourceFault>
     requires tokens { AreTokensIn text.now tokens.now }
     requires whole { Scanned short (tokens_of text.now tokens.now) → ⊥ }
     requires size { length text.now ≤ MOST_TEXT_BYTES }
-    ensures { Tells result (FunctionMeans text.now (tokens_of text.now tokens.now)) }
+    ensures { Tells integers result (FunctionMeans integers text.now (tokens_of text.now tokens.now)) }
 {
     let pieces = examined(alloc, text, tokens)?;
     let variables = width(pieces.as_slice());
-    match program(alloc, text, tokens, variables) {
+    match program(alloc, text, tokens, variables, integers) {
         Ok(program) => Ok(program),
         Err(FunctionFault::NoMemory) => Err(SourceFault::NoMemory),
         Err(fault) => Err(SourceFault::Function(fault)),
@@ -114,20 +123,21 @@ fn item_of<'a>(tokens: &'a [Token], function: &Defined) -> &'a [Token]
     &tokens[function.first..function.end]
 }
 
-// The function that is meant, as a program; the tokens are those of the text without its end.
+// The function that is meant, as a program by these integers; the tokens are those of the text without its end.
 fn read_in(
     alloc: Global,
     text: &[u8],
     tokens: &[Token],
     asked: Option<&[u8]>,
+    integers: Integers,
 ) -> Result<Program, SourceFault>
     requires size { length text.now ≤ MOST_TEXT_BYTES }
     requires tokens { AreTokensIn text.now tokens.now }
-    ensures { Tells result (Means text.now (option_copied asked.entry) tokens.now) }
+    ensures { Tells integers result (Means integers text.now (option_copied asked.entry) tokens.now) }
 {
     let functions = functions(alloc, text, tokens)?;
     match chosen(asked, functions.as_slice()) {
-        Some(function) => analysed(alloc, text, item_of(tokens, function)),
+        Some(function) => analysed(alloc, text, item_of(tokens, function), integers),
         None => Err(SourceFault::WhichFunction),
     }
 }
@@ -154,7 +164,8 @@ fn defined_in(
     requires size { length text.now ≤ MOST_TEXT_BYTES }
     requires tokens { AreTokensIn text.now tokens.now }
     ensures found { IfOk result (λ d. IsChosen text.now (option_copied asked.entry) tokens.now d) }
-    ensures fault { IfErr result (λ e. (e ≡ NoMemory → ⊥) → Means text.now (option_copied asked.entry) tokens.now (Err e)) }
+    ensures fault { IfErr result (λ e. (e ≡ NoMemory → ⊥) → (integers : Numbers)
+        → Means integers text.now (option_copied asked.entry) tokens.now (Err e)) }
 {
     let all = functions(alloc, text, tokens)?;
     match chosen(asked, all.as_slice()) {
@@ -184,24 +195,25 @@ fn names_in(alloc: Global, text: &[u8], tokens: &[Token]) -> Result<Names, Sourc
     Ok(names_of(alloc, functions.as_slice())?)
 }
 
-/// The function that is asked about, or the one that is meant where none is named, as a program: or the first fault of the file
-/// (docs/FORMATS.md, "Files" and "The order of faults").
+/// The function that is asked about, or the one that is meant where none is named, as a program that computes by these integers: or the
+/// first fault of the file (docs/FORMATS.md, "Files" and "The order of faults").
 pub fn read(
     alloc: Global,
     tokens: &[Token],
     text: &[u8],
     asked: Option<&[u8]>,
+    integers: Integers,
 ) -> Result<Program, SourceFault>
     requires size { length text.now ≤ MOST_TEXT_BYTES }
     requires tokens { AreTokensOf text.now tokens.now }
     // What is answered is meant.
     ensures found { (front : List Lexed) → front ++ end_at (length text.now) ∷ [] ≡ tokens.now
-        → (wanted : Answer) × Means text.now (option_copied asked.entry) front wanted × Gives result wanted }
+        → (wanted : Answer) × Means integers text.now (option_copied asked.entry) front wanted × Gives integers result wanted }
     // What is meant is answered.
     ensures exact { (front : List Lexed) → front ++ end_at (length text.now) ∷ [] ≡ tokens.now
-        → (wanted : Answer) → Means text.now (option_copied asked.entry) front wanted → Gives result wanted }
+        → (wanted : Answer) → Means integers text.now (option_copied asked.entry) front wanted → Gives integers result wanted }
 {
-    read_in(alloc, text, &tokens[..tokens.len() - 1], asked)
+    read_in(alloc, text, &tokens[..tokens.len() - 1], asked, integers)
 }
 
 /// The names of the functions of a file that may be asked about, in order: or the first fault of its brackets and these names
@@ -236,11 +248,11 @@ pub fn defined(
         → IsChosen text.now (option_copied asked.entry) front d) }
     // What the file means is what its tokens do.
     ensures means { IfOk result (λ d. (front : List Lexed) → front ++ end_at (length text.now) ∷ [] ≡ tokens.now
-        → (wanted : Answer) → Means text.now (option_copied asked.entry) front wanted
-        → FunctionMeans text.now (item_of text.now front d) wanted) }
+        → (integers : Numbers) (wanted : Answer) → Means integers text.now (option_copied asked.entry) front wanted
+        → FunctionMeans integers text.now (item_of text.now front d) wanted) }
     // A fault is that of the file.
     ensures fault { IfErr result (λ e. (e ≡ NoMemory → ⊥) → (front : List Lexed) → front ++ end_at (length text.now) ∷ [] ≡ tokens.now
-        → Means text.now (option_copied asked.entry) front (Err e)) }
+        → (integers : Numbers) → Means integers text.now (option_copied asked.entry) front (Err e)) }
 {
     defined_in(alloc, text, &tokens[..tokens.len() - 1], asked)
 }

@@ -9,6 +9,7 @@ ghost use Rattle.source_tokens.specs.Texts.{AreTokensIn};
 ghost use Rattle.source_tokens.specs.View.{tokens_of};
 ghost use Rattle.source_file.specs.Gives.{FunctionGives};
 
+use base_integers::Integers;
 use lang_tokens::Token;
 use lang_tree::Program;
 use source_meaning::FunctionFault;
@@ -16,20 +17,21 @@ use source_reader::Stop;
 use source_statement::function;
 use std::alloc::Global;
 
-/// What the tokens of a function mean, as a program, or its first fault.
+/// What the tokens of a function mean by these integers, as a program, or its first fault.
 pub(crate) fn program(
     alloc: Global,
     text: &[u8],
     tokens: &[Token],
     variables: u32,
+    integers: Integers,
 ) -> Result<Program, FunctionFault>
     requires size { length text.now ≤ MOST_TEXT_BYTES }
     requires tokens { AreTokensIn text.now tokens.now }
     requires read { (f : Function) × Reads (tokens_of text.now tokens.now) f × (variables ≡ width_of f) }
     ensures { (f : Function) → Reads (tokens_of text.now tokens.now) f → variables ≡ width_of f
-        → FunctionGives result (walk (line_at text.now) f) }
+        → FunctionGives integers result (walk integers (line_at text.now) f) }
 {
-    match function(alloc, text, tokens, variables) {
+    match function(alloc, text, tokens, variables, integers) {
         Ok(program) => Ok(program),
         Err(Stop::Fault(fault)) => Err(fault),
         // Tokens that are a function are never unlike one.

@@ -12,6 +12,7 @@ use Rattle.source_meaning.specs.Results.{◌>>=◌}
 use Rattle.source_meaning.specs.Names.{State, variable_of, array_of}
 use Rattle.source_meaning.specs.Limits.{limited, counted}
 use Rattle.source_meaning.specs.Expressions.{read, ranged, behind, behind_number}
+use Rattle.base_integers.specs.declared.integers.Integers.{Integers}
 
 -- a place with 1 more or less
 abbrev pub stepped : g.Direction → (sign : ℕ) → Expression → Expression
@@ -19,58 +20,59 @@ stepped g.up sign old = joined plus sign old (number 1 sign)
 stepped g.down sign old = joined minus sign old (number 1 sign)
 
 -- the hidden variable behind a variable's new value: any value is taken without one
-abbrev pub behind_taken : (line : ℕ) → Elaborated → Value → ℕ
-behind_taken line e (a_form f) = (numbered line e).next
-behind_taken line e (a_truth c) = (numbered line e).next
-behind_taken line e any = e.next
+abbrev pub behind_taken : (integers : Integers) (line : ℕ) → Elaborated → Value → ℕ
+behind_taken integers line e (a_form f) = (numbered integers line e).next
+behind_taken integers line e (a_truth c) = (numbered integers line e).next
+behind_taken integers line e any = e.next
 
 -- over n variables, in this line
-module _ (n line : ℕ) where
+module _ (integers : Integers) (n line : ℕ) where
   -- the hidden variable behind a change
   abbrev pub behind_change : Change → ℕ
-  behind_change (sets var e k) = behind_taken k (elaborated k e n) (elaborated k e n).result
-  behind_change (evaluates es k) = (evaluated k es n).next
+  behind_change (sets var e k) = behind_taken integers k (elaborated integers k e n) (elaborated integers k e n).result
+  behind_change (evaluates es k) = (evaluated integers k es n).next
 
   -- the limits of a change that begins at this place
   abbrev pub few : {A : Type 0} → (at : ℕ) → Change → A → Result A FunctionFault
-  few at g x = limited n at (behind_change g) (change_deeds n g) [] x
+  few at g x = limited n at (behind_change g) (change_deeds integers n g) [] x
 
   -- the right side of an assignment to a variable, and its operation
   abbrev pub right_side : State → g.Change → (sign : ℕ) → (old : Expression) → Expr → Result Expression FunctionFault
-  right_side st g.replaces sign old e = read line st e n
-  right_side st g.adds sign old e = read line st e n >>= λ x. ranged line sign n (joined plus sign old x)
-  right_side st g.subtracts sign old e = read line st e n >>= λ x. ranged line sign n (joined minus sign old x)
-  right_side st g.multiplies sign old e = read line st e n >>= λ x. ranged line sign n (joined times sign old x)
-  right_side st g.divides sign old e = read line st e n >>= λ x. ranged line sign n (joined over sign old x)
-  right_side st g.remains sign old e = read line st e n >>= λ x. ranged line sign n (joined remainder sign old x)
+  right_side st g.replaces sign old e = read integers line st e n
+  right_side st g.adds sign old e = read integers line st e n >>= λ x. ranged integers line sign n (joined plus sign old x)
+  right_side st g.subtracts sign old e = read integers line st e n >>= λ x. ranged integers line sign n (joined minus sign old x)
+  right_side st g.multiplies sign old e = read integers line st e n >>= λ x. ranged integers line sign n (joined times sign old x)
+  right_side st g.divides sign old e = read integers line st e n >>= λ x. ranged integers line sign n (joined over sign old x)
+  right_side st g.remains sign old e = read integers line st e n >>= λ x. ranged integers line sign n (joined remainder sign old x)
 
   -- what is evaluated where an element is written: its index, for `=` not its old value, then the right side and the operation
   abbrev pub written : State → g.Change → (sign : ℕ) → (old : Expression) → Expr → Result Expressions FunctionFault
-  written st g.replaces sign old e = read line st e (behind line old n) >>= λ x. Ok (more old (more x none))
-  written st g.adds sign old e = read line st e (behind_number line old n)
-      >>= λ x. ranged line sign n (joined plus sign old x) >>= λ y. Ok (more y none)
-  written st g.subtracts sign old e = read line st e (behind_number line old n)
-      >>= λ x. ranged line sign n (joined minus sign old x) >>= λ y. Ok (more y none)
-  written st g.multiplies sign old e = read line st e (behind_number line old n)
-      >>= λ x. ranged line sign n (joined times sign old x) >>= λ y. Ok (more y none)
-  written st g.divides sign old e = read line st e (behind_number line old n)
-      >>= λ x. ranged line sign n (joined over sign old x) >>= λ y. Ok (more y none)
-  written st g.remains sign old e = read line st e (behind_number line old n)
-      >>= λ x. ranged line sign n (joined remainder sign old x) >>= λ y. Ok (more y none)
+  written st g.replaces sign old e = read integers line st e (behind integers line old n) >>= λ x. Ok (more old (more x none))
+  written st g.adds sign old e = read integers line st e (behind_number integers line old n)
+      >>= λ x. ranged integers line sign n (joined plus sign old x) >>= λ y. Ok (more y none)
+  written st g.subtracts sign old e = read integers line st e (behind_number integers line old n)
+      >>= λ x. ranged integers line sign n (joined minus sign old x) >>= λ y. Ok (more y none)
+  written st g.multiplies sign old e = read integers line st e (behind_number integers line old n)
+      >>= λ x. ranged integers line sign n (joined times sign old x) >>= λ y. Ok (more y none)
+  written st g.divides sign old e = read integers line st e (behind_number integers line old n)
+      >>= λ x. ranged integers line sign n (joined over sign old x) >>= λ y. Ok (more y none)
+  written st g.remains sign old e = read integers line st e (behind_number integers line old n)
+      >>= λ x. ranged integers line sign n (joined remainder sign old x) >>= λ y. Ok (more y none)
 
   -- what is done to a variable, and to an element
   abbrev pub affected : State → (var at : ℕ) → Effect → Result Change FunctionFault
   affected st i at (assigns c sign e) = right_side st c sign (variable i at) e >>= λ x. Ok (sets i x line)
-  affected st i at (steps d sign) = ranged line sign n (stepped d sign (variable i at)) >>= λ x. Ok (sets i x line)
+  affected st i at (steps d sign) = ranged integers line sign n (stepped d sign (variable i at)) >>= λ x. Ok (sets i x line)
 
   -- what is done to an element, whose old value this is
   abbrev pub evaluated_by : State → (old : Expression) → Effect → Result Change FunctionFault
   evaluated_by st old (assigns c sign e) = written st c sign old e >>= λ es. Ok (evaluates es line)
-  evaluated_by st old (steps d sign) = ranged line sign n (stepped d sign old) >>= λ x. Ok (evaluates (more x none) line)
+  evaluated_by st old (steps d sign) = ranged integers line sign n (stepped d sign old) >>= λ x. Ok (evaluates (more x none) line)
 
   -- an element of an array
   abbrev pub read_element : State → List ℕ → (at bracket : ℕ) → Expr → Result Expression FunctionFault
-  read_element st x at bracket e = array_of x at st >>= λ size. read line st e n >>= λ i. ranged line bracket n (element size bracket i at)
+  read_element st x at bracket e =
+      array_of x at st >>= λ size. read integers line st e n >>= λ i. ranged integers line bracket n (element size bracket i at)
 
   -- what is done to a place
   abbrev pub changed : State → Place → Effect → Result Change FunctionFault
@@ -81,12 +83,13 @@ module _ (n line : ℕ) where
 abbrev pub first_place : Place → ℕ
 first_place (place x a i) = a
 
-module _ (line : ℕ → ℕ) (n : ℕ) where
+module _ (integers : Integers) (line : ℕ → ℕ) (n : ℕ) where
   -- a change, its limits told last
   abbrev pub read_update : State → Update → Result (State × Change) FunctionFault
   read_update st (update p f) =
       let at = first_place p in
-      changed n (line at) st p f >>= λ g. few n (line at) at g g >>= λ g. counted at (length (change_deeds n g)) st >>= λ st. Ok (st, g)
+      changed integers n (line at) st p f >>= λ g. few integers n (line at) at g g
+      >>= λ g. counted at (length (change_deeds integers n g)) st >>= λ st. Ok (st, g)
   read_update st (step_before d at p) =
-      changed n (line at) st p (steps d at) >>= λ g. few n (line at) at g g
-      >>= λ g. counted at (length (change_deeds n g)) st >>= λ st. Ok (st, g)
+      changed integers n (line at) st p (steps d at) >>= λ g. few integers n (line at) at g g
+      >>= λ g. counted at (length (change_deeds integers n g)) st >>= λ st. Ok (st, g)

@@ -16,6 +16,7 @@ use Rattle.source_meaning.specs.declared.fault.FunctionFault.{FunctionFault}
 use Rattle.source_meaning.specs.declared.fault.FunctionFault.TheVariants.{BigNumber}
 use Rattle.source_meaning.specs.Results.{◌>>=◌, provided}
 use Rattle.source_meaning.specs.Names.{State, known, variable_of, array_of, as_called}
+use Rattle.base_integers.specs.declared.integers.Integers.{Integers}
 
 -- the place of an expression's first token
 abbrev pub first_of : Expr → ℕ
@@ -39,22 +40,22 @@ rel_of g.greater = rel.Gt
 rel_of g.at_least = rel.Ge
 
 -- hidden variables are taken from h on; all of the statement stands in this line
-module _ (line : ℕ) where
+module _ (integers : Integers) (line : ℕ) where
   -- the numbers of an operation, whose sign stands at this place, are in their ranges
   abbrev pub ranged : (sign h : ℕ) → Expression → Result Expression FunctionFault
-  ranged sign h e = provided (fits (elaborated line e h)) (BigNumber sign) e
+  ranged sign h e = provided (fits (elaborated integers line e h)) (BigNumber sign) e
 
   -- so are those of an expression as a condition, the first token being at this place
   abbrev pub as_condition : (first h : ℕ) → Expression → Result Expression FunctionFault
-  as_condition first h e = provided (tested_fits (tested (elaborated line e h))) (BigNumber first) e
+  as_condition first h e = provided (tested_fits (tested (elaborated integers line e h))) (BigNumber first) e
 
   -- the hidden variable behind an expression, as a value, a number, a condition
   abbrev pub behind : Expression → ℕ → ℕ
-  behind e h = (elaborated line e h).next
+  behind e h = (elaborated integers line e h).next
 
   -- likewise as a number
   abbrev pub behind_number : Expression → ℕ → ℕ
-  behind_number e h = (numbered line (elaborated line e h)).next
+  behind_number e h = (numbered integers line (elaborated integers line e h)).next
 
   -- an operation on two numbers
   abbrev pub operated : Op → (sign h : ℕ) → (e f : Expression) → Result Expression FunctionFault

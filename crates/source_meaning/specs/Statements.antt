@@ -18,7 +18,7 @@ use Rattle.source_tree.specs.Expressions.{Expression, number, compared, none, mo
 use Rattle.source_tree.specs.Statements.{Change, sets, evaluates, while_loop, for_loop, do_loop, Statement, Statements, declares, changes}
 use Rattle.source_tree.specs.Statements.{assumes, asserts, never, branch, loop, jump, label, nil, cons}
 use Rattle.source_core.specs.Elaborated.{Tested}
-use Rattle.source_core.specs.Core.{change_deeds, condition_of, core_in, core_of}
+use Rattle.source_core.specs.Core.{taken_any, change_deeds, condition_of, core_in, core_of}
 use Rattle.source_meaning.specs.declared.fault.FunctionFault.{FunctionFault}
 use Rattle.source_meaning.specs.declared.fault.FunctionFault.TheVariants.{NameTwice, OutsideLoop}
 use Rattle.source_meaning.specs.Results.{◌>>=◌, provided}
@@ -26,6 +26,7 @@ use Rattle.source_meaning.specs.Names.{State, with_variable, with_array, closed,
 use Rattle.source_meaning.specs.Limits.{limited, counted}
 use Rattle.source_meaning.specs.Expressions.{read, read_arguments, as_condition, first_of}
 use Rattle.source_meaning.specs.Changes.{few, read_update}
+use Rattle.base_integers.specs.declared.integers.Integers.{Integers}
 
 -- statements in order and then others
 abbrev pub followed_by : Statements → Statements → Statements
@@ -77,25 +78,26 @@ abbrev pub call_of : List ℕ → (at line : ℕ) → Statements
 call_of x at line = if is_error x then cons (never at line) (one (jump returns line))
     else (if is_end x then one (jump returns line) else nil)
 
-module _ (line : ℕ → ℕ) (n : ℕ) where
+module _ (integers : Integers) (line : ℕ → ℕ) (n : ℕ) where
   -- a condition of the statement that begins at this place, its limits told behind its faults
   abbrev pub read_condition : State → (at : ℕ) → Expr → Result Expression FunctionFault
   read_condition st at e =
-      read (line at) st e n >>= λ x. as_condition (line at) (first_of e) n x
-      >>= λ x. (let t : Tested = condition_of n (line at) x in limited n at t.next t.prelude (t.condition ∷ []) x)
+      read integers (line at) st e n >>= λ x. as_condition integers (line at) (first_of e) n x
+      >>= λ x. (let t : Tested = condition_of integers n (line at) x in limited n at t.next t.prelude (t.condition ∷ []) x)
 
   -- how many statements the prelude of a condition is
   abbrev pub prelude_of : (at : ℕ) → Expression → ℕ
-  prelude_of at e = length (condition_of n (line at) e).prelude
+  prelude_of at e = length (condition_of integers n (line at) e).prelude
 
   -- a name that is declared
   abbrev pub read_declarator : State → Declarator → Result (State × Statements) FunctionFault
   read_declarator st (declarator x at bare) =
-      with_variable x at st >>= λ now. counted at 1 now >>= λ now. Ok (now, one (declares st.variables (line at)))
+      with_variable x at st >>= λ now. counted at (length (taken_any integers st.variables (line at))) now
+      >>= λ now. Ok (now, one (declares st.variables (line at)))
   read_declarator st (declarator x at (given b e)) =
-      read (line at) st e n >>= λ e. with_variable x at st
-      >>= λ now. (let g : Change = sets st.variables e (line at) in few n (line at) at g now
-      >>= λ now. counted at (length (change_deeds n g)) now >>= λ now. Ok (now, one (changes g)))
+      read integers (line at) st e n >>= λ e. with_variable x at st
+      >>= λ now. (let g : Change = sets st.variables e (line at) in few integers n (line at) at g now
+      >>= λ now. counted at (length (change_deeds integers n g)) now >>= λ now. Ok (now, one (changes g)))
   read_declarator st (declarator x at (sized b size c d)) = with_array x at size c st >>= λ now. Ok (now, nil)
 
   -- the names that are declared behind the first
@@ -113,13 +115,13 @@ module _ (line : ℕ → ℕ) (n : ℕ) where
   abbrev pub read_more_updates : State → MoreUpdates → Result (State × List Change) FunctionFault
   read_more_updates st last_update = Ok (st, [])
   read_more_updates st (next_update a u us) =
-      read_update line n st u >>= λ r. read_more_updates r.0 us >>= λ q. Ok (q.0, r.1 ∷ q.1)
+      read_update integers line n st u >>= λ r. read_more_updates r.0 us >>= λ q. Ok (q.0, r.1 ∷ q.1)
 
   -- changes with a comma between them, or none
   abbrev pub read_updates : State → Updates → Result (State × List Change) FunctionFault
   read_updates st no_updates = Ok (st, [])
   read_updates st (some_updates u us) =
-      read_update line n st u >>= λ r. read_more_updates r.0 us >>= λ q. Ok (q.0, r.1 ∷ q.1)
+      read_update integers line n st u >>= λ r. read_more_updates r.0 us >>= λ q. Ok (q.0, r.1 ∷ q.1)
 
   -- the first part of a `for`'s head
   abbrev pub read_first : State → ForFirst → Result (State × Statements) FunctionFault
@@ -133,13 +135,13 @@ module _ (line : ℕ → ℕ) (n : ℕ) where
 
   -- what is evaluated at this place, its value not used
   abbrev pub read_evaluated : State → (at : ℕ) → Change → Result (State × Statements) FunctionFault
-  read_evaluated st at g = few n (line at) at g st >>= λ now. counted at (length (change_deeds n g)) now
+  read_evaluated st at g = few integers n (line at) at g st >>= λ now. counted at (length (change_deeds integers n g)) now
       >>= λ now. Ok (now, one (changes g))
 
   -- what is returned
   abbrev pub read_returned : State → (at : ℕ) → Optional → Result (State × Statements) FunctionFault
   read_returned st at absent = Ok (st, nil)
-  read_returned st at (present e) = read (line at) st e n >>= λ x. read_evaluated st at (evaluates (more x none) (line at))
+  read_returned st at (present e) = read integers (line at) st e n >>= λ x. read_evaluated st at (evaluates (more x none) (line at))
 
   abbrev mutual
     -- a statement, and what has been met after it; `inside` says whether it stands in a loop's body
@@ -167,13 +169,14 @@ module _ (line : ℕ → ℕ) (n : ℕ) where
         read_returned st at t >>= λ r. counted at 1 r.0 >>= λ now. Ok (now, followed_by r.1 (one (jump returns (line at))))
     read_core inside st (demands k at b e c d) =
         read_condition st at e
-        >>= λ x. (let s : Statement = demand_of k x at (line at) in counted at (nodes_in (core_of n s)) st >>= λ now. Ok (now, one s))
+        >>= λ x. (let s : Statement = demand_of k x at (line at) in counted at (nodes_in (core_of integers n s)) st
+        >>= λ now. Ok (now, one s))
     read_core inside st (calls x at b es c d) =
-        as_called at (known x st.names) es >>= λ es. read_arguments (line at) st es n
+        as_called at (known x st.names) es >>= λ es. read_arguments integers (line at) st es n
         >>= λ es. read_evaluated st at (evaluates es (line at))
-        >>= λ r. (let after : Statements = call_of x at (line at) in counted at (nodes_in (core_in n after)) r.0
+        >>= λ r. (let after : Statements = call_of x at (line at) in counted at (nodes_in (core_in integers n after)) r.0
         >>= λ now. Ok (now, followed_by r.1 after))
-    read_core inside st (updates u c) = read_update line n st u >>= λ r. Ok (r.0, one (changes r.1))
+    read_core inside st (updates u c) = read_update integers line n st u >>= λ r. Ok (r.0, one (changes r.1))
 
     -- a statement with its labels
     pub read_sub : (inside : Bool) → State → Sub → Result (State × Statements) FunctionFault

@@ -1,5 +1,5 @@
 -- What a function means: its variables in order, its parameters the first of them, and its statements; or its first fault.
-use Rattle.std.specs.Prelude.{ℕ, suc, ◌+◌, ◌∷◌, false, List, [], min, reverse, Result, Ok, Err}
+use Rattle.std.specs.Prelude.{ℕ, suc, ◌+◌, ◌∷◌, false, List, [], length, min, reverse, Result, Ok, Err}
 use Rattle.lang_tree.specs.declared.limits.TheConstants.{MOST_VARIABLES}
 use Rattle.source_grammar.specs.Grammar.{Initialiser, bare, given, sized, Declarator, declarator, MoreDeclarators, last_declarator}
 use Rattle.source_grammar.specs.Grammar.{next_declarator, Declarators, ForFirst, declared_first, updated_first, Core, Sub, Items, empty}
@@ -9,12 +9,14 @@ use Rattle.source_grammar.specs.Grammar.{labelled, plain, no_items, item, MorePa
 use Rattle.source_grammar.specs.Grammar.{no_parameters, void_parameters, int_parameters, Function, function}
 use Rattle.source_grammar.specs.Grammar as tree
 use Rattle.source_tree.specs.Statements.{Statements, declares, nil, cons}
+use Rattle.source_core.specs.Core.{taken_any}
 use Rattle.source_meaning.specs.declared.fault.FunctionFault.{FunctionFault}
 use Rattle.source_meaning.specs.declared.fault.FunctionFault.TheVariants.{NoVariables}
 use Rattle.source_meaning.specs.Results.{◌>>=◌}
 use Rattle.source_meaning.specs.Names.{Named, State, variable, array, start_state, with_variable}
 use Rattle.source_meaning.specs.Limits.{counted}
 use Rattle.source_meaning.specs.Statements.{followed_by, read_items}
+use Rattle.base_integers.specs.declared.integers.Integers.{Integers}
 
 -- how many variables are declared
 abbrev pub declared_by : Initialiser → ℕ
@@ -88,10 +90,10 @@ abbrev pub variables_of : List Named → List (List ℕ)
 variables_of [] = []
 variables_of (n ∷ ns) = elim n.thing [ variable i ↦ n.name ∷ variables_of ns | array size ↦ variables_of ns ]
 
-module _ (line : ℕ → ℕ) where
-  -- a parameter, which has any value
+module _ (integers : Integers) (line : ℕ → ℕ) where
+  -- a parameter, which has any of the integers
   abbrev pub read_parameter : State → List ℕ → (at : ℕ) → Result (State × Statements) FunctionFault
-  read_parameter st x at = with_variable x at st >>= λ now. counted at 1 now
+  read_parameter st x at = with_variable x at st >>= λ now. counted at (length (taken_any integers st.variables (line at))) now
       >>= λ now. Ok (now, cons (declares st.variables (line at)) nil)
 
   -- the parameters behind the first
@@ -114,5 +116,5 @@ module _ (line : ℕ → ℕ) where
   -- what a function means, or its first fault
   abbrev pub walk : Function → Result (List (List ℕ) × Statements) FunctionFault
   walk (function ss f a ps b c is d) =
-      read_parameters start_state ps >>= λ p. read_items line (width_of (function ss f a ps b c is d)) false p.0 is
+      read_parameters start_state ps >>= λ p. read_items integers line (width_of (function ss f a ps b c is d)) false p.0 is
       >>= λ r. function_of r.0 (followed_by p.1 r.1)

@@ -22,13 +22,14 @@ mark_less m (t ∷ ts) h = omega arith
 
 -- a reader that stays goes on
 pub stays : (r : Reading) → GoesOn r r
-stays r = record { text = refl; variables = refl; fewer = omega arith }
+stays r = record { text = refl; variables = refl; integers = refl; fewer = omega arith }
 
 -- so does one that is the same
 pub same_goes : (r s : Reading) → s ≡ r → GoesOn r s
 same_goes r s e = record {
   text = ap (λ (r : Reading). r.text) e;
   variables = ap (λ (r : Reading). r.variables) e;
+  integers = ap (λ (r : Reading). r.integers) e;
   fewer = let l : length s.ahead ≡ length r.ahead = ap (λ (r : Reading). length r.ahead) e in omega (arith, l);
 }
 
@@ -37,6 +38,7 @@ pub goes_then : (r s t : Reading) → GoesOn r s → GoesOn s t → GoesOn r t
 goes_then r s t g h = record {
   text = h.text ∙ g.text;
   variables = h.variables ∙ g.variables;
+  integers = h.integers ∙ g.integers;
   fewer = omega (arith, g.fewer, h.fewer);
 }
 
@@ -45,6 +47,7 @@ pub passed_goes : (r s : Reading) → s ≡ passed r → GoesOn r s
 passed_goes r s e = record {
   text = ap (λ (r : Reading). r.text) e;
   variables = ap (λ (r : Reading). r.variables) e;
+  integers = ap (λ (r : Reading). r.integers) e;
   fewer = let l : length s.ahead ≡ length (behind_first r.ahead) = ap (λ (r : Reading). length r.ahead) e in
       let k = behind_fewer r.ahead in omega (arith, l, k);
 }

@@ -1,5 +1,6 @@
--- Where a reader is: the text, the tokens still to come, and the number of the function's variables.
+-- Where a reader is: the text, the tokens still to come, the number of the function's variables, and the integers by which it computes.
 use Rattle.std.specs.Prelude.{◌≡◌, ◌≤◌, ℕ, List, [], ◌∷◌, length}
+use Rattle.base_integers.specs.declared.integers.Integers.{Integers}
 use Rattle.source_grammar.specs.Tokens.{Kind, a_name, a_number, other_sign, Token, token}
 
 -- what a reader reads, and how far it has come
@@ -9,6 +10,8 @@ pub record Reading : Type 0 where
   pub ahead : List Token
   -- how many variables the function has, which is the number of the first hidden one
   pub variables : ℕ
+  -- the integers by which it computes
+  pub integers : Integers
 
 -- the tokens behind the first
 abbrev pub behind_first : List Token → List Token
@@ -43,8 +46,9 @@ at_tokens r ts = record r { ahead = ts }
 abbrev pub passed : Reading → Reading
 passed r = at_tokens r (behind_first r.ahead)
 
--- A reader has only gone on: it reads the same text of the same function, and no more tokens are to come.
+-- A reader has only gone on: it reads the same text of the same function by the same integers, and no more tokens are to come.
 pub record GoesOn (before after : Reading) : Type 0 where
   pub text : after.text ≡ before.text
   pub variables : after.variables ≡ before.variables
+  pub integers : after.integers ≡ before.integers
   pub fewer : length after.ahead ≤ length before.ahead

@@ -15,6 +15,7 @@ ghost use Rattle.source_reader.specs.declared.stop.Stop.TheVariants.{Unlike};
 
 use crate::mark::{Mark, mark_in};
 use crate::stop::Stop;
+use base_integers::Integers;
 use lang_tokens::{Kind, Token, line_of};
 use source_grammar::Symbol;
 use source_tokens::symbol_of;
@@ -22,14 +23,15 @@ use source_value::Site;
 use std::alloc::Global;
 use std::marker::Model;
 
-/// The tokens of a function that are still to come. Contracts see the text, these tokens as the grammar does, and the number of the
-/// function's variables (`specs/Reading.antt`).
+/// The tokens of a function that are still to come. Contracts see the text, these tokens as the grammar does, the number of the
+/// function's variables, and the integers by which it computes (`specs/Reading.antt`).
 #[derive(Drop)]
 pub struct Reader<'a> {
     alloc: Global,
     text: &'a [u8],
     rest: &'a [Token],
     variables: u32,
+    integers: Integers,
 }
 
 impl<'a> Model for Reader<'a> {
@@ -41,7 +43,12 @@ impl<'a> Model for Reader<'a> {
 
     ghost Value = { Reading };
 
-    ghost view = { λ r. record { text = r.text.now; ahead = tokens_of r.text.now r.rest.now; variables = r.variables } };
+    ghost view = { λ r. record {
+      text = r.text.now;
+      ahead = tokens_of r.text.now r.rest.now;
+      variables = r.variables;
+      integers = r.integers;
+    } };
 
     ghost invariant = { λ r. (length r.text.now ≤ MOST_TEXT_BYTES) × AreTokensIn r.text.now r.rest.now };
 }
@@ -72,17 +79,24 @@ fn value_of(token: &Token) -> u64
 }
 
 impl<'a> Reader<'a> {
-    /// Before the first of these tokens of a text, which are those of a function with so many variables.
-    pub fn new(alloc: Global, text: &'a [u8], tokens: &'a [Token], variables: u32) -> Self
+    /// Before the first of these tokens of a text, which are those of a function with so many variables that computes by these integers.
+    pub fn new(
+        alloc: Global,
+        text: &'a [u8],
+        tokens: &'a [Token],
+        variables: u32,
+        integers: Integers,
+    ) -> Self
         requires few { length text.now ≤ MOST_TEXT_BYTES }
         requires placed { AreTokensIn text.now tokens.now }
-        ensures { result ≡ record { text = text.now; ahead = tokens_of text.now tokens.now; variables = variables } }
+        ensures { result ≡ record { text = text.now; ahead = tokens_of text.now tokens.now; variables = variables; integers = integers } }
     {
         Reader {
             alloc,
             text,
             rest: tokens,
             variables,
+            integers,
         }
     }
 
@@ -98,6 +112,13 @@ impl<'a> Reader<'a> {
         self.variables
     }
 
+    /// The integers by which it computes.
+    pub fn integers(&self) -> Integers
+        ensures { result ≡ self.now.integers }
+    {
+        self.integers
+    }
+
     /// The line of the byte at a place, counted from 1; `at` counts the bytes before it.
     pub fn line(&self, at: u32) -> u32
         ensures { result ≡ line_at self.now.text at }
@@ -109,10 +130,12 @@ impl<'a> Reader<'a> {
     pub fn site(&self, at: u32) -> Site
         ensures variables { result.variables ≡ self.now.variables }
         ensures line { result.line ≡ line_at self.now.text at }
+        ensures integers { result.integers ≡ self.now.integers }
     {
         Site {
             variables: self.variables,
             line: self.line(at),
+            integers: self.integers,
         }
     }
 

@@ -13,26 +13,29 @@ use Rattle.source_reader.specs.Reading.{Reading, at_tokens}
 use Rattle.source_change.specs.Tests.{IsTest}
 use Rattle.source_statement.specs.Pushed.{WasPushed}
 use Rattle.source_statement.specs.declared.head.Head.{Head}
+use Rattle.base_integers.specs.declared.integers.Integers.{Integers}
 
 -- The head of a `for` of this line, over n variables, was read, up to these tokens.
-pub record WasHeaded (n line : ℕ) (rest : List Token) (old new : Reading) (met : State) (before after : List Stmt) (h : Head)
+pub record WasHeaded (integers : Integers) (n line : ℕ) (rest : List Token) (old new : Reading) (met : State) (before after : List Stmt)
+    (h : Head)
     (r : State × Statements × Expression × List Change) : Type 0 where
   pub known : met ≡ r.0
-  pub out : WasPushed n before after r.1
-  pub test : IsTest h.test (condition_of n line r.2)
-  pub change : deeds_of h.change.items ≡ changes_deeds n r.3
+  pub out : WasPushed integers n before after r.1
+  pub test : IsTest h.test (condition_of integers n line r.2)
+  pub change : deeds_of h.change.items ≡ changes_deeds integers n r.3
   pub reader : new ≡ at_tokens old rest
 
 -- Statements over n variables were read as a block, up to these tokens.
-pub record WasBlock (n : ℕ) (rest : List Token) (old new : Reading) (met : State) (made : tree.Statements) (r : State × Statements) :
+pub record WasBlock (integers : Integers) (n : ℕ) (rest : List Token) (old new : Reading) (met : State) (made : tree.Statements)
+    (r : State × Statements) :
     Type 0 where
   pub known : met ≡ r.0
-  pub block : made ≡ core_in n r.1
+  pub block : made ≡ core_in integers n r.1
   pub reader : new ≡ at_tokens old rest
 
 -- What is evaluated was counted, and stands behind what was there.
-abbrev pub WasEvaluated : (n : ℕ) (met : State) (before after : List Stmt) → State × Statements → Type 0
-WasEvaluated n known before after r = (known ≡ r.0) × WasPushed n before after r.1
+abbrev pub WasEvaluated : (integers : Integers) (n : ℕ) (met : State) (before after : List Stmt) → State × Statements → Type 0
+WasEvaluated integers n known before after r = (known ≡ r.0) × WasPushed integers n before after r.1
 
 -- there is no fault
 abbrev pub no_fault : Result (Unit {0}) FunctionFault

@@ -14,6 +14,7 @@ use Rattle.source_meaning.specs.Limits.{counted}
 use Rattle.source_meaning.specs.Statements.{read_condition, prelude_of, read_sub, read_core, read_declarators, read_first, read_test}
 use Rattle.source_meaning.specs.Statements.{read_updates, new_label, one}
 use Rattle.source_statement.specs.Onto.{onto_sub}
+use Rattle.base_integers.specs.declared.integers.Integers.{Integers}
 
 -- what stands behind an `else`, if there is one
 pub data Other : Type 0 where
@@ -35,24 +36,26 @@ abbrev pub AfterOther : Other → Kind → Type 0
 AfterOther no_other k = NotElse k
 AfterOther (other d t) k = AfterCore (ending_sub t) k
 
-module _ (line : ℕ → ℕ) (n : ℕ) where
+module _ (integers : Integers) (line : ℕ → ℕ) (n : ℕ) where
   -- what stands behind an `else`, with its names resolved
   abbrev pub read_other : (inside : Bool) → State → Other → Result (State × Statements) FunctionFault
   read_other inside st no_other = Ok (st, nil)
-  read_other inside st (other d t) = read_sub line n inside st t
+  read_other inside st (other d t) = read_sub integers line n inside st t
 
   -- an `if`
   abbrev pub read_branch : (inside : Bool) → State → (at : ℕ) → Expr → Sub → Other → Result (State × Statements) FunctionFault
   read_branch inside st at e s o =
-      read_condition line n st at e >>= λ x. counted at (prelude_of line n at x + 1) st >>= λ now. read_sub line n inside now s
+      read_condition integers line n st at e >>= λ x. counted at
+      (prelude_of integers line n at x + 1) st >>= λ now. read_sub integers line n inside now s
       >>= λ r. read_other inside r.0 o >>= λ q. Ok (q.0, one (branch x r.1 q.1 (line at)))
 
   -- the head of a `for`: the statements before it, its condition, and its changes
   abbrev pub read_head : State → (at : ℕ) → ForFirst → Optional → Updates
       → Result (State × Statements × Expression × List Change) FunctionFault
   read_head st at f t us =
-      read_first line n st f >>= λ r. read_test line n r.0 at t >>= λ x. counted at (prelude_of line n at x + 1) r.0
-      >>= λ now. read_updates line n now us >>= λ u. Ok (u.0, r.1, x, u.1)
+      read_first integers line n st f >>= λ r. read_test integers line n r.0 at t >>= λ x. counted at
+      (prelude_of integers line n at x + 1) r.0
+      >>= λ now. read_updates integers line n now us >>= λ u. Ok (u.0, r.1, x, u.1)
 
   -- a label
   abbrev pub read_label : State → List ℕ → (at : ℕ) → Result (State × Statements) FunctionFault
@@ -62,8 +65,8 @@ module _ (line : ℕ → ℕ) (n : ℕ) where
   abbrev pub read_one : (inside : Bool) → State → Items → Result (State × Statements) FunctionFault
   read_one inside st no_items = Ok (st, nil)
   read_one inside st (tree.label x at b is) = read_label st x at
-  read_one inside st (tree.declaration a xs b is) = read_declarators line n st xs
-  read_one inside st (item c is) = read_core line n inside st c
+  read_one inside st (tree.declaration a xs b is) = read_declarators integers line n st xs
+  read_one inside st (item c is) = read_core integers line n inside st c
 
 -- those behind it
 abbrev pub others : Items → Items

@@ -4,7 +4,8 @@ use Rattle.lang_tree.specs.View.{statements_of}
 use Rattle.lang_tree.specs.declared.stmt.Stmt.{Stmt}
 use Rattle.source_tree.specs.Statements.{Statements}
 use Rattle.source_core.specs.Core.{followed_by, core_in}
+use Rattle.base_integers.specs.declared.integers.Integers.{Integers}
 
 -- the core's statements over n variables stand behind those that were there
-abbrev pub WasPushed : (n : ℕ) (before after : List Stmt) → Statements → Type 0
-WasPushed n before after ss = statements_of after ≡ followed_by (statements_of before) (core_in n ss)
+abbrev pub WasPushed : (integers : Integers) (n : ℕ) (before after : List Stmt) → Statements → Type 0
+WasPushed integers n before after ss = statements_of after ≡ followed_by (statements_of before) (core_in integers n ss)

@@ -31,8 +31,9 @@ pub(crate) fn label(
     out: &mut Vec<Stmt>,
 ) -> Result<(), Stop>
     ensures reads { (b : ℕ) (rest : List Token) → reader.old.ahead ≡ token colon b ∷ rest
-        → Answers (λ _ r. WasRead reader.old.variables rest reader.old reader.new known.new out.old.items out.new.items r) result
-        (read_label (line_at reader.old.text) reader.old.variables known.old first.name first.at) }
+        → Answers (λ _ r. WasRead reader.old.integers reader.old.variables rest reader.old reader.new
+        known.new out.old.items out.new.items r) result
+        (read_label reader.old.integers (line_at reader.old.text) reader.old.variables known.old first.name first.at) }
     ensures shorter { OnOk result (length reader.new.ahead < length reader.old.ahead) }
 {
     reader.take(Mark::Colon)?;
@@ -54,8 +55,9 @@ pub(crate) fn core(
 ) -> Result<(), Stop>
     ensures reads { (c : Core) (rest : List Token) → GoodCore c → reader.old.ahead ≡ onto_core c rest
         → AfterCore (ending_core c) (first_kind rest)
-        → Answers (λ _ r. WasRead reader.old.variables rest reader.old reader.new known.new out.old.items out.new.items r)
-        result (read_core (line_at reader.old.text) reader.old.variables inside known.old c) }
+        → Answers (λ _ r. WasRead reader.old.integers reader.old.variables rest reader.old reader.new
+        known.new out.old.items out.new.items r)
+        result (read_core reader.old.integers (line_at reader.old.text) reader.old.variables inside known.old c) }
     ensures shorter { OnOk result (length reader.new.ahead < length reader.old.ahead) }
 {
     match coming(reader) {
@@ -78,8 +80,9 @@ pub(crate) fn sub(
 ) -> Result<(), Stop>
     ensures reads { (s : Sub) (rest : List Token) → GoodSub s → reader.old.ahead ≡ onto_sub s rest
         → AfterCore (ending_sub s) (first_kind rest)
-        → Answers (λ _ r. WasRead reader.old.variables rest reader.old reader.new known.new out.old.items out.new.items r)
-        result (read_sub (line_at reader.old.text) reader.old.variables inside known.old s) }
+        → Answers (λ _ r. WasRead reader.old.integers reader.old.variables rest reader.old reader.new
+        known.new out.old.items out.new.items r)
+        result (read_sub reader.old.integers (line_at reader.old.text) reader.old.variables inside known.old s) }
     ensures shorter { OnOk result (length reader.new.ahead < length reader.old.ahead) }
 {
     match coming(reader) {
@@ -102,8 +105,8 @@ pub(crate) fn sub(
 pub(crate) fn body(reader: &mut Reader, known: &mut Known, inside: bool) -> Result<Block, Stop>
     ensures reads { (s : Sub) (rest : List Token) → GoodSub s → reader.old.ahead ≡ onto_sub s rest
         → AfterCore (ending_sub s) (first_kind rest)
-        → Answers (λ b r. WasBlock reader.old.variables rest reader.old reader.new known.new b r)
-        result (read_sub (line_at reader.old.text) reader.old.variables inside known.old s) }
+        → Answers (λ b r. WasBlock reader.old.integers reader.old.variables rest reader.old reader.new known.new b r)
+        result (read_sub reader.old.integers (line_at reader.old.text) reader.old.variables inside known.old s) }
     ensures shorter { OnOk result (length reader.new.ahead < length reader.old.ahead) }
 {
     let mut list = Vec::new(reader.alloc());
@@ -116,8 +119,8 @@ pub(crate) fn body(reader: &mut Reader, known: &mut Known, inside: bool) -> Resu
 pub(crate) fn other(reader: &mut Reader, known: &mut Known, inside: bool) -> Result<Block, Stop>
     ensures reads { (s : Sub) (o : Other) (rest : List Token) → GoodOther s o → reader.old.ahead ≡ onto_other o rest
         → AfterOther o (first_kind rest)
-        → Answers (λ b r. WasBlock reader.old.variables rest reader.old reader.new known.new b r)
-        result (read_other (line_at reader.old.text) reader.old.variables inside known.old o) }
+        → Answers (λ b r. WasBlock reader.old.integers reader.old.variables rest reader.old reader.new known.new b r)
+        result (read_other reader.old.integers (line_at reader.old.text) reader.old.variables inside known.old o) }
     ensures shorter { OnOk result (length reader.new.ahead ≤ length reader.old.ahead) }
 {
     match coming(reader) {

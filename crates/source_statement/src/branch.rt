@@ -1,6 +1,7 @@
 //! `if`.
 
 ghost use Rattle.std.specs.Prelude.{◌≡◌, ◌<◌, ◌++◌, ◌∷◌, ℕ, Bool, List, length, OnOk};
+ghost use Rattle.base_integers.specs.declared.integers.Integers.{Integers};
 ghost use Rattle.lang_tokens.specs.Lines.{line_at};
 ghost use Rattle.source_grammar.specs.Tokens.{Token, token, if_word, left_paren, right_paren};
 ghost use Rattle.source_grammar.specs.Grammar.{Expr, Groups, spell_expr, Sub, GoodSub};
@@ -30,9 +31,10 @@ fn push_branch(
     line: u32,
     out: &mut Vec<Stmt>,
 ) -> Result<(), AllocError>
-    ensures { OnOk result ((n : ℕ) (e : Expression) (yes no : Statements) → IsTest test (condition_of n line e)
-        → first ≡ core_in n yes → second ≡ core_in n no
-        → WasPushed n out.old.items out.new.items (one (branch e yes no line))) }
+    ensures { OnOk result ((integers : Integers) (n : ℕ) (e : Expression) (yes no : Statements) → IsTest test
+        (condition_of integers n line e)
+        → first ≡ core_in integers n yes → second ≡ core_in integers n no
+        → WasPushed integers n out.old.items out.new.items (one (branch e yes no line))) }
 {
     push_deeds(out, test.prelude)?;
     out.push(Stmt::If {
@@ -55,8 +57,9 @@ pub(crate) fn branch(
     ensures reads { (a b : ℕ) (e : Expr) (c : ℕ) (s : Sub) (o : Other) (rest : List Token) → Groups 0 e → GoodSub s → GoodOther s o
         → reader.old.ahead ≡ token if_word a ∷ token left_paren b ∷ (spell_expr e ++ token right_paren c ∷ onto_sub s (onto_other o rest))
         → AfterOther o (first_kind rest)
-        → Answers (λ _ r. WasRead reader.old.variables rest reader.old reader.new known.new out.old.items out.new.items r)
-        result (read_branch (line_at reader.old.text) reader.old.variables inside known.old a e s o) }
+        → Answers (λ _ r. WasRead reader.old.integers reader.old.variables rest reader.old reader.new
+        known.new out.old.items out.new.items r)
+        result (read_branch reader.old.integers (line_at reader.old.text) reader.old.variables inside known.old a e s o) }
     ensures shorter { OnOk result (length reader.new.ahead < length reader.old.ahead) }
 {
     let at = reader.at();

@@ -1,6 +1,7 @@
 //! Calls as statements.
 
 ghost use Rattle.std.specs.Prelude.{◌≡◌, ◌≤◌, ◌++◌, ◌∷◌, ℕ, Bool, List, length, OnOk};
+ghost use Rattle.base_integers.specs.declared.integers.Integers.{Integers};
 ghost use Rattle.lang_tokens.specs.Lines.{line_at};
 ghost use Rattle.lang_tree.specs.Tree.{nodes_in};
 ghost use Rattle.source_grammar.specs.Tokens.{Token, token, left_paren, right_paren, semicolon};
@@ -40,7 +41,7 @@ fn is_error(name: &[u8]) -> bool
 
 // A place that is not to be reached: its condition is never true.
 fn never(alloc: Global, at: u32, line: u32) -> Stmt
-    ensures { (n : ℕ) → core.one (statement_of result) ≡ core_of n (never at line) }
+    ensures { (integers : Integers) (n : ℕ) → core.one (statement_of result) ≡ core_of integers n (never at line) }
 {
     let zero = Form {
         coeffs: Coeffs::new(Vec::new(alloc)),
@@ -64,8 +65,8 @@ fn push_call(
     out: &mut Vec<Stmt>,
 ) -> Result<(), Stop>
     ensures { let after = call_of first.now.name first.now.at (line_at reader.now.text first.now.at) in
-        Answers (λ _ st. (known.new ≡ st) × WasPushed reader.now.variables out.old.items out.new.items after)
-        result (counted first.now.at (nodes_in (core_in reader.now.variables after)) known.old) }
+        Answers (λ _ st. (known.new ≡ st) × WasPushed reader.now.integers reader.now.variables out.old.items out.new.items after)
+        result (counted first.now.at (nodes_in (core_in reader.now.integers reader.now.variables after)) known.old) }
 {
     let line = reader.line(first.at);
     if is_error(first.name.bytes()) {
@@ -91,8 +92,10 @@ pub(crate) fn call(
 ) -> Result<(), Stop>
     ensures reads { (inside : Bool) (b : ℕ) (es : Arguments) (c d : ℕ) (rest : List Token) → GoodArguments es
         → reader.old.ahead ≡ token left_paren b ∷ (spell_arguments es ++ token right_paren c ∷ token semicolon d ∷ rest)
-        → Answers (λ _ r. WasRead reader.old.variables rest reader.old reader.new known.new out.old.items out.new.items r)
-        result (read_core (line_at reader.old.text) reader.old.variables inside known.old (calls first.now.name first.now.at b es c d)) }
+        → Answers (λ _ r. WasRead reader.old.integers reader.old.variables rest reader.old reader.new
+        known.new out.old.items out.new.items r)
+        result (read_core reader.old.integers (line_at reader.old.text) reader.old.variables inside known.old
+        (calls first.now.name first.now.at b es c d)) }
     ensures shorter { OnOk result (length reader.new.ahead ≤ length reader.old.ahead) }
 {
     reader.skip();

@@ -1,6 +1,7 @@
 //! Assumptions and assertions.
 
 ghost use Rattle.std.specs.Prelude.{◌≡◌, ◌<◌, ◌≤◌, ◌+◌, ◌++◌, ◌∷◌, ℕ, Bool, List, length, OnOk};
+ghost use Rattle.base_integers.specs.declared.integers.Integers.{Integers};
 ghost use Rattle.lang_tokens.specs.Lines.{line_at};
 ghost use Rattle.lang_tree.specs.Tree.{nodes_in};
 ghost use Rattle.source_grammar.specs.Symbols.{demand_of};
@@ -23,8 +24,9 @@ use std::alloc::{AllocError, Global};
 // How many statements an assumption or an assertion is besides its prelude.
 fn size(demand: Demand) -> usize
     ensures few { result ≤ 2 }
-    ensures nodes { (n line at : ℕ) (e : Expression) → nodes_in (core_of n (node_of (demand_of demand) e at line))
-        ≡ length (condition_of n line e).prelude + result }
+    ensures nodes { (integers : Integers) (n line at : ℕ) (e : Expression) → nodes_in
+        (core_of integers n (node_of (demand_of demand) e at line))
+        ≡ length (condition_of integers n line e).prelude + result }
 {
     match demand {
         Demand::Assumes => 1,
@@ -41,8 +43,8 @@ fn push_demand(
     test: Test,
     out: &mut Vec<Stmt>,
 ) -> Result<(), AllocError>
-    ensures { OnOk result ((n : ℕ) (e : Expression) → IsTest test (condition_of n line e)
-        → WasPushed n out.old.items out.new.items (one (node_of (demand_of demand) e at line))) }
+    ensures { OnOk result ((integers : Integers) (n : ℕ) (e : Expression) → IsTest test (condition_of integers n line e)
+        → WasPushed integers n out.old.items out.new.items (one (node_of (demand_of demand) e at line))) }
 {
     push_deeds(out, test.prelude)?;
     let cond = test.cond;
@@ -71,8 +73,10 @@ pub(crate) fn demand(
     ensures reads { (inside : Bool) (a b : ℕ) (e : Expr) (c d : ℕ) (rest : List Token) → Groups 0 e
         → reader.old.ahead ≡ token (demand_word (demand_of demand)) a ∷ token left_paren b
         ∷ (spell_expr e ++ token right_paren c ∷ token semicolon d ∷ rest)
-        → Answers (λ _ r. WasRead reader.old.variables rest reader.old reader.new known.new out.old.items out.new.items r)
-        result (read_core (line_at reader.old.text) reader.old.variables inside known.old (demands (demand_of demand) a b e c d)) }
+        → Answers (λ _ r. WasRead reader.old.integers reader.old.variables rest reader.old reader.new
+        known.new out.old.items out.new.items r)
+        result (read_core reader.old.integers (line_at reader.old.text) reader.old.variables inside known.old
+        (demands (demand_of demand) a b e c d)) }
     ensures shorter { OnOk result (length reader.new.ahead < length reader.old.ahead) }
 {
     let at = reader.at();

@@ -12,6 +12,7 @@ ghost use Rattle.source_statement.specs.Whole.{IsProgram, IsWhole};
 
 use crate::items::items;
 use crate::parameters::{parameters, pass_name};
+use base_integers::Integers;
 use lang_tokens::Token;
 use lang_tree::{Block, Names, Program, Stmt};
 use source_meaning::{FunctionFault, functions_are_within_limits, names_are_resolved};
@@ -29,7 +30,7 @@ struct Whole {
 // The variables and the statements of the function that comes next.
 fn read_whole(reader: &mut Reader) -> Result<Whole, Stop>
     ensures { (f : Function) → Good f → reader.old.ahead ≡ spell f → reader.old.variables ≡ width_of f
-        → Answers (λ w r. IsWhole (width_of f) w r) result (walk (line_at reader.old.text) f) }
+        → Answers (λ w r. IsWhole reader.old.integers (width_of f) w r) result (walk reader.old.integers (line_at reader.old.text) f) }
 {
     let mut known = Known::new(reader.alloc());
     let mut list = Vec::new(reader.alloc());
@@ -45,22 +46,23 @@ fn read_whole(reader: &mut Reader) -> Result<Whole, Stop>
 }
 
 /// The function that these tokens of a text are, as a program, or its first fault; `variables` is how many variables it declares, at most
-/// `MOST_VARIABLES` (docs/MEANING.md, "Functions of C"; faults: docs/FORMATS.md, "Functions").
+/// `MOST_VARIABLES`, and `integers` those by which it computes (docs/MEANING.md, "Functions of C"; faults: docs/FORMATS.md, "Functions").
 pub fn function(
     alloc: Global,
     text: &[u8],
     tokens: &[Token],
     variables: u32,
+    integers: Integers,
 ) -> Result<Program, Stop>
     requires few { length text.now ≤ MOST_TEXT_BYTES }
     requires placed { AreTokensIn text.now tokens.now }
     requires read { (f : Function) × Reads (tokens_of text.now tokens.now) f × (variables ≡ width_of f) }
     ensures { (f : Function) → Reads (tokens_of text.now tokens.now) f → variables ≡ width_of f
-        → Answers IsProgram result (walk (line_at text.now) f) }
+        → Answers (IsProgram integers) result (walk integers (line_at text.now) f) }
 {
     functions_are_within_limits();
     names_are_resolved();
-    let mut reader = Reader::new(alloc, text, tokens, variables);
+    let mut reader = Reader::new(alloc, text, tokens, variables, integers);
     let whole = read_whole(&mut reader)?;
     Ok(Program {
         names: whole.names,

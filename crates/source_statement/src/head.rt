@@ -1,6 +1,7 @@
 //! Heads of `for`.
 
 ghost use Rattle.std.specs.Prelude.{◌≡◌, ◌<◌, ◌≤◌, ◌++◌, ◌∷◌, ℕ, List, length, OnOk};
+ghost use Rattle.base_integers.specs.declared.integers.Integers.{Integers};
 ghost use Rattle.lang_tokens.specs.Lines.{line_at};
 ghost use Rattle.source_grammar.specs.Tokens.{Token, token, left_paren, right_paren, semicolon};
 ghost use Rattle.source_grammar.specs.Grammar.{ForFirst, GoodFirst, Optional, GoodOptional, Updates, GoodUpdates};
@@ -31,9 +32,9 @@ pub(crate) struct Head {
 // The first part of the head, whose statements come behind those that are there.
 fn first(reader: &mut Reader, known: &mut Known, out: &mut Vec<Stmt>) -> Result<(), Stop>
     ensures reads { (f : ForFirst) (c : ℕ) (rest : List Token) → GoodFirst f → reader.old.ahead ≡ onto_first f (token semicolon c ∷ rest)
-        → Answers (λ _ r. WasRead reader.old.variables
+        → Answers (λ _ r. WasRead reader.old.integers reader.old.variables
         (token semicolon c ∷ rest) reader.old reader.new known.new out.old.items out.new.items r)
-        result (read_first (line_at reader.old.text) reader.old.variables known.old f) }
+        result (read_first reader.old.integers (line_at reader.old.text) reader.old.variables known.old f) }
     ensures shorter { OnOk result (length reader.new.ahead ≤ length reader.old.ahead) }
 {
     match coming(reader) {
@@ -51,7 +52,7 @@ fn first(reader: &mut Reader, known: &mut Known, out: &mut Vec<Stmt>) -> Result<
 
 // The condition of a `for` without one: 0 is at most 0.
 fn always(alloc: Global) -> Test
-    ensures { (n line at : ℕ) → IsTest result (condition_of n line (always at)) }
+    ensures { (integers : Integers) (n line at : ℕ) → IsTest result (condition_of integers n line (always at)) }
 {
     let zero = Form {
         coeffs: Coeffs::new(Vec::new(alloc)),
@@ -67,9 +68,9 @@ fn always(alloc: Global) -> Test
 fn for_test(reader: &mut Reader, known: &Known, at: u32) -> Result<Test, Stop>
     ensures reads { (t : Optional) (d : ℕ) (rest : List Token) → GoodOptional t → reader.old.ahead ≡ onto_optional t
         (token semicolon d ∷ rest)
-        → Answers (λ t x. IsTest t (condition_of reader.old.variables (line_at reader.old.text at) x)
+        → Answers (λ t x. IsTest t (condition_of reader.old.integers reader.old.variables (line_at reader.old.text at) x)
         × (reader.new ≡ at_tokens reader.old (token semicolon d ∷ rest))) result
-        (read_test (line_at reader.old.text) reader.old.variables known.now at t) }
+        (read_test reader.old.integers (line_at reader.old.text) reader.old.variables known.now at t) }
     ensures shorter { OnOk result (length reader.new.ahead ≤ length reader.old.ahead) }
 {
     match coming(reader) {
@@ -89,9 +90,10 @@ pub(crate) fn for_head(
         → GoodFirst f → GoodOptional t → GoodUpdates us
         → reader.old.ahead ≡ token left_paren b ∷ onto_first f (token semicolon c ∷ onto_optional t (token semicolon d
         ∷ onto_updates us (token right_paren i ∷ rest)))
-        → Answers (λ h r. WasHeaded reader.old.variables (line_at reader.old.text at) rest reader.old reader.new known.new
+        → Answers (λ h r. WasHeaded reader.old.integers reader.old.variables
+        (line_at reader.old.text at) rest reader.old reader.new known.new
         out.old.items out.new.items h r) result
-        (read_head (line_at reader.old.text) reader.old.variables known.old at f t us) }
+        (read_head reader.old.integers (line_at reader.old.text) reader.old.variables known.old at f t us) }
     ensures shorter { OnOk result (length reader.new.ahead < length reader.old.ahead) }
 {
     reader.take(Mark::LeftParen)?;

@@ -23,8 +23,9 @@ use source_reader::{Mark, Reader, Stop};
 fn declaration(reader: &mut Reader, known: &mut Known, out: &mut Vec<Stmt>) -> Result<(), Stop>
     ensures reads { (a : ℕ) (xs : Declarators) (b : ℕ) (rest : List Token) → GoodDeclarators xs
         → reader.old.ahead ≡ token int_word a ∷ onto_declarators xs (token semicolon b ∷ rest)
-        → Answers (λ _ r. WasRead reader.old.variables rest reader.old reader.new known.new out.old.items out.new.items r)
-        result (read_declarators (line_at reader.old.text) reader.old.variables known.old xs) }
+        → Answers (λ _ r. WasRead reader.old.integers reader.old.variables rest reader.old reader.new
+        known.new out.old.items out.new.items r)
+        result (read_declarators reader.old.integers (line_at reader.old.text) reader.old.variables known.old xs) }
     ensures shorter { OnOk result (length reader.new.ahead < length reader.old.ahead) }
 {
     reader.skip();
@@ -43,9 +44,10 @@ fn item(
 ) -> Result<(), Stop>
     ensures reads { (is : Items) (b : ℕ) (rest : List Token) → GoodItems is → GoodOne is
         → reader.old.ahead ≡ onto_items is (token right_brace b ∷ rest)
-        → Answers (λ _ r. WasRead reader.old.variables (onto_items (others is) (token right_brace b ∷ rest)) reader.old reader.new known.new
+        → Answers (λ _ r. WasRead reader.old.integers reader.old.variables
+        (onto_items (others is) (token right_brace b ∷ rest)) reader.old reader.new known.new
         out.old.items out.new.items r)
-        result (read_one (line_at reader.old.text) reader.old.variables inside known.old is) }
+        result (read_one reader.old.integers (line_at reader.old.text) reader.old.variables inside known.old is) }
     ensures shorter { OnOk result (length reader.new.ahead < length reader.old.ahead) }
 {
     match coming(reader) {
@@ -70,9 +72,9 @@ pub(crate) fn items(
     out: &mut Vec<Stmt>,
 ) -> Result<(), Stop>
     ensures reads { (is : Items) (b : ℕ) (rest : List Token) → GoodItems is → reader.old.ahead ≡ onto_items is (token right_brace b ∷ rest)
-        → Answers (λ _ r. WasRead reader.old.variables (token right_brace b ∷ rest) reader.old reader.new known.new
+        → Answers (λ _ r. WasRead reader.old.integers reader.old.variables (token right_brace b ∷ rest) reader.old reader.new known.new
         out.old.items out.new.items r)
-        result (read_items (line_at reader.old.text) reader.old.variables inside known.old is) }
+        result (read_items reader.old.integers (line_at reader.old.text) reader.old.variables inside known.old is) }
     ensures shorter { OnOk result (length reader.new.ahead ≤ length reader.old.ahead) }
 {
     'all: while !is_closing(reader) {
@@ -90,8 +92,9 @@ pub(crate) fn block(
     out: &mut Vec<Stmt>,
 ) -> Result<(), Stop>
     ensures reads { (a : ℕ) (is : Items) (b : ℕ) (rest : List Token) → GoodItems is → reader.old.ahead ≡ onto_core (block a is b) rest
-        → Answers (λ _ r. WasRead reader.old.variables rest reader.old reader.new known.new out.old.items out.new.items r)
-        result (read_core (line_at reader.old.text) reader.old.variables inside known.old (block a is b)) }
+        → Answers (λ _ r. WasRead reader.old.integers reader.old.variables rest reader.old reader.new
+        known.new out.old.items out.new.items r)
+        result (read_core reader.old.integers (line_at reader.old.text) reader.old.variables inside known.old (block a is b)) }
     ensures shorter { OnOk result (length reader.new.ahead < length reader.old.ahead) }
 {
     reader.take(Mark::LeftBrace)?;

@@ -1,6 +1,7 @@
 //! Jumps.
 
 ghost use Rattle.std.specs.Prelude.{◌≡◌, ◌≤◌, ◌<◌, ◌∷◌, ℕ, Bool, List, length, OnOk};
+ghost use Rattle.base_integers.specs.declared.integers.Integers.{Integers};
 ghost use Rattle.lang_tokens.specs.Lines.{line_at};
 ghost use Rattle.lang_tree.specs.View.{statement_of};
 ghost use Rattle.source_grammar.specs.Symbols.{jump_of};
@@ -28,7 +29,7 @@ use source_reader::{Mark, Reader, Stop};
 use source_value::{Evaluated, Site};
 
 fn jump_node(jump: Jump, line: u32) -> Stmt
-    ensures { (n : ℕ) → one (statement_of result) ≡ core_of n (node_of (jump_of jump) line) }
+    ensures { (integers : Integers) (n : ℕ) → one (statement_of result) ≡ core_of integers n (node_of (jump_of jump) line) }
 {
     match jump {
         Jump::Breaks => Stmt::Break { line },
@@ -45,8 +46,9 @@ pub(crate) fn jump(
     out: &mut Vec<Stmt>,
 ) -> Result<(), Stop>
     ensures reads { (a b : ℕ) (rest : List Token) → reader.old.ahead ≡ token (jump_word (jump_of jump)) a ∷ token semicolon b ∷ rest
-        → Answers (λ _ r. WasRead reader.old.variables rest reader.old reader.new known.new out.old.items out.new.items r)
-        result (read_core (line_at reader.old.text) reader.old.variables inside known.old (jumps (jump_of jump) a b)) }
+        → Answers (λ _ r. WasRead reader.old.integers reader.old.variables rest reader.old reader.new
+        known.new out.old.items out.new.items r)
+        result (read_core reader.old.integers (line_at reader.old.text) reader.old.variables inside known.old (jumps (jump_of jump) a b)) }
     ensures shorter { OnOk result (length reader.new.ahead < length reader.old.ahead) }
 {
     let at = reader.at();
@@ -69,9 +71,9 @@ pub(crate) fn push_evaluated(
     out: &mut Vec<Stmt>,
 ) -> Result<(), Stop>
     ensures { (line : ℕ → ℕ) (es : Expressions) → site.line ≡ line at
-        → StandsEvaluated site.variables all (evaluated (line at) es site.variables)
-        → Answers (λ _ r. WasEvaluated site.variables known.new out.old.items out.new.items r) result
-        (read_evaluated line site.variables known.old at (evaluates es (line at))) }
+        → StandsEvaluated site.variables all (evaluated site.integers (line at) es site.variables)
+        → Answers (λ _ r. WasEvaluated site.integers site.variables known.new out.old.items out.new.items r) result
+        (read_evaluated site.integers line site.variables known.old at (evaluates es (line at))) }
 {
     let deeds = evaluated(site, at, all)?;
     known.count(at, deeds.len())?;
@@ -88,9 +90,9 @@ fn returned(
 ) -> Result<(), Stop>
     ensures reads { (t : Optional) (b : ℕ) (rest : List Token) → GoodOptional t → reader.old.ahead ≡ onto_optional t
         (token semicolon b ∷ rest)
-        → Answers (λ _ r. WasRead reader.old.variables
+        → Answers (λ _ r. WasRead reader.old.integers reader.old.variables
         (token semicolon b ∷ rest) reader.old reader.new known.new out.old.items out.new.items r)
-        result (read_returned (line_at reader.old.text) reader.old.variables known.old at t) }
+        result (read_returned reader.old.integers (line_at reader.old.text) reader.old.variables known.old at t) }
     ensures shorter { OnOk result (length reader.new.ahead ≤ length reader.old.ahead) }
 {
     if let Start::Semicolon = coming(reader) {
@@ -113,8 +115,9 @@ pub(crate) fn return_statement(
 ) -> Result<(), Stop>
     ensures reads { (inside : Bool) (a : ℕ) (t : Optional) (b : ℕ) (rest : List Token) → GoodOptional t
         → reader.old.ahead ≡ token return_word a ∷ onto_optional t (token semicolon b ∷ rest)
-        → Answers (λ _ r. WasRead reader.old.variables rest reader.old reader.new known.new out.old.items out.new.items r)
-        result (read_core (line_at reader.old.text) reader.old.variables inside known.old (returns a t b)) }
+        → Answers (λ _ r. WasRead reader.old.integers reader.old.variables rest reader.old reader.new
+        known.new out.old.items out.new.items r)
+        result (read_core reader.old.integers (line_at reader.old.text) reader.old.variables inside known.old (returns a t b)) }
     ensures shorter { OnOk result (length reader.new.ahead < length reader.old.ahead) }
 {
     let at = reader.at();

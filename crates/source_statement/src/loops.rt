@@ -30,8 +30,9 @@ pub(crate) fn while_loop(
 ) -> Result<(), Stop>
     ensures reads { (inside : Bool) (a b : ℕ) (e : Expr) (c : ℕ) (s : Sub) (rest : List Token) → GoodCore (repeat a b e c s)
         → reader.old.ahead ≡ onto_core (repeat a b e c s) rest → AfterCore (ending_core (repeat a b e c s)) (first_kind rest)
-        → Answers (λ _ r. WasRead reader.old.variables rest reader.old reader.new known.new out.old.items out.new.items r)
-        result (read_core (line_at reader.old.text) reader.old.variables inside known.old (repeat a b e c s)) }
+        → Answers (λ _ r. WasRead reader.old.integers reader.old.variables rest reader.old reader.new
+        known.new out.old.items out.new.items r)
+        result (read_core reader.old.integers (line_at reader.old.text) reader.old.variables inside known.old (repeat a b e c s)) }
     ensures shorter { OnOk result (length reader.new.ahead < length reader.old.ahead) }
 {
     let at = reader.at();
@@ -59,8 +60,10 @@ pub(crate) fn do_loop(
     ensures reads { (inside : Bool) (a : ℕ) (s : Sub) (b c : ℕ) (e : Expr) (d i : ℕ) (rest : List Token) → GoodCore
         (repeat_after a s b c e d i)
         → reader.old.ahead ≡ onto_core (repeat_after a s b c e d i) rest
-        → Answers (λ _ r. WasRead reader.old.variables rest reader.old reader.new known.new out.old.items out.new.items r)
-        result (read_core (line_at reader.old.text) reader.old.variables inside known.old (repeat_after a s b c e d i)) }
+        → Answers (λ _ r. WasRead reader.old.integers reader.old.variables rest reader.old reader.new
+        known.new out.old.items out.new.items r)
+        result (read_core reader.old.integers (line_at reader.old.text) reader.old.variables inside known.old
+        (repeat_after a s b c e d i)) }
     ensures shorter { OnOk result (length reader.new.ahead < length reader.old.ahead) }
 {
     let at = reader.at();
@@ -91,8 +94,10 @@ pub(crate) fn for_loop(
         (rest : List Token)
         → GoodCore (repeat_for a b f c t d us i s) → reader.old.ahead ≡ onto_core (repeat_for a b f c t d us i s) rest
         → AfterCore (ending_core (repeat_for a b f c t d us i s)) (first_kind rest)
-        → Answers (λ _ r. WasRead reader.old.variables rest reader.old reader.new known.new out.old.items out.new.items r)
-        result (read_core (line_at reader.old.text) reader.old.variables inside known.old (repeat_for a b f c t d us i s)) }
+        → Answers (λ _ r. WasRead reader.old.integers reader.old.variables rest reader.old reader.new
+        known.new out.old.items out.new.items r)
+        result (read_core reader.old.integers (line_at reader.old.text) reader.old.variables inside known.old
+        (repeat_for a b f c t d us i s)) }
     ensures shorter { OnOk result (length reader.new.ahead < length reader.old.ahead) }
 {
     let at = reader.at();

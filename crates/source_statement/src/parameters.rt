@@ -12,7 +12,7 @@ ghost use Rattle.source_statement.specs.Onto.{onto_specifiers, onto_parameters, 
 
 use crate::starts::{Start, coming};
 use lang_tree::Stmt;
-use source_change::take_name;
+use source_change::{bare, take_name};
 use source_names::Known;
 use source_reader::{Mark, Reader, Stop};
 
@@ -29,30 +29,24 @@ pub(crate) fn pass_name(reader: &mut Reader)
     reader.skip();
 }
 
-// A parameter behind its `int`, which has any value.
+// A parameter behind its `int`, which has any of the integers.
 fn parameter(reader: &mut Reader, known: &mut Known, out: &mut Vec<Stmt>) -> Result<(), Stop>
     ensures reads { (x : List ℕ) (a : ℕ) (rest : List Token) → reader.old.ahead ≡ token (a_name x) a ∷ rest
-        → Answers (λ _ r. WasRead reader.old.variables rest reader.old reader.new known.new out.old.items out.new.items r)
-        result (read_parameter (line_at reader.old.text) known.old x a) }
+        → Answers (λ _ r. WasRead reader.old.integers reader.old.variables rest reader.old reader.new
+        known.new out.old.items out.new.items r)
+        result (read_parameter reader.old.integers (line_at reader.old.text) known.old x a) }
     ensures shorter { OnOk result (length reader.new.ahead < length reader.old.ahead) }
 {
     let first = take_name(reader)?;
-    let var = known.variables();
-    known.add_variable(&first.name, first.at)?;
-    known.count(first.at, 1)?;
-    out.push(Stmt::Havoc {
-        var,
-        line: reader.line(first.at),
-    })?;
-    Ok(())
+    bare(reader, known, &first, out)
 }
 
 // The parameters behind the first.
 fn more_parameters(reader: &mut Reader, known: &mut Known, out: &mut Vec<Stmt>) -> Result<(), Stop>
     ensures reads { (ps : MoreParameters) (b : ℕ) (rest : List Token) → reader.old.ahead ≡ onto_more_parameters ps
         (token right_paren b ∷ rest)
-        → Answers (λ _ r. WasRead reader.old.variables (token right_paren b ∷ rest) reader.old reader.new known.new
-        out.old.items out.new.items r) result (read_more_parameters (line_at reader.old.text) known.old ps) }
+        → Answers (λ _ r. WasRead reader.old.integers reader.old.variables (token right_paren b ∷ rest) reader.old reader.new known.new
+        out.old.items out.new.items r) result (read_more_parameters reader.old.integers (line_at reader.old.text) known.old ps) }
     ensures shorter { OnOk result (length reader.new.ahead ≤ length reader.old.ahead) }
 {
     'more: while let Start::Comma = coming(reader) {
@@ -67,8 +61,8 @@ fn more_parameters(reader: &mut Reader, known: &mut Known, out: &mut Vec<Stmt>) 
 fn listed(reader: &mut Reader, known: &mut Known, out: &mut Vec<Stmt>) -> Result<(), Stop>
     ensures reads { (ps : Parameters) (b : ℕ) (rest : List Token)
         → reader.old.ahead ≡ onto_parameters ps (token right_paren b ∷ rest)
-        → Answers (λ _ r. WasRead reader.old.variables (token right_paren b ∷ rest) reader.old reader.new known.new
-        out.old.items out.new.items r) result (read_parameters (line_at reader.old.text) known.old ps) }
+        → Answers (λ _ r. WasRead reader.old.integers reader.old.variables (token right_paren b ∷ rest) reader.old reader.new known.new
+        out.old.items out.new.items r) result (read_parameters reader.old.integers (line_at reader.old.text) known.old ps) }
     ensures shorter { OnOk result (length reader.new.ahead ≤ length reader.old.ahead) }
 {
     match coming(reader) {
@@ -93,8 +87,9 @@ pub(crate) fn parameters(
 ) -> Result<(), Stop>
     ensures reads { (a : ℕ) (ps : Parameters) (b : ℕ) (rest : List Token)
         → reader.old.ahead ≡ token left_paren a ∷ onto_parameters ps (token right_paren b ∷ rest)
-        → Answers (λ _ r. WasRead reader.old.variables rest reader.old reader.new known.new out.old.items out.new.items r)
-        result (read_parameters (line_at reader.old.text) known.old ps) }
+        → Answers (λ _ r. WasRead reader.old.integers reader.old.variables rest reader.old reader.new
+        known.new out.old.items out.new.items r)
+        result (read_parameters reader.old.integers (line_at reader.old.text) known.old ps) }
     ensures shorter { OnOk result (length reader.new.ahead < length reader.old.ahead) }
 {
     reader.take(Mark::LeftParen)?;

@@ -47,8 +47,9 @@ pub(crate) fn named_statement(
 ) -> Result<(), Stop>
     ensures reads { (inside : Bool) (c : Core) (rest : List Token) → GoodCore c
         → token (a_name first.now.name) first.now.at ∷ reader.old.ahead ≡ onto_core c rest
-        → Answers (λ _ r. WasRead reader.old.variables rest reader.old reader.new known.new out.old.items out.new.items r)
-        result (read_core (line_at reader.old.text) reader.old.variables inside known.old c) }
+        → Answers (λ _ r. WasRead reader.old.integers reader.old.variables rest reader.old reader.new
+        known.new out.old.items out.new.items r)
+        result (read_core reader.old.integers (line_at reader.old.text) reader.old.variables inside known.old c) }
     ensures shorter { OnOk result (length reader.new.ahead ≤ length reader.old.ahead) }
 {
     match coming(reader) {
@@ -64,8 +65,9 @@ pub(crate) fn named_statement(
 fn update_statement(reader: &mut Reader, known: &mut Known, out: &mut Vec<Stmt>) -> Result<(), Stop>
     ensures reads { (inside : Bool) (u : Update) (c : ℕ) (rest : List Token) → GoodUpdate u
         → reader.old.ahead ≡ onto_update u (token semicolon c ∷ rest)
-        → Answers (λ _ r. WasRead reader.old.variables rest reader.old reader.new known.new out.old.items out.new.items r)
-        result (read_core (line_at reader.old.text) reader.old.variables inside known.old (updates u c)) }
+        → Answers (λ _ r. WasRead reader.old.integers reader.old.variables rest reader.old reader.new
+        known.new out.old.items out.new.items r)
+        result (read_core reader.old.integers (line_at reader.old.text) reader.old.variables inside known.old (updates u c)) }
     ensures shorter { OnOk result (length reader.new.ahead < length reader.old.ahead) }
 {
     let deeds = update(reader, known)?;
@@ -80,8 +82,9 @@ pub(crate) fn simple(
     out: &mut Vec<Stmt>,
 ) -> Result<(), Stop>
     ensures reads { (c : Core) (rest : List Token) → IsSimple c → GoodCore c → reader.old.ahead ≡ onto_core c rest
-        → Answers (λ _ r. WasRead reader.old.variables rest reader.old reader.new known.new out.old.items out.new.items r)
-        result (read_core (line_at reader.old.text) reader.old.variables inside known.old c) }
+        → Answers (λ _ r. WasRead reader.old.integers reader.old.variables rest reader.old reader.new
+        known.new out.old.items out.new.items r)
+        result (read_core reader.old.integers (line_at reader.old.text) reader.old.variables inside known.old c) }
     ensures shorter { OnOk result (length reader.new.ahead < length reader.old.ahead) }
 {
     match coming(reader) {

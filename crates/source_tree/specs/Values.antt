@@ -2,8 +2,10 @@
 use Rattle.std.specs.Prelude.{◌≡◌, ◌≢◌, ◌⊎◌, ℕ, ℤ, pos, neg_ℤ, ◌+ℤ◌, ◌-ℤ◌, ◌*ℤ◌, ◌≤ℤ◌, ◌<ℤ◌, int_div, int_rem, Bool, true, false, get_or}
 use Rattle.lang_tree.specs.declared.cond.Rel.{Rel}
 use Rattle.lang_tree.specs.declared.check.Check.{Check}
-use Rattle.lang_tree.specs.declared.check.CheckKind.TheVariants.{Divisor, Index}
+use Rattle.lang_tree.specs.declared.check.CheckKind.TheVariants.{Divisor, Index, Range}
 use Rattle.lang_tree.specs.Meaning.{State, Relates}
+use Rattle.base_integers.specs.declared.integers.Integers.{Integers}
+use Rattle.base_integers.specs.Integers.{Has}
 use Rattle.source_tree.specs.Expressions.{Operation, plus, minus, times, over, remainder}
 use Rattle.source_tree.specs.Expressions.{Expression, Expressions, number, variable, unknown, call, element, grouped, negative, positive}
 use Rattle.source_tree.specs.Expressions.{inverse, joined, compared, both, either, chosen, none, more}
@@ -36,66 +38,91 @@ Compares false rel a b = ¬ (Relates rel (a -ℤ b))
 abbrev pub IsIndex : ℕ → ℤ → Type 0
 IsIndex size i = (pos 0 ≤ℤ i) × (i <ℤ pos size)
 
-abbrev mutual
-  -- the expression may have this value at the state. What isn't evaluated needs none: the right side of `&&` where the left one is false,
-  -- that of `||` where it is true, and one side of `?:`. `nondet()`, a call and an element may have any
-  pub May : Expression → State → ℤ → Type 0
-  May (number v at) x z = z ≡ pos v
-  May (variable i at) x z = z ≡ get_or x i (pos 0)
-  May (unknown at) x z = Unit {0}
-  May (call es at) x z = AllMay es x
-  May (element size bracket e at) x z = (i : ℤ) × May e x i × IsIndex size i
-  May (grouped at e) x z = May e x z
-  May (negative at e) x z = (a : ℤ) × May e x a × (z ≡ neg_ℤ a)
-  May (positive at e) x z = May e x z
-  May (inverse at e) x z = (a : ℤ) × (t : Bool) × May e x a × Tells t a × (z ≡ pos 1 -ℤ truth_number t)
-  May (joined o sign e f) x z = (a b : ℤ) × May e x a × May f x b × Gives o a b z
-  May (compared rel sign e f) x z = (a b : ℤ) × (t : Bool) × May e x a × May f x b × Compares t rel a b × (z ≡ truth_number t)
-  May (both c d) x z =
-      (May c x (pos 0) × (z ≡ pos 0))
-      ⊎ ((a b : ℤ) × (t : Bool) × May c x a × (a ≢ pos 0) × May d x b × Tells t b × (z ≡ truth_number t))
-  May (either c d) x z =
-      ((a : ℤ) × May c x a × (a ≢ pos 0) × (z ≡ pos 1))
-      ⊎ ((b : ℤ) × (t : Bool) × May c x (pos 0) × May d x b × Tells t b × (z ≡ truth_number t))
-  May (chosen sign c e f) x z = ((a : ℤ) × May c x a × (a ≢ pos 0) × May e x z) ⊎ (May c x (pos 0) × May f x z)
+-- by these integers
+module _ (integers : Integers) where
+  -- an operation on two numbers has this exact result, which is one of the integers; a remainder is taken by a quotient that is one, too
+  abbrev pub IsHeld : Operation → ℤ → ℤ → ℤ → Type 0
+  IsHeld plus a b z = Has integers z
+  IsHeld minus a b z = Has integers z
+  IsHeld times a b z = Has integers z
+  IsHeld over a b z = Has integers z
+  IsHeld remainder a b z = Has integers (int_div a b) × Has integers z
 
-  -- each of them may have some value
-  pub AllMay : Expressions → State → Type 0
-  AllMay none x = Unit {0}
-  AllMay (more e es) x = ((z : ℤ) × May e x z) × AllMay es x
+  abbrev mutual
+    -- the expression may have this value at the state. What isn't evaluated needs none: the right side of `&&` where the left one is
+    -- false, that of `||` where it is true, and one side of `?:`. `nondet()`, a call and an element may have any of the integers, and the
+    -- exact result of an operation has to be one of them
+    pub May : Expression → State → ℤ → Type 0
+    May (number v at) x z = (z ≡ pos v) × Has integers z
+    May (variable i at) x z = z ≡ get_or x i (pos 0)
+    May (unknown at) x z = Has integers z
+    May (call es at) x z = AllMay es x × Has integers z
+    May (element size bracket e at) x z = (i : ℤ) × May e x i × IsIndex size i × Has integers z
+    May (grouped at e) x z = May e x z
+    May (negative at e) x z = (a : ℤ) × May e x a × (z ≡ neg_ℤ a) × Has integers z
+    May (positive at e) x z = May e x z
+    May (inverse at e) x z = (a : ℤ) × (t : Bool) × May e x a × Tells t a × (z ≡ pos 1 -ℤ truth_number t)
+    May (joined o sign e f) x z = (a b : ℤ) × May e x a × May f x b × Gives o a b z × IsHeld o a b z
+    May (compared rel sign e f) x z = (a b : ℤ) × (t : Bool) × May e x a × May f x b × Compares t rel a b × (z ≡ truth_number t)
+    May (both c d) x z =
+        (May c x (pos 0) × (z ≡ pos 0))
+        ⊎ ((a b : ℤ) × (t : Bool) × May c x a × (a ≢ pos 0) × May d x b × Tells t b × (z ≡ truth_number t))
+    May (either c d) x z =
+        ((a : ℤ) × May c x a × (a ≢ pos 0) × (z ≡ pos 1))
+        ⊎ ((b : ℤ) × (t : Bool) × May c x (pos 0) × May d x b × Tells t b × (z ≡ truth_number t))
+    May (chosen sign c e f) x z = ((a : ℤ) × May c x a × (a ≢ pos 0) × May e x z) ⊎ (May c x (pos 0) × May f x z)
 
--- an operation of this sign with these operands has no value, as a check of it says
-abbrev pub Fails : Operation → (sign : ℕ) → Check → ℤ → Type 0
-Fails plus sign about b = ⊥
-Fails minus sign about b = ⊥
-Fails times sign about b = ⊥
-Fails over sign about b = (about ≡ record { kind = Divisor; at = sign }) × (b ≡ pos 0)
-Fails remainder sign about b = (about ≡ record { kind = Divisor; at = sign }) × (b ≡ pos 0)
+    -- each of them may have some value
+    pub AllMay : Expressions → State → Type 0
+    AllMay none x = Unit {0}
+    AllMay (more e es) x = ((z : ℤ) × May e x z) × AllMay es x
 
-abbrev mutual
-  -- evaluated from the left at the state, the expression may come to an operation without a value, where this check isn't true
-  pub Breaks : Expression → State → Check → Type 0
-  Breaks (number v at) x about = ⊥
-  Breaks (variable i at) x about = ⊥
-  Breaks (unknown at) x about = ⊥
-  Breaks (call es at) x about = SomeBreaks es x about
-  Breaks (element size bracket e at) x about =
-      Breaks e x about ⊎ ((i : ℤ) × May e x i × ¬ (IsIndex size i) × (about ≡ record { kind = Index; at = bracket }))
-  Breaks (grouped at e) x about = Breaks e x about
-  Breaks (negative at e) x about = Breaks e x about
-  Breaks (positive at e) x about = Breaks e x about
-  Breaks (inverse at e) x about = Breaks e x about
-  Breaks (joined o sign e f) x about =
-      Breaks e x about
-      ⊎ (((a : ℤ) × May e x a × Breaks f x about) ⊎ ((a b : ℤ) × May e x a × May f x b × Fails o sign about b))
-  Breaks (compared rel sign e f) x about = Breaks e x about ⊎ ((a : ℤ) × May e x a × Breaks f x about)
-  Breaks (both c d) x about = Breaks c x about ⊎ ((a : ℤ) × May c x a × (a ≢ pos 0) × Breaks d x about)
-  Breaks (either c d) x about = Breaks c x about ⊎ (May c x (pos 0) × Breaks d x about)
-  Breaks (chosen sign c e f) x about =
-      Breaks c x about
-      ⊎ (((a : ℤ) × May c x a × (a ≢ pos 0) × Breaks e x about) ⊎ (May c x (pos 0) × Breaks f x about))
+-- an operation of this sign has no value, since the number on its right is 0, as a check of it says
+abbrev pub DividesByZero : Operation → (sign : ℕ) → Check → ℤ → Type 0
+DividesByZero plus sign about b = ⊥
+DividesByZero minus sign about b = ⊥
+DividesByZero times sign about b = ⊥
+DividesByZero over sign about b = (about ≡ record { kind = Divisor; at = sign }) × (b ≡ pos 0)
+DividesByZero remainder sign about b = (about ≡ record { kind = Divisor; at = sign }) × (b ≡ pos 0)
 
-  -- one of them may, those before it having values
-  pub SomeBreaks : Expressions → State → Check → Type 0
-  SomeBreaks none x about = ⊥
-  SomeBreaks (more e es) x about = Breaks e x about ⊎ (((z : ℤ) × May e x z) × SomeBreaks es x about)
+module _ (integers : Integers) where
+  -- an operation at this place has this exact result, which is none of the integers, as a check of it says
+  abbrev pub Exceeds : (place : ℕ) → Check → ℤ → Type 0
+  Exceeds place about z = (about ≡ record { kind = Range; at = place }) × ¬ (Has integers z)
+
+  -- an operation of this sign with these operands overflows, as a check of it says
+  abbrev pub Overflows : Operation → (sign : ℕ) → Check → ℤ → ℤ → Type 0
+  Overflows o sign about a b = (about ≡ record { kind = Range; at = sign }) × ((z : ℤ) × Gives o a b z × ¬ (IsHeld integers o a b z))
+
+  -- an operation of this sign with these operands has no value, as a check of it says
+  abbrev pub Fails : Operation → (sign : ℕ) → Check → ℤ → ℤ → Type 0
+  Fails o sign about a b = DividesByZero o sign about b ⊎ Overflows o sign about a b
+
+  abbrev mutual
+    -- evaluated from the left at the state, the expression may come to an operation without a value, where this check isn't true
+    pub Breaks : Expression → State → Check → Type 0
+    Breaks (number v at) x about = Exceeds at about (pos v)
+    Breaks (variable i at) x about = ⊥
+    Breaks (unknown at) x about = ⊥
+    Breaks (call es at) x about = SomeBreaks es x about
+    Breaks (element size bracket e at) x about =
+        Breaks e x about ⊎ ((i : ℤ) × May integers e x i × ¬ (IsIndex size i) × (about ≡ record { kind = Index; at = bracket }))
+    Breaks (grouped at e) x about = Breaks e x about
+    Breaks (negative at e) x about = Breaks e x about ⊎ ((a : ℤ) × May integers e x a × Exceeds at about (neg_ℤ a))
+    Breaks (positive at e) x about = Breaks e x about
+    Breaks (inverse at e) x about = Breaks e x about
+    Breaks (joined o sign e f) x about =
+        Breaks e x about
+        ⊎ (((a : ℤ) × May integers e x a × Breaks f x about)
+        ⊎ ((a b : ℤ) × May integers e x a × May integers f x b × Fails o sign about a b))
+    Breaks (compared rel sign e f) x about = Breaks e x about ⊎ ((a : ℤ) × May integers e x a × Breaks f x about)
+    Breaks (both c d) x about = Breaks c x about ⊎ ((a : ℤ) × May integers c x a × (a ≢ pos 0) × Breaks d x about)
+    Breaks (either c d) x about = Breaks c x about ⊎ (May integers c x (pos 0) × Breaks d x about)
+    Breaks (chosen sign c e f) x about =
+        Breaks c x about
+        ⊎ (((a : ℤ) × May integers c x a × (a ≢ pos 0) × Breaks e x about) ⊎ (May integers c x (pos 0) × Breaks f x about))
+
+    -- one of them may, those before it having values
+    pub SomeBreaks : Expressions → State → Check → Type 0
+    SomeBreaks none x about = ⊥
+    SomeBreaks (more e es) x about = Breaks e x about ⊎ (((z : ℤ) × May integers e x z) × SomeBreaks es x about)

@@ -5,13 +5,15 @@ ghost use Rattle.lang_tree.specs.Limits.{has_numbers};
 ghost use Rattle.lang_tree.specs.Tree.{compare, both, either, leaf_count};
 ghost use Rattle.lang_tree.specs.DeedView.{condition_of};
 ghost use Rattle.source_core.specs.Forms.{constant_form, minus};
-ghost use Rattle.source_core.specs.Elaborated.{related, divides, is_index};
+ghost use Rattle.source_core.specs.Elaborated.{related, divides, is_index, is_held, is_divided, never};
+ghost use Rattle.base_integers.specs.Integers.{greatest};
 ghost use Rattle.source_value.specs.Answers.{Answers, IsCondition};
 ghost use Rattle.source_core.specs.Fits.{condition_fits};
 
 use crate::fault::OperationFault;
 use crate::forms::{difference, less, rest, variable_form, zero_form};
-use lang_tree::{Cond, Form, Rel};
+use base_integers::Width;
+use lang_tree::{Coeffs, Cond, Form, Rel};
 use std::alloc::{AllocError, Global};
 
 /// The number of a condition's leaves, or one more than `most` where it has more. It calls itself at most so many times deeper than `!`
@@ -214,4 +216,58 @@ pub(crate) fn is_index(alloc: Global, size: u64, form: &Form) -> Result<Cond, Op
         },
     )?;
     Ok(both(alloc, from_first, to_last)?)
+}
+
+// The least integer of this width.
+fn least_form(alloc: Global, width: Width) -> Form
+    ensures { result ≡ constant_form (negsuc (greatest width)) }
+{
+    Form {
+        coeffs: Coeffs::new(Vec::new(alloc)),
+        constant: -i64::from(width.greatest()) - 1,
+    }
+}
+
+/// The form is one of the integers of this width.
+pub(crate) fn is_held(alloc: Global, width: Width, form: &Form) -> Result<Cond, OperationFault>
+    ensures { Answers IsCondition condition_fits result (is_held width form.now) }
+{
+    let from_least = related(alloc, Rel::Le, &least_form(alloc, width), form)?;
+    let to_greatest = bounded(
+        form,
+        Bound {
+            rel: Rel::Le,
+            number: i128::from(width.greatest()),
+        },
+    )?;
+    Ok(both(alloc, from_least, to_greatest)?)
+}
+
+/// A condition that is never true.
+pub(crate) fn never(alloc: Global) -> Cond
+    ensures { IsCondition result never }
+{
+    Cond::Cmp(Rel::Ne, zero_form(alloc))
+}
+
+/// Unless the least integer of this width is divided by -1, a quotient is one of them.
+pub(crate) fn is_divided(
+    alloc: Global,
+    width: Width,
+    form: &Form,
+    divisor: &Form,
+) -> Result<Cond, OperationFault>
+    ensures { Answers IsCondition condition_fits result (is_divided width form.now divisor.now) }
+{
+    let of_least = related(alloc, Rel::Eq, form, &least_form(alloc, width))?;
+    let minus_one = -1;
+    let by_minus_one = bounded(
+        divisor,
+        Bound {
+            rel: Rel::Eq,
+            number: minus_one,
+        },
+    )?;
+    let overflows = both(alloc, of_least, by_minus_one)?;
+    Ok(Cond::Not(Box::new(alloc, overflows)?))
 }

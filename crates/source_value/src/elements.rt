@@ -2,17 +2,18 @@
 
 ghost use Rattle.std.specs.Prelude.{◌≡◌, ℕ};
 ghost use Rattle.source_core.specs.Forms.{opposite};
-ghost use Rattle.source_core.specs.Elaborated.{Numbered as CoreNumber, form_behind, element_behind};
+ghost use Rattle.source_core.specs.Elaborated.{Numbered as CoreNumber, form_behind, element_behind, ranged, is_held};
 ghost use Rattle.source_value.specs.Answers.{Answers};
 ghost use Rattle.source_core.specs.Fits.{fits};
 ghost use Rattle.source_value.specs.Stands.{Stands, StandsNumber};
 
-use crate::conditions::is_index;
+use crate::conditions::{is_held, is_index};
 use crate::fault::OperationFault;
 use crate::forms::multiple;
 use crate::site::Site;
 use crate::truth::Truth;
 use crate::value::{Number, Outcome, Value};
+use base_integers::Integers;
 use lang_tree::{Check, CheckKind};
 use std::alloc::Global;
 
@@ -27,16 +28,33 @@ pub fn positive(inner: Number) -> Value
     }
 }
 
-/// `-` before a number.
-pub fn negative(alloc: Global, inner: Number) -> Result<Value, OperationFault>
-    ensures { (n : ℕ) (a : CoreNumber) → StandsNumber n inner a
-        → Answers (Stands n) fits result (form_behind a.prelude a.next (opposite a.form)) }
+/// `-` before a number, and behind it a check that the result is one of the integers; `sign` is the place of the sign.
+pub fn negative(
+    alloc: Global,
+    site: Site,
+    sign: u32,
+    inner: Number,
+) -> Result<Value, OperationFault>
+    ensures { (a : CoreNumber) → StandsNumber site.variables inner a → Answers (Stands site.variables) fits result
+        (ranged site.integers site.line sign is_held (form_behind a.prelude a.next (opposite a.form))) }
 {
-    Ok(Value {
-        prelude: inner.prelude,
-        result: Outcome::Form(multiple(alloc, -1, &inner.form)?),
-        next: inner.next,
-    })
+    let form = multiple(alloc, -1, &inner.form)?;
+    match site.integers {
+        Integers::Mathematical => Ok(Value {
+            prelude: inner.prelude,
+            result: Outcome::Form(form),
+            next: inner.next,
+        }),
+        Integers::Machine(width) => {
+            let holds = is_held(alloc, width, &form)?;
+            let value = Value {
+                prelude: inner.prelude,
+                result: Outcome::Form(form),
+                next: inner.next,
+            };
+            Ok(value.ranged(site, sign, holds)?)
+        }
+    }
 }
 
 /// An element of an array of so many: any value, behind a check of its index; `bracket` is the place of its bracket. What is compared has

@@ -2,19 +2,23 @@
 
 ghost use Rattle.std.specs.Prelude.{◌≡◌, ◌≤◌, ◌≤ℤ◌, ◌+◌, ◌++◌, ◌∷◌, [], pos, true, suc, ℕ, IfOk};
 ghost use Rattle.lang_tree.specs.Tree.{Condition as Tree, negation, both, either, havocs, wheres};
-ghost use Rattle.lang_tree.specs.DeedView.{condition_of};
+ghost use Rattle.lang_tree.specs.DeedView.{condition_of, deeds_of};
 ghost use Rattle.source_core.specs.Forms.{constant_form, variable_form};
-ghost use Rattle.source_core.specs.Elaborated.{Evaluated as CorePrelude, related, any, a_truth, as_number};
+ghost use Rattle.source_core.specs.Elaborated.{Evaluated as CorePrelude, related, any, a_truth, as_number, held, is_held};
+ghost use Rattle.source_core.specs.Core.{taken_any};
 ghost use Rattle.source_value.specs.Answers.{IsCondition};
 ghost use Rattle.source_core.specs.Fits.{condition_fits};
 ghost use Rattle.source_value.specs.Kept.{kept_condition};
 ghost use Rattle.source_value.specs.Stands.{StandsNumber, StandsEvaluated};
 
+use crate::conditions::is_held;
+use crate::fault::OperationFault;
 use crate::forms::variable_form;
 use crate::site::Site;
 use crate::truth::Truth;
 use crate::value::{Evaluated, Number};
-use lang_tree::{Cond, Form, Rel};
+use base_integers::{Integers, Width};
+use lang_tree::{Cond, Deed, Form, Rel};
 use std::alloc::{AllocError, Global};
 
 /// The hidden variable behind this one. A form of the last number that the code has would need more memory than there is.
@@ -56,13 +60,78 @@ pub(crate) fn taken_where(
     })
 }
 
+// The variable is one of the integers of this width. What is compared is never too large.
+fn variable_held(alloc: Global, width: Width, var: u32) -> Result<Cond, AllocError>
+    ensures { IfOk result (λ cond. IsCondition cond (is_held width (variable_form var))) }
+{
+    let form = variable_form(alloc, var)?;
+    match is_held(alloc, width, &form) {
+        Ok(cond) => Ok(cond),
+        Err(OperationFault::NoMemory) => Err(AllocError),
+        Err(OperationFault::Big) => unreachable!(),
+    }
+}
+
+// The prelude, and then a variable that took any value has one of the integers.
+fn held(alloc: Global, site: Site, before: Evaluated, var: u32) -> Result<Evaluated, AllocError>
+    ensures { IfOk result (λ after. (d : CorePrelude) → StandsEvaluated site.variables before d → StandsEvaluated site.variables after
+        (record { prelude = d.prelude ++ held site.integers site.line var; next = d.next })) }
+{
+    match site.integers {
+        Integers::Mathematical => Ok(before),
+        Integers::Machine(width) => {
+            let truth = Truth::of(site, before.next, variable_held(alloc, width, var)?);
+            Ok(Evaluated {
+                prelude: before.prelude.with_where(site, truth)?,
+                next: before.next,
+            })
+        }
+    }
+}
+
+/// The variable takes any of the integers, as a declaration without a value and a parameter do.
+pub fn declared(alloc: Global, site: Site, var: u32) -> Result<Vec<Deed>, AllocError>
+    ensures { IfOk result (λ deeds. deeds_of deeds.items ≡ taken_any site.integers var site.line) }
+{
+    let mut deeds = Vec::new(alloc);
+    deeds.push(Deed::Havoc {
+        var,
+        line: site.line,
+    })?;
+    match site.integers {
+        Integers::Mathematical => Ok(deeds),
+        Integers::Machine(width) => {
+            deeds.push(Deed::Where {
+                cond: variable_held(alloc, width, var)?,
+                line: site.line,
+            })?;
+            Ok(deeds)
+        }
+    }
+}
+
+impl Evaluated {
+    /// What was evaluated, and then the variable takes any of the integers.
+    pub fn with_any(self, alloc: Global, site: Site, var: u32) -> Result<Evaluated, AllocError>
+        ensures { IfOk result (λ after. (d : CorePrelude) → StandsEvaluated site.variables self d → StandsEvaluated site.variables after
+            (record { prelude = d.prelude ++ taken_any site.integers var site.line; next = d.next })) }
+    {
+        let taken = Evaluated {
+            prelude: self.prelude.with_havoc(site, var, self.next)?,
+            next: self.next,
+        };
+        Ok(held(alloc, site, taken, var)?)
+    }
+}
+
 /// Any value, behind a prelude, as that of a hidden variable.
 pub(crate) fn havocked(alloc: Global, site: Site, before: Evaluated) -> Result<Number, AllocError>
     ensures { IfOk result (λ number. (d : CorePrelude) → StandsEvaluated site.variables before d
-        → StandsNumber site.variables number (as_number site.line d.prelude d.next any)) }
+        → StandsNumber site.variables number (as_number site.integers site.line d.prelude d.next any)) }
 {
-    let form = variable_form(alloc, before.next)?;
-    let after = taken(site, before)?;
+    let hidden = before.next;
+    let form = variable_form(alloc, hidden)?;
+    let after = held(alloc, site, taken(site, before)?, hidden)?;
     Ok(Number {
         prelude: after.prelude,
         form,
@@ -115,7 +184,7 @@ pub(crate) fn truth_number(
 ) -> Result<Number, AllocError>
     ensures { IfOk result (λ number. (d : CorePrelude) (c : Tree) → StandsEvaluated site.variables before d → condition_fits c ≡ true
         → condition ≡ kept_condition site.variables d.next c
-        → StandsNumber site.variables number (as_number site.line d.prelude d.next (a_truth c))) }
+        → StandsNumber site.variables number (as_number site.integers site.line d.prelude d.next (a_truth c))) }
 {
     let hidden = before.next;
     let is_one = variable_is(alloc, hidden, 1)?;

@@ -11,6 +11,7 @@ mod hidden;
 mod numbers;
 mod operation;
 mod prelude;
+mod ranges;
 mod site;
 mod truth;
 mod truths;
@@ -18,6 +19,7 @@ mod value;
 
 pub use elements::{element, negative, positive};
 pub use fault::OperationFault;
+pub use hidden::declared;
 pub use operation::{Operation, operated};
 pub use prelude::Prelude;
 pub use site::Site;

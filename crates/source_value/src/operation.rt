@@ -16,9 +16,11 @@ use crate::forms::{
 };
 use crate::hidden::{behind, havocked, taken_where};
 use crate::numbers::{quotient_of, remainder_of};
+use crate::ranges::result_held;
 use crate::site::Site;
 use crate::truth::Truth;
 use crate::value::{Evaluated, Number, Outcome, Value};
+use base_integers::Integers;
 use lang_tree::{Check, CheckKind, Form, Rel};
 use std::alloc::{AllocError, Global};
 
@@ -53,7 +55,7 @@ fn form_behind(before: Evaluated, form: Form) -> Value
 // Any value, behind a prelude, as that of a hidden variable.
 fn hidden_behind(alloc: Global, site: Site, before: Evaluated) -> Result<Value, AllocError>
     ensures { IfOk result (λ value. (d : CorePrelude) → StandsEvaluated site.variables before d
-        → Stands site.variables value (core.havocked site.line d.prelude d.next)) }
+        → Stands site.variables value (core.havocked site.integers site.line d.prelude d.next)) }
 {
     let number = havocked(alloc, site, before)?;
     Ok(Value {
@@ -68,16 +70,16 @@ fn product(
     alloc: Global,
     site: Site,
     before: Evaluated,
-    left: Form,
-    right: Form,
+    left: &Form,
+    right: &Form,
 ) -> Result<Value, OperationFault>
     ensures { (d : CorePrelude) → StandsEvaluated site.variables before d
-        → Answers (Stands site.variables) fits result (product site.line d.prelude d.next left right) }
+        → Answers (Stands site.variables) fits result (product site.integers site.line d.prelude d.next left.now right.now) }
 {
-    if is_constant(&left) {
-        Ok(form_behind(before, multiple(alloc, left.constant, &right)?))
-    } else if is_constant(&right) {
-        Ok(form_behind(before, multiple(alloc, right.constant, &left)?))
+    if is_constant(left) {
+        Ok(form_behind(before, multiple(alloc, left.constant, right)?))
+    } else if is_constant(right) {
+        Ok(form_behind(before, multiple(alloc, right.constant, left)?))
     } else {
         Ok(hidden_behind(alloc, site, before)?)
     }
@@ -112,21 +114,21 @@ fn quotient_by(
     alloc: Global,
     site: Site,
     before: Evaluated,
-    form: Form,
+    form: &Form,
     divisor: i64,
 ) -> Result<Value, OperationFault>
     requires { divisor ≢ pos 0 }
     ensures { (d : CorePrelude) → StandsEvaluated site.variables before d
-        → Answers (Stands site.variables) fits result (quotient_by site.line d.prelude d.next form divisor) }
+        → Answers (Stands site.variables) fits result (quotient_by site.line d.prelude d.next form.now divisor) }
 {
     if is_unit(divisor) {
-        Ok(form_behind(before, multiple(alloc, divisor, &form)?))
-    } else if is_constant(&form) {
+        Ok(form_behind(before, multiple(alloc, divisor, form)?))
+    } else if is_constant(form) {
         let quotient = quotient_of(form.constant, divisor);
         Ok(form_behind(before, constant_form(alloc, quotient)?))
     } else {
         let hidden = variable_form(alloc, before.next)?;
-        let after = quotient_behind(alloc, site, before, &form, divisor)?;
+        let after = quotient_behind(alloc, site, before, form, divisor)?;
         Ok(form_behind(after, hidden))
     }
 }
@@ -136,22 +138,22 @@ fn remainder_by(
     alloc: Global,
     site: Site,
     before: Evaluated,
-    form: Form,
+    form: &Form,
     divisor: i64,
 ) -> Result<Value, OperationFault>
     requires { divisor ≢ pos 0 }
     ensures { (d : CorePrelude) → StandsEvaluated site.variables before d
-        → Answers (Stands site.variables) fits result (remainder_by site.line d.prelude d.next form divisor) }
+        → Answers (Stands site.variables) fits result (remainder_by site.line d.prelude d.next form.now divisor) }
 {
     if is_unit(divisor) {
         Ok(form_behind(before, constant_form(alloc, 0)?))
-    } else if is_constant(&form) {
+    } else if is_constant(form) {
         let remainder = remainder_of(form.constant, divisor);
         Ok(form_behind(before, constant_form(alloc, remainder)?))
     } else {
         let hidden = variable_form(alloc, before.next)?;
-        let left = rest(alloc, &form, divisor, &hidden)?;
-        let after = quotient_behind(alloc, site, before, &form, divisor)?;
+        let left = rest(alloc, form, divisor, &hidden)?;
+        let after = quotient_behind(alloc, site, before, form, divisor)?;
         Ok(form_behind(after, left))
     }
 }
@@ -165,7 +167,7 @@ fn unless_zero(
     divisor: &Form,
 ) -> Result<Value, OperationFault>
     ensures { (d : CorePrelude) → StandsEvaluated site.variables before d
-        → Answers (Stands site.variables) fits result (unless_zero site.line d.prelude d.next sign divisor.now) }
+        → Answers (Stands site.variables) fits result (unless_zero site.integers site.line d.prelude d.next sign divisor.now) }
 {
     let not_zero = bounded(
         divisor,
@@ -193,35 +195,60 @@ fn operated_behind(
     operation: Operation,
     sign: u32,
     before: Evaluated,
-    forms: (Form, Form),
+    left: &Form,
+    right: &Form,
 ) -> Result<Value, OperationFault>
     ensures { (d : CorePrelude) → StandsEvaluated site.variables before d
         → Answers (Stands site.variables) fits result
-        (core.operated site.line (operation_of operation) sign d.prelude d.next forms.0 forms.1) }
+        (core.operated site.integers site.line (operation_of operation) sign d.prelude d.next left.now right.now) }
 {
-    let (left, right) = forms;
     match operation {
-        Operation::Plus => Ok(form_behind(before, sum(alloc, &left, &right)?)),
-        Operation::Minus => Ok(form_behind(before, difference(alloc, &left, &right)?)),
+        Operation::Plus => Ok(form_behind(before, sum(alloc, left, right)?)),
+        Operation::Minus => Ok(form_behind(before, difference(alloc, left, right)?)),
         Operation::Times => product(alloc, site, before, left, right),
         Operation::Over => {
-            if is_divisor(&right) {
+            if is_divisor(right) {
                 quotient_by(alloc, site, before, left, right.constant)
             } else {
-                unless_zero(alloc, site, sign, before, &right)
+                unless_zero(alloc, site, sign, before, right)
             }
         }
         Operation::Remainder => {
-            if is_divisor(&right) {
+            if is_divisor(right) {
                 remainder_by(alloc, site, before, left, right.constant)
             } else {
-                unless_zero(alloc, site, sign, before, &right)
+                unless_zero(alloc, site, sign, before, right)
             }
         }
     }
 }
 
-/// An operation on two numbers, the right one read behind the left one; `sign` is the place of its sign. The result has to be in range.
+// An operation on two forms behind their preludes, with a check behind it that its result is one of the integers.
+fn operation_behind(
+    alloc: Global,
+    site: Site,
+    operation: Operation,
+    sign: u32,
+    before: Evaluated,
+    left: &Form,
+    right: &Form,
+) -> Result<Value, OperationFault>
+    ensures { (d : CorePrelude) → StandsEvaluated site.variables before d
+        → Answers (Stands site.variables) fits result
+        (core.operation_on site.integers site.line (operation_of operation) sign d.prelude d.next left.now right.now) }
+{
+    let value = operated_behind(alloc, site, operation, sign, before, left, right)?;
+    match site.integers {
+        Integers::Mathematical => Ok(value),
+        Integers::Machine(width) => {
+            let holds = result_held(alloc, width, operation, left, right, &value.result)?;
+            Ok(value.ranged(site, sign, holds)?)
+        }
+    }
+}
+
+/// An operation on two numbers, the right one read behind the left one; `sign` is the place of its sign. The result has to be in range, and
+/// behind it stands a check that it is one of the integers.
 pub fn operated(
     alloc: Global,
     site: Site,
@@ -232,18 +259,19 @@ pub fn operated(
 ) -> Result<Value, OperationFault>
     ensures { (a b : CoreNumber) → a.next ≤ b.next → StandsNumber site.variables left a → StandsNumber site.variables right b
         → Answers (Stands site.variables) fits result
-        (core.operated site.line (operation_of operation) sign (a.prelude ++ b.prelude) b.next a.form b.form) }
+        (core.operation_on site.integers site.line (operation_of operation) sign (a.prelude ++ b.prelude) b.next a.form b.form) }
 {
     let before = Evaluated {
         prelude: left.prelude.joined(right.prelude)?,
         next: right.next,
     };
-    operated_behind(
+    operation_behind(
         alloc,
         site,
         operation,
         sign,
         before,
-        (left.form, right.form),
+        &left.form,
+        &right.form,
     )
 }

@@ -3,14 +3,16 @@
 ghost use Rattle.std.specs.Prelude.{◌≡◌};
 ghost use Rattle.source_value.specs.Kept.{is_within};
 
+use base_integers::Integers;
 use lang_tree::MOST_HIDDEN;
 
-/// The statement in which operations stand: how many variables its function has, which is the number of its first hidden variable; and
-/// its line, counted from 1.
+/// The statement in which operations stand: how many variables its function has, which is the number of its first hidden variable; its
+/// line, counted from 1; and the integers by which its function computes.
 #[derive(Clone, Copy)]
 pub struct Site {
     pub variables: u32,
     pub line: u32,
+    pub integers: Integers,
 }
 
 impl Site {

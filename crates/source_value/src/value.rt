@@ -1,19 +1,20 @@
 //! Values: what stands for an expression that was read.
 
-ghost use Rattle.std.specs.Prelude.{◌≡◌, ◌≤◌, ◌++◌, pos, [], ℕ, IfOk};
-ghost use Rattle.source_core.specs.Forms.{constant_form, variable_form};
-ghost use Rattle.source_core.specs.Elaborated.{Elaborated as Core, Evaluated as CorePrelude, any, form_behind, numbered, tested};
+ghost use Rattle.std.specs.Prelude.{◌≡◌, ◌≤◌, ◌++◌, [], ℕ, IfOk};
+ghost use Rattle.source_core.specs.Forms.{variable_form};
+ghost use Rattle.source_core.specs.Elaborated.{Elaborated as Core, Evaluated as CorePrelude, any, form_behind, number_at, numbered, tested};
 ghost use Rattle.source_core.specs.Fits.{fits, tested_fits};
 ghost use Rattle.source_value.specs.Answers.{Answers};
 ghost use Rattle.source_value.specs.Stands.{Stands, StandsNumber, StandsTested, StandsEvaluated};
 
-use crate::conditions::compare;
+use crate::conditions::{compare, is_held};
 use crate::fault::OperationFault;
 use crate::forms::{constant_form, variable_form};
 use crate::hidden::{havocked, truth_number};
 use crate::prelude::Prelude;
 use crate::site::Site;
 use crate::truth::Truth;
+use base_integers::Integers;
 use lang_tree::{Cond, Form, Rel};
 use std::alloc::{AllocError, Global};
 
@@ -58,20 +59,33 @@ pub struct Evaluated {
 }
 
 impl Value {
-    /// A number of the text, where `next` is the next hidden variable.
+    /// A number of the text at this place, where `next` is the next hidden variable. Behind one that is above all of the integers stands a
+    /// check.
     pub fn number(
         alloc: Global,
         site: Site,
         next: u32,
         number: u64,
+        at: u32,
     ) -> Result<Value, OperationFault>
-        ensures { Answers (Stands site.variables) fits result (form_behind [] next (constant_form (pos number))) }
+        ensures { Answers (Stands site.variables) fits result (number_at site.integers site.line number at next) }
     {
-        Ok(Value {
+        let value = Value {
             prelude: Prelude::none(alloc, site, next),
             result: Outcome::Form(constant_form(alloc, number as i128)?),
             next,
-        })
+        };
+        match site.integers {
+            Integers::Mathematical => Ok(value),
+            Integers::Machine(width) => {
+                if number <= u64::from(width.greatest()) {
+                    Ok(value)
+                } else {
+                    let holds = is_held(alloc, width, &constant_form(alloc, number as i128)?)?;
+                    Ok(value.ranged(site, at, holds)?)
+                }
+            }
+        }
     }
 
     /// The variable with the number `var`, where `next` is the next hidden variable.
@@ -99,7 +113,7 @@ impl Value {
     /// The value as a number: a truth is 1 or 0, and any value is that of a hidden variable.
     pub fn into_number(self, alloc: Global, site: Site) -> Result<Number, AllocError>
         ensures { IfOk result (λ number. (e : Core) → Stands site.variables self e
-            → StandsNumber site.variables number (numbered site.line e)) }
+            → StandsNumber site.variables number (numbered site.integers site.line e)) }
     {
         let Value {
             prelude,

@@ -13,7 +13,7 @@ pub(crate) const COUNT: &[u8] = b"int main() {
 ";
 
 const USAGE: &[u8] =
-    b"usage: tmpl_acsl PROGRAM [--domain D] [--rows FILE] [--improvements N] [--policy P] [--progress] [--function NAME]\n";
+    b"usage: tmpl_acsl PROGRAM [--domain D] [--rows FILE] [--improvements N] [--policy P] [--progress] [--function NAME] [--int N]\n";
 
 // A line of words over the loop to 100 and the rows `2*x`, the code and the message.
 impl Case for (&str, u8, &[u8]) {

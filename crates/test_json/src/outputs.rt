@@ -4,6 +4,7 @@ ghost use Rattle.std.specs.Prelude.{◌≤◌, length};
 ghost use Rattle.base_limits.specs.declared.limits.TheConstants.{MOST_TEXT_BYTES};
 
 use ask_words::{Domain, Format, Policy, Source};
+use base_integers::Integers;
 use base_limits::MOST_TEXT_BYTES;
 use base_watch::Unwatched;
 use std::alloc::Global;
@@ -32,6 +33,7 @@ fn checked(alloc: Global, text: &[u8], format: Format) -> Result<Vec<u8>, Refusa
     let source = Source {
         text,
         function: None,
+        integers: Integers::Mathematical,
     };
     let system = system_on(alloc, source, Domain::Intervals)?;
     let bytes = certificate_of(alloc, &system, Policy::Best, LIMIT, &mut Unwatched)?;
@@ -57,6 +59,7 @@ fn output(
     let source = Source {
         text,
         function: None,
+        integers: Integers::Mathematical,
     };
     let rows = Domain::Intervals;
     let policy = Policy::Best;

@@ -1,2 +1,5 @@
 mod judged;
+mod limits;
+mod machine;
 mod reports;
+mod texts;

@@ -1,5 +1,6 @@
 //! The functions of a file, and which one is meant.
 
+use base_integers::Integers;
 use base_limits::MOST_TEXT_BYTES;
 use lang_tokens::lex;
 use lang_tree::{Name, Names, Program};
@@ -212,12 +213,17 @@ fn names_of(alloc: Global, text: &[u8]) -> Result<Names, SourceFault> {
 }
 
 // The function of a text that is asked about; the text has tokens.
-fn read_of(alloc: Global, text: &[u8], asked: Option<&[u8]>) -> Result<Program, SourceFault> {
+pub(crate) fn read_of(
+    alloc: Global,
+    text: &[u8],
+    asked: Option<&[u8]>,
+    integers: Integers,
+) -> Result<Program, SourceFault> {
     if text.len() > MOST_TEXT_BYTES {
         return Err(SourceFault::NoMemory);
     }
     match lex(alloc, text) {
-        Ok(tokens) => read(alloc, &tokens, text, asked),
+        Ok(tokens) => read(alloc, &tokens, text, asked, integers),
         Err(_) => Err(SourceFault::NoMemory),
     }
 }
@@ -237,7 +243,12 @@ fn functions_are_named(rt: HostRuntime) {
 #[test]
 fn one_function_is_meant(rt: HostRuntime) {
     for (text, asked, wanted) in FAULTS {
-        let given = read_of(rt.alloc(), text.as_bytes(), asked.map(str::as_bytes));
+        let given = read_of(
+            rt.alloc(),
+            text.as_bytes(),
+            asked.map(str::as_bytes),
+            Integers::Mathematical,
+        );
         match &given {
             Ok(_) => assert!(rt; false, "{text}"),
             Err(fault) => assert_eq!(rt; *fault, *wanted, "{text}"),
@@ -248,7 +259,7 @@ fn one_function_is_meant(rt: HostRuntime) {
 #[test]
 fn walks_have_a_first_fault(rt: HostRuntime) {
     for (text, wanted) in WALKS {
-        let given = read_of(rt.alloc(), text.as_bytes(), None);
+        let given = read_of(rt.alloc(), text.as_bytes(), None, Integers::Mathematical);
         match &given {
             Ok(_) => assert!(rt; false, "{text}"),
             Err(fault) => assert_eq!(rt; *fault, SourceFault::Function(*wanted), "{text}"),

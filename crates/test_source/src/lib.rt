@@ -10,6 +10,8 @@ mod items;
 #[cfg(test)]
 mod limits;
 #[cfg(test)]
+mod machine;
+#[cfg(test)]
 mod rows;
 #[cfg(test)]
 mod words;

@@ -1,5 +1,6 @@
 //! Limits: at each, and one past it.
 
+use base_integers::{Integers, Width};
 use lang_tree::Rel;
 use source_value::{
     Number, Operation, OperationFault, Site, Tested, Value, both, compared, element, negative,
@@ -11,12 +12,18 @@ use std::test::Fail;
 const SITE: Site = Site {
     variables: 2,
     line: 7,
+    integers: Integers::Mathematical,
+};
+
+const BY_8_BITS: Site = Site {
+    integers: Integers::Machine(Width::Bits8),
+    ..SITE
 };
 
 const GREATEST: u64 = 9223372036854775807;
 
 fn number(alloc: Global, number: u64) -> Result<Number, OperationFault> {
-    Ok(Value::number(alloc, SITE, 2, number)?.into_number(alloc, SITE)?)
+    Ok(Value::number(alloc, SITE, 2, number, 3)?.into_number(alloc, SITE)?)
 }
 
 fn x(alloc: Global) -> Result<Number, OperationFault> {
@@ -77,6 +84,9 @@ fn large_numbers(rt: HostRuntime) -> Result<(), Fail> {
     let alloc = rt.alloc();
     assert!(rt; !big(number(alloc, GREATEST)));
     assert!(rt; big(number(alloc, GREATEST + 1)));
+    // The check behind a number compares it with the least integer, -128.
+    assert!(rt; !big(Value::number(alloc, BY_8_BITS, 2, GREATEST - 129, 3)));
+    assert!(rt; big(Value::number(alloc, BY_8_BITS, 2, GREATEST - 128, 3)));
     assert!(rt;
         !big(operated(
             alloc,
@@ -107,9 +117,9 @@ fn large_numbers(rt: HostRuntime) -> Result<(), Fail> {
             x(alloc)?
         ))
     );
-    assert!(rt; !big(negative(alloc, number(alloc, GREATEST)?)));
-    assert!(rt; !big(Value::number(alloc, SITE, 2, GREATEST - 1)?.into_condition(SITE)));
-    assert!(rt; big(Value::number(alloc, SITE, 2, GREATEST)?.into_condition(SITE)));
+    assert!(rt; !big(negative(alloc, SITE, 4, number(alloc, GREATEST)?)));
+    assert!(rt; !big(Value::number(alloc, SITE, 2, GREATEST - 1, 3)?.into_condition(SITE)));
+    assert!(rt; big(Value::number(alloc, SITE, 2, GREATEST, 3)?.into_condition(SITE)));
     assert!(rt;
         !big(compared(
             alloc,

@@ -1,6 +1,8 @@
-//! What each operation makes. The function has the variables 0 and 1, below `x` and `y`; signs stand at 5, brackets at 9.
+//! What each operation makes. The function has the variables 0 and 1, below `x` and `y`; numbers stand at 3, signs of one operand at 4,
+//! other signs at 5, brackets at 9.
 
 use crate::written::written;
+use base_integers::Integers;
 use lang_tree::Rel;
 use source_value::{
     Number, Operation, OperationFault, Site, Tested, Value, both, chosen, compared, either,
@@ -12,10 +14,11 @@ use std::test::Fail;
 const SITE: Site = Site {
     variables: 2,
     line: 7,
+    integers: Integers::Mathematical,
 };
 
 fn number(alloc: Global, next: u32, number: u64) -> Result<Number, OperationFault> {
-    Ok(Value::number(alloc, SITE, next, number)?.into_number(alloc, SITE)?)
+    Ok(Value::number(alloc, SITE, next, number, 3)?.into_number(alloc, SITE)?)
 }
 
 fn variable(alloc: Global, next: u32, var: u32) -> Result<Number, OperationFault> {
@@ -23,7 +26,7 @@ fn variable(alloc: Global, next: u32, var: u32) -> Result<Number, OperationFault
 }
 
 fn minus(alloc: Global, size: u64) -> Result<Number, OperationFault> {
-    Ok(negative(alloc, number(alloc, 2, size)?)?.into_number(alloc, SITE)?)
+    Ok(negative(alloc, SITE, 4, number(alloc, 2, size)?)?.into_number(alloc, SITE)?)
 }
 
 fn over(alloc: Global, left: Number, right: Number) -> Result<Value, OperationFault> {

@@ -1,6 +1,6 @@
 //! Values as texts. A form is its coefficients and its constant, as `[1 0 -2|5]`; a variable is its number, as `x2`.
 
-use lang_tree::{CheckKind, Cond, Deed, Form, Rel};
+use lang_tree::{Block, Check, CheckKind, Cond, Deed, Form, Rel, Stmt};
 use source_value::{Outcome, Prelude, Truth, Value};
 use std::alloc::{AllocError, Global};
 
@@ -58,28 +58,55 @@ fn write_cond(alloc: Global, text: &mut String, cond: &Cond) -> Result<(), Alloc
     }
 }
 
+fn write_set(alloc: Global, text: &mut String, var: u32, form: &Form) -> Result<(), AllocError> {
+    text.push_str(format!(in alloc; "x{var} := ")?.as_str())?;
+    write_form(alloc, text, form)
+}
+
+fn write_havoc(alloc: Global, text: &mut String, var: u32) -> Result<(), AllocError> {
+    text.push_str(format!(in alloc; "x{var} := *")?.as_str())
+}
+
+fn write_where(alloc: Global, text: &mut String, cond: &Cond) -> Result<(), AllocError> {
+    text.push_str("where ")?;
+    write_cond(alloc, text, cond)
+}
+
+fn write_check(
+    alloc: Global,
+    text: &mut String,
+    check: &Check,
+    cond: &Cond,
+) -> Result<(), AllocError> {
+    let at = check.at;
+    let kind = match check.kind {
+        CheckKind::Divisor => "divisor",
+        CheckKind::Index => "index",
+        CheckKind::Range => "range",
+        _ => "other",
+    };
+    text.push_str(kind)?;
+    text.push_str(format!(in alloc; "@{at} ")?.as_str())?;
+    write_cond(alloc, text, cond)
+}
+
 fn write_deed(alloc: Global, text: &mut String, deed: &Deed) -> Result<(), AllocError> {
     match deed {
-        Deed::Set { var, form, .. } => {
-            text.push_str(format!(in alloc; "x{var} := ")?.as_str())?;
-            write_form(alloc, text, form)
-        }
-        Deed::Havoc { var, .. } => text.push_str(format!(in alloc; "x{var} := *")?.as_str()),
-        Deed::Where { cond, .. } => {
-            text.push_str("where ")?;
-            write_cond(alloc, text, cond)
-        }
-        Deed::Check { check, cond, .. } => {
-            let at = check.at;
-            let kind = match check.kind {
-                CheckKind::Divisor => "divisor",
-                CheckKind::Index => "index",
-                _ => "other",
-            };
-            text.push_str(kind)?;
-            text.push_str(format!(in alloc; "@{at} ")?.as_str())?;
-            write_cond(alloc, text, cond)
-        }
+        Deed::Set { var, form, .. } => write_set(alloc, text, *var, form),
+        Deed::Havoc { var, .. } => write_havoc(alloc, text, *var),
+        Deed::Where { cond, .. } => write_where(alloc, text, cond),
+        Deed::Check { check, cond, .. } => write_check(alloc, text, check, cond),
+    }
+}
+
+fn write_stmt(alloc: Global, text: &mut String, stmt: &Stmt) -> Result<(), AllocError> {
+    match stmt {
+        Stmt::Set { var, form, .. } => write_set(alloc, text, *var, form),
+        Stmt::Havoc { var, .. } => write_havoc(alloc, text, *var),
+        Stmt::Where { cond, .. } => write_where(alloc, text, cond),
+        Stmt::Check { check, cond, .. } => write_check(alloc, text, check, cond),
+        Stmt::Return { .. } => text.push_str("return"),
+        _ => text.push_str("other"),
     }
 }
 
@@ -124,5 +151,15 @@ pub fn written(alloc: Global, value: Value) -> Result<String, AllocError> {
     write_prelude(alloc, &mut text, prelude)?;
     write_outcome(alloc, &mut text, result)?;
     text.push_str(format!(in alloc; "; {next}")?.as_str())?;
+    Ok(text)
+}
+
+/// The statements of a block, of which those with statements inside aren't told.
+pub fn written_block(alloc: Global, block: &Block) -> Result<String, AllocError> {
+    let mut text = String::new(alloc);
+    for stmt in block.as_slice() {
+        write_stmt(alloc, &mut text, stmt)?;
+        text.push_str("; ")?;
+    }
     Ok(text)
 }

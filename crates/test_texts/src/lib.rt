@@ -17,6 +17,8 @@ mod grammar;
 #[cfg(test)]
 mod programs;
 #[cfg(test)]
+mod refused_words;
+#[cfg(test)]
 mod rows;
 #[cfg(test)]
 mod systems;

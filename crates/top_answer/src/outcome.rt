@@ -19,6 +19,7 @@ ghost use Rattle.top_texts.specs.Outcomes.{IsHalted, IsOutputOf};
 ghost use Rattle.top_texts.specs.Texts.{IsSolvedSystem, Program as ProgramText};
 
 use ask_words::{Analysis, Format, Policy, Purpose, Request, Source, Topic, help_text};
+use base_integers::Integers;
 use base_watch::Watch;
 use flow_systems::System;
 use std::alloc::Global;
@@ -255,6 +256,7 @@ pub(crate) fn outcome_of<W: Watch>(alloc: Global, asked: Request<&[u8]>, watch: 
             let source = Source {
                 text: program,
                 function: None,
+                integers: Integers::Mathematical,
             };
             outcome_from(alloc, points_text(alloc, source), 0)
         }

@@ -17,7 +17,7 @@ use Rattle.ask_words.specs.declared.format.Format.{Format}
 use Rattle.ask_words.specs.declared.request.Domain.{Domain}
 use Rattle.ask_words.specs.declared.request.Policy.{Policy}
 use Rattle.top_written.specs.Formats.{checks_in as checks_written}
-use Rattle.top_texts.specs.ByC.{AreProved, CheckHoldsInSource}
+use Rattle.top_texts.specs.ByC.{AreProved, CheckHoldsInSource, OperationsAreProved, OperationsHaveValues, RunsAreByAll}
 use Rattle.top_texts.specs.Meanings.{Meanings}
 use Rattle.top_texts.specs.Rounds.{HasRounds}
 use Rattle.top_texts.specs.Texts.{IsSolvedSystem, Program}
@@ -85,7 +85,10 @@ pub record IsJudged (program : Program) (rows : Domain (List ℕ)) (policy : Pol
 
 -- the bytes are the verdicts of this vector on the checks of the program, which is in the file of this name, in a format, with the number
 -- of improvements; of an open one's state they tell the values of the program's variables, and none of a hidden one. Where the checks that
--- are about a place are proved, no run by C breaks the place's check; and where the ending is `Done`, none breaks any
+-- are about a place are proved, no run by C breaks the place's check; and where the ending is `Done`, none breaks any. Where the checks of
+-- all operations are proved, each has a value in every run by C: none overflows, none divides by 0, and each element is there. Each run by
+-- C
+-- is one by all integers: by a machine's integers, it goes up to the first operation that overflows
 pub record AreCheckVerdictsOf (m : Meanings) (file : List ℕ) (program : Program) (rows : Domain (List ℕ)) (policy : Policy) (limit : ℕ)
     (format : Format) (ending : Status) (bytes : List ℕ) : Type 0 where
   pub judged : IsJudged program rows policy limit ending
@@ -97,5 +100,7 @@ pub record AreCheckVerdictsOf (m : Meanings) (file : List ℕ) (program : Progra
       (equations_of_program (length judged.solved.names) judged.solved.body judged.solved.template) judged.vector verdicts
   pub by_c : (about : Check) → AreProved judged.solved.body verdicts about → CheckHoldsInSource program judged.solved.names about
   pub all_by_c : ending ≡ Done → (about : Check) → CheckHoldsInSource program judged.solved.names about
+  pub operations_by_c : OperationsAreProved judged.solved.body verdicts → OperationsHaveValues program judged.solved.names
+  pub runs_by_all : RunsAreByAll program judged.solved.names
   pub written : bytes ≡ checks_written format file program.text judged.solved.names (checks_of_program judged.solved.body) verdicts
       judged.rounds

@@ -23,20 +23,20 @@ use Rattle.top_status.specs.declared.status.TextCause.TheVariants.{Lex, Source a
 use Rattle.top_texts.specs.Rounds.{EndsWithin, IsSystemFor}
 use Rattle.flow_systems.specs.declared.limits.TheConstants.{MOST_UNKNOWNS}
 
--- a function of a C file: the text of the file, and the name of the function, if one is named
+-- a function of a C file: the text of the file, the name of the function, if one is named, and the integers by which it computes
 abbrev pub Program : Type 0
 Program = Source (List ℕ)
 
 -- the tokens of the file mean this: the names and the statements of the function that is asked about, or a fault
 abbrev pub Reading : Program → Answer → Type 0
 Reading program answer = (front : List Token) × Reads program.text (front ++ end_at (length program.text) ∷ [])
-    × Means program.text program.function front answer
+    × Means program.integers program.text program.function front answer
 
 -- a function with these names has this core: its statements of C as those of a program
 pub record HasCore (program : Program) (names : List (List ℕ)) (body : Statements) : Type 0 where
   pub statements : c.Statements
   pub reading : Reading program (Ok (names, statements))
-  pub core : body ≡ core_in (length names) statements
+  pub core : body ≡ core_in program.integers (length names) statements
 
 -- and the points and edges of its core are within the limits
 pub record IsAnalysed (program : Program) (names : List (List ℕ)) (body : Statements) : Type 0 where

@@ -62,7 +62,13 @@ pub(crate) fn program_of(alloc: Global, program: Source<&[u8]>) -> Result<Progra
         Ok(tokens) => tokens,
         Err(fault) => return Err(lex_refusal(fault)),
     };
-    match read(alloc, &tokens, program.text, program.function) {
+    match read(
+        alloc,
+        &tokens,
+        program.text,
+        program.function,
+        program.integers,
+    ) {
         Ok(core) => Ok(core),
         Err(fault) => Err(source_refusal(fault)),
     }

@@ -7,7 +7,7 @@ use Rattle.flow_edges.specs.Points.{Made, made_in, points_of_program}
 use Rattle.source_grammar.specs.Grammar.{MoreParameters, last_parameter, next_parameter, Parameters, no_parameters, void_parameters}
 use Rattle.source_grammar.specs.Grammar.{int_parameters, Function, function}
 use Rattle.source_tree.specs.Statements.{Statements}
-use Rattle.source_core.specs.Core.{core_in}
+use Rattle.source_core.specs.Core.{taken_any, core_in}
 use Rattle.source_meaning.specs.declared.fault.FunctionFault.{FunctionFault}
 use Rattle.source_meaning.specs.declared.fault.FunctionFault.TheVariants.{NoVariables}
 use Rattle.source_meaning.specs.Names.{State, start_state, with_variable}
@@ -22,87 +22,92 @@ use Rattle.acsl_anchors.specs.Anchors.{anchors_items, anchors_of}
 use Rattle.acsl_anchors.specs.Laws.{point_of, anchored, scope_of}
 use Rattle.acsl_anchors.proofs.walked.Binds.{met, IsOk, ok_is}
 use Rattle.acsl_anchors.proofs.walked.Names.{grows_none}
-use Rattle.acsl_anchors.proofs.walked.Parts.{Passes, passes_by, passes_then, declares_still, variable_adds, counted_still}
+use Rattle.acsl_anchors.proofs.walked.Parts.{Passes, passes_by, passes_then, declares_still, declares_none, variable_adds, counted_still}
 use Rattle.acsl_anchors.proofs.walked.Points.{anchored_in, anchored_append, anchored_followed}
 use Rattle.acsl_anchors.proofs.walked.Matches.{items_matches}
+use Rattle.base_integers.specs.declared.integers.Integers.{Integers}
 
-module _ (line : ℕ → ℕ) (n : ℕ) where
+module _ (integers : Integers) (line : ℕ → ℕ) (n : ℕ) where
   -- A parameter is declared.
-  parameter_passes : (x : List ℕ) (at : ℕ) (st : State) (r : State × Statements) → IsOk (read_parameter line st x at) r
-      → passes_by n (declared_one (scope_of st)) st r
+  parameter_passes : (x : List ℕ) (at : ℕ) (st : State) (r : State × Statements) → IsOk (read_parameter integers line st x at) r
+      → passes_by integers n (declared_one (scope_of st)) st r
   parameter_passes x at st r h =
       let now = met (with_variable x at st) _ r h in
-      let more = met (counted at 1 now.value) _ r now.gave in
+      let more = met (counted at (length (taken_any integers st.variables (line at))) now.value) _ r now.gave in
       let d = declares_still _ st now.value more.value (variable_adds x at st now.value now.was)
-      (counted_still at 1 now.value more.value more.was) in
-      let P : State × Statements → Type 0 = λ z. passes_by n (declared_one (scope_of st)) st z in
-      subst P (ok_is _ r more.gave) (record { behind = d.scope_is; grows = d.grows; none = λ m. refl })
+      (counted_still at (length (taken_any integers st.variables (line at))) now.value more.value more.was) in
+      let P : State × Statements → Type 0 = λ z. passes_by integers n (declared_one (scope_of st)) st z in
+      subst P (ok_is _ r more.gave)
+      (record { behind = d.scope_is; grows = d.grows; none = declares_none integers n st.variables (line at) })
 
   -- So are those behind the first.
-  more_pass : (ps : MoreParameters) (st : State) (r : State × Statements) → IsOk (read_more_parameters line st ps) r
-      → passes_by n (scope_more_parameters ps (scope_of st)) st r
+  more_pass : (ps : MoreParameters) (st : State) (r : State × Statements) → IsOk (read_more_parameters integers line st ps) r
+      → passes_by integers n (scope_more_parameters ps (scope_of st)) st r
   more_pass last_parameter st r h =
-      let P : State × Statements → Type 0 = λ z. passes_by n (scope_of st) st z in
+      let P : State × Statements → Type 0 = λ z. passes_by integers n (scope_of st) st z in
       subst P (ok_is _ r h) (record { behind = refl; grows = grows_none st st refl; none = λ m. refl })
   more_pass (next_parameter a b x c ps) st r h =
-      let o = met (read_parameter line st x c) _ r h in
-      let q = met (read_more_parameters line o.value.0 ps) _ r o.gave in
+      let o = met (read_parameter integers line st x c) _ r h in
+      let q = met (read_more_parameters integers line o.value.0 ps) _ r o.gave in
       let p = parameter_passes x c st o.value o.was in
       let rest = more_pass ps o.value.0 q.value q.was in
-      let P : State × Statements → Type 0 = λ z. passes_by n (scope_more_parameters ps (declared_one (scope_of st))) st z in
-      let Q : Scope → Type 0 = λ s. Passes n (scope_more_parameters ps s) o.value.0 q.value.0 q.value.1 in
+      let P : State × Statements → Type 0 = λ z. passes_by integers n (scope_more_parameters ps (declared_one (scope_of st))) st z in
+      let Q : Scope → Type 0 = λ s. Passes integers n (scope_more_parameters ps s) o.value.0 q.value.0 q.value.1 in
       subst P (ok_is _ r q.gave)
-      (passes_then n _ _ st o.value.0 q.value.0 o.value.1 q.value.1 p (subst Q (sym p.behind) rest))
+      (passes_then integers n _ _ st o.value.0 q.value.0 o.value.1 q.value.1 p (subst Q (sym p.behind) rest))
 
   -- Parameters are declared, and have no anchors.
-  pub parameters_pass : (ps : Parameters) (st : State) (r : State × Statements) → IsOk (read_parameters line st ps) r
-      → passes_by n (scope_parameters ps (scope_of st)) st r
+  pub parameters_pass : (ps : Parameters) (st : State) (r : State × Statements) → IsOk (read_parameters integers line st ps) r
+      → passes_by integers n (scope_parameters ps (scope_of st)) st r
   parameters_pass no_parameters st r h =
-      let P : State × Statements → Type 0 = λ z. passes_by n (scope_of st) st z in
+      let P : State × Statements → Type 0 = λ z. passes_by integers n (scope_of st) st z in
       subst P (ok_is _ r h) (record { behind = refl; grows = grows_none st st refl; none = λ m. refl })
   parameters_pass (void_parameters a) st r h =
-      let P : State × Statements → Type 0 = λ z. passes_by n (scope_of st) st z in
+      let P : State × Statements → Type 0 = λ z. passes_by integers n (scope_of st) st z in
       subst P (ok_is _ r h) (record { behind = refl; grows = grows_none st st refl; none = λ m. refl })
   parameters_pass (int_parameters a x b ps) st r h =
-      let o = met (read_parameter line st x b) _ r h in
-      let q = met (read_more_parameters line o.value.0 ps) _ r o.gave in
+      let o = met (read_parameter integers line st x b) _ r h in
+      let q = met (read_more_parameters integers line o.value.0 ps) _ r o.gave in
       let p = parameter_passes x b st o.value o.was in
       let rest = more_pass ps o.value.0 q.value q.was in
-      let P : State × Statements → Type 0 = λ z. passes_by n (scope_more_parameters ps (declared_one (scope_of st))) st z in
-      let Q : Scope → Type 0 = λ s. Passes n (scope_more_parameters ps s) o.value.0 q.value.0 q.value.1 in
+      let P : State × Statements → Type 0 = λ z. passes_by integers n (scope_more_parameters ps (declared_one (scope_of st))) st z in
+      let Q : Scope → Type 0 = λ s. Passes integers n (scope_more_parameters ps s) o.value.0 q.value.0 q.value.1 in
       subst P (ok_is _ r q.gave)
-      (passes_then n _ _ st o.value.0 q.value.0 o.value.1 q.value.1 p (subst Q (sym p.behind) rest))
+      (passes_then integers n _ _ st o.value.0 q.value.0 o.value.1 q.value.1 p (subst Q (sym p.behind) rest))
 
 -- A function's statements are those of its parameters and its body.
-nodes_are : (line : ℕ → ℕ) (st : State) (ns body : Statements) (names : List (List ℕ)) → IsOk (function_of line st ns) (names, body)
+nodes_are : (integers : Integers) (line : ℕ → ℕ) (st : State) (ns body : Statements) (names : List (List ℕ))
+    → IsOk (function_of integers line st ns) (names, body)
     → ns ≡ body
-nodes_are line st ns body names h = by_names (reverse (variables_of st.names)) h where
+nodes_are integers line st ns body names h = by_names (reverse (variables_of st.names)) h where
   by_names : (xs : List (List ℕ)) → IsOk (elim xs as (λ z. Result (List (List ℕ) × Statements) FunctionFault)
       [ [] ↦ Err NoVariables | y ∷ ys ↦ Ok (y ∷ ys, ns) ]) (names, body) → ns ≡ body
   by_names [] e = cc
   by_names (y ∷ ys) e = ap (λ (z : List (List ℕ) × Statements). z.1) (ok_is (y ∷ ys, ns) (names, body) e)
 
 -- The anchors of a function and the points of its core, with hidden variables behind its width.
-points_at : (line : ℕ → ℕ) (f : Function) (names : List (List ℕ)) (body : Statements) → walk line f ≡ Ok (names, body)
-    → map (point_of line) (anchors_of f) ≡ anchored (points_of_program (core_in (width_of f) body))
-points_at line (function ss x a ps b c is d) names body h =
+points_at : (integers : Integers) (line : ℕ → ℕ) (f : Function) (names : List (List ℕ)) (body : Statements)
+    → walk integers line f ≡ Ok (names, body)
+    → map (point_of line) (anchors_of f) ≡ anchored (points_of_program (core_in integers (width_of f) body))
+points_at integers line (function ss x a ps b c is d) names body h =
     let n = width_of (function ss x a ps b c is d) in
-    let p = met (read_parameters line start_state ps) _ (names, body) h in
-    let r = met (read_items line n false p.value.0 is) _ (names, body) p.gave in
-    let passes = parameters_pass line n ps start_state p.value p.was in
-    let m = items_matches line n false is p.value.0 r.value r.was in
-    let same = nodes_are line r.value.0 (followed_by p.value.1 r.value.1) body names r.gave in
+    let p = met (read_parameters integers line start_state ps) _ (names, body) h in
+    let r = met (read_items integers line n false p.value.0 is) _ (names, body) p.gave in
+    let passes = parameters_pass integers line n ps start_state p.value p.was in
+    let m = items_matches integers line n false is p.value.0 r.value r.was in
+    let same = nodes_are integers line r.value.0 (followed_by p.value.1 r.value.1) body names r.gave in
     let s = scope_parameters ps no_scope in
-    let (k, e) = anchored_followed n p.value.1 r.value.1 1 in
+    let (k, e) = anchored_followed integers n p.value.1 r.value.1 1 in
     map-append (point_of line) (anchors_items is s) (end_at (end_place is d) (scope_items is s) ∷ [])
     ∙ ap (λ (l : List Point). l ++ record { place = Exit; line = 0 } ∷ [])
-    (m.points s k ∙ ap (λ (l : List Point). l ++ anchored_in (core_in n r.value.1) k) (sym (passes.none 1)) ∙ sym e
-    ∙ ap (λ (ns : Statements). anchored_in (core_in n ns) 1) same)
-    ∙ sym (anchored_append (map (λ (x : Made). x.point) (made_in (core_in n body) 1)) (record { place = Exit; line = 0 } ∷ []))
+    (m.points s k ∙ ap (λ (l : List Point). l ++ anchored_in (core_in integers n r.value.1) k) (sym (passes.none 1)) ∙ sym e
+    ∙ ap (λ (ns : Statements). anchored_in (core_in integers n ns) 1) same)
+    ∙ sym (anchored_append (map (λ (x : Made). x.point) (made_in (core_in integers n body) 1)) (record { place = Exit; line = 0 } ∷ []))
 
 -- The anchors of a function and the points of its core.
-pub points_are : (line : ℕ → ℕ) (f : Function) (names : List (List ℕ)) (body : Statements) → walk line f ≡ Ok (names, body)
-    → map (point_of line) (anchors_of f) ≡ anchored (points_of_program (core_in (length names) body))
-points_are line f names body h =
-    let width = (value_of (Reads f) (walk line f) (names, body) (walk_reads line f) h).width in
-    points_at line f names body h ∙ ap (λ (n : ℕ). anchored (points_of_program (core_in n body))) (sym width)
+pub points_are : (integers : Integers) (line : ℕ → ℕ) (f : Function) (names : List (List ℕ)) (body : Statements)
+    → walk integers line f ≡ Ok (names, body)
+    → map (point_of line) (anchors_of f) ≡ anchored (points_of_program (core_in integers (length names) body))
+points_are integers line f names body h =
+    let width = (value_of (Reads integers f) (walk integers line f) (names, body) (walk_reads integers line f) h).width in
+    points_at integers line f names body h ∙ ap (λ (n : ℕ). anchored (points_of_program (core_in integers n body))) (sym width)

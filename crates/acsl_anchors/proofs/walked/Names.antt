@@ -1,5 +1,5 @@
 -- The names that have been met only grow, and behind a block those before it are known that were.
-use Rattle.std.proofs.Common.{◌≡◌, ◌∙◌, ◌+◌, ◌-◌, ◌++◌, ◌∷◌, ℕ, false, List, [], length, refl, sym, ap, append_assoc, arith}
+use Rattle.std.proofs.Common.{◌≡◌, ◌∙◌, ◌-◌, ◌++◌, ◌∷◌, ℕ, false, List, [], length, refl, sym, ap, append_assoc, arith}
 use Rattle.std.proofs.lemmas.List.{append-nil, length-append}
 use Rattle.source_meaning.specs.Names.{Named, State, forgotten, closed}
 use Rattle.acsl_anchors.specs.Laws.{known_in}

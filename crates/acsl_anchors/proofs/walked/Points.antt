@@ -10,6 +10,7 @@ use Rattle.source_tree.specs.Statements as source
 use Rattle.source_core.specs.Core.{followed_by, behind, one, core_of, core_in}
 use Rattle.source_meaning.specs.Statements as read
 use Rattle.acsl_anchors.specs.Laws.{is_anchored, anchored}
+use Rattle.base_integers.specs.declared.integers.Integers.{Integers}
 
 -- of the points that were made, those that have anchors
 abbrev pub anchored_made : List Made → List Point
@@ -86,24 +87,26 @@ followed_assoc : (a b c : Statements) → followed_by (followed_by a b) c ≡ fo
 followed_assoc nil b c = refl
 followed_assoc (cons s ss) b c = ap (λ (x : Statements). cons s x) (followed_assoc ss b c)
 
-module _ (n : ℕ) where
+module _ (integers : Integers) (n : ℕ) where
   -- one list and then another
-  pub core_followed : (ss rest : source.Statements) → core_in n (read.followed_by ss rest) ≡ followed_by (core_in n ss) (core_in n rest)
+  pub core_followed : (ss rest : source.Statements)
+      → core_in integers n (read.followed_by ss rest) ≡ followed_by (core_in integers n ss) (core_in integers n rest)
   core_followed source.nil rest = refl
-  core_followed (source.cons s ss) rest = ap (λ (x : Statements). followed_by (core_of n s) x) (core_followed ss rest)
-      ∙ sym (followed_assoc (core_of n s) (core_in n ss) (core_in n rest))
+  core_followed (source.cons s ss) rest = ap (λ (x : Statements). followed_by (core_of integers n s) x) (core_followed ss rest)
+      ∙ sym (followed_assoc (core_of integers n s) (core_in integers n ss) (core_in integers n rest))
 
   -- one statement
-  pub core_one : (s : source.Statement) → core_in n (read.one s) ≡ core_of n s
-  core_one s = followed_nil (core_of n s)
+  pub core_one : (s : source.Statement) → core_in integers n (read.one s) ≡ core_of integers n s
+  core_one s = followed_nil (core_of integers n s)
 
   -- those of one list and those of another
   pub anchored_followed : (ss rest : source.Statements) (m : ℕ)
-      → (k : ℕ) × (anchored_in (core_in n (read.followed_by ss rest)) m ≡ anchored_in (core_in n ss) m ++ anchored_in (core_in n rest) k)
+      → (k : ℕ) × (anchored_in (core_in integers n (read.followed_by ss rest)) m
+      ≡ anchored_in (core_in integers n ss) m ++ anchored_in (core_in integers n rest) k)
   anchored_followed ss rest m =
-      let (k, h) = followed (core_in n ss) (core_in n rest) m in
+      let (k, h) = followed (core_in integers n ss) (core_in integers n rest) m in
       (k, ap (λ (x : Statements). anchored_in x m) (core_followed ss rest) ∙ h)
 
   -- those of one statement
-  pub anchored_one : (s : source.Statement) (m : ℕ) → anchored_in (core_in n (read.one s)) m ≡ anchored_in (core_of n s) m
+  pub anchored_one : (s : source.Statement) (m : ℕ) → anchored_in (core_in integers n (read.one s)) m ≡ anchored_in (core_of integers n s) m
   anchored_one s m = ap (λ (x : Statements). anchored_in x m) (core_one s)

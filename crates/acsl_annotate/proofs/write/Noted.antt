@@ -11,6 +11,7 @@ use Rattle.lang_tokens.specs.declared.token.Token as lex_token
 use Rattle.lang_tree.specs.Tree.{Statements}
 use Rattle.lang_tree.specs.Word.{is_word}
 use Rattle.source_grammar.specs.Grammar.{Function, Reads}
+use Rattle.base_integers.specs.declared.integers.Integers.{Integers}
 use Rattle.source_tree.specs.Statements as c
 use Rattle.source_meaning.specs.Walk.{walk}
 use Rattle.source_tokens.specs.View.{tokens_of}
@@ -56,13 +57,14 @@ range_front front end first last order within =
     ∙ take-append-le (last - first) (drop first front) (end ∷ []) few
 
 -- what tokens mean that are a function is what its tree does
-tree_in : (text : List ℕ) (front : List lex_token.Token) (d : Defined) (names : List (List ℕ)) (statements : c.Statements)
-    → FunctionMeans text (item_of text front d) (Ok (names, statements))
-    → (tree : Function) × Reads (item_of text front d) tree × (walk (line_at text) tree ≡ Ok (names, statements))
-tree_in text front d names statements (inl (at, finds, e)) = cc
-tree_in text front d names statements (inr (inl (at, finds, e))) = cc
-tree_in text front d names statements (inr (inr (tree, is, fine, e))) =
-    (tree, is, walked_ok (walk (line_at text) tree) (names, statements) e)
+tree_in : (integers : Integers) (text : List ℕ) (front : List lex_token.Token) (d : Defined) (names : List (List ℕ))
+    (statements : c.Statements)
+    → FunctionMeans integers text (item_of text front d) (Ok (names, statements))
+    → (tree : Function) × Reads (item_of text front d) tree × (walk integers (line_at text) tree ≡ Ok (names, statements))
+tree_in integers text front d names statements (inl (at, finds, e)) = cc
+tree_in integers text front d names statements (inr (inl (at, finds, e))) = cc
+tree_in integers text front d names statements (inr (inr (tree, is, fine, e))) =
+    (tree, is, walked_ok (walk integers (line_at text) tree) (names, statements) e)
 
 -- a text has one list of tokens
 abbrev pub OneReading : Type 0
@@ -85,7 +87,8 @@ pub record IsNoted (program : Program) (bounds : LeastBounds) (tokens : List lex
       → IsChosen program.text program.function front d
   -- what the file means is what its tokens do
   pub means : (front : List lex_token.Token) → front ++ lex.end_at (length program.text) ∷ [] ≡ tokens → (wanted : Answer)
-      → Means program.text program.function front wanted → FunctionMeans program.text (item_of program.text front d) wanted
+      → Means program.integers program.text program.function front wanted
+      → FunctionMeans program.integers program.text (item_of program.text front d) wanted
   -- the anchors are those of its tree
   pub anchors : (f : Function) → Reads (tokens_of program.text (slice_range tokens d.first d.end)) f → places ≡ plain_anchors (anchors_of f)
   -- the comments are those of the anchors with the bounds found
@@ -101,7 +104,8 @@ pub noted_by : (program : Program) (bounds : LeastBounds) (tokens tokens1 tokens
     → ((front : List lex_token.Token) → front ++ lex.end_at (length program.text) ∷ [] ≡ tokens1
     → IsChosen program.text program.function front d)
     → ((front : List lex_token.Token) → front ++ lex.end_at (length program.text) ∷ [] ≡ tokens1 → (wanted : Answer)
-    → Means program.text program.function front wanted → FunctionMeans program.text (item_of program.text front d) wanted)
+    → Means program.integers program.text program.function front wanted
+    → FunctionMeans program.integers program.text (item_of program.text front d) wanted)
     → ((f : Function) → Reads (tokens_of program.text (slice_range tokens2 d.first d.end)) f → places ≡ plain_anchors (anchors_of f))
     → ((l : List Anchor) → places2 ≡ plain_anchors l
     → list ≡ comments_from program.text bounds.system.flow.names bounds.system.template (vector_at bounds.system bounds.solved.bounds) 0
@@ -140,7 +144,7 @@ module _ (program : Program) (rows : Domain (List ℕ)) (policy : Policy) (limit
     -- with it they are the tokens
     pub ended : front ++ lex.end_at (length program.text) ∷ [] ≡ tokens
     -- they mean the function found
-    pub means : Means program.text program.function front (Ok (found.solved.names, core.statements))
+    pub means : Means program.integers program.text program.function front (Ok (found.solved.names, core.statements))
     -- the tree of the function
     pub tree : Function
     -- the tree is that of the function found
@@ -161,7 +165,7 @@ module _ (program : Program) (rows : Domain (List ℕ)) (policy : Policy) (limit
       let (front, reads, means) = core.reading in
       let end = lex.end_at (length text) in
       let ended : front ++ end ∷ [] ≡ tokens = one text (front ++ end ∷ []) tokens reads noted.reads in
-      let (tree, tree_is, walked) = tree_in text front d s.names core.statements
+      let (tree, tree_is, walked) = tree_in program.integers text front d s.names core.statements
       (noted.means front ended (Ok (s.names, core.statements)) means) in
       let last : d.end ≤ length front = omega (
         arith,
@@ -206,7 +210,7 @@ module _ (program : Program) (rows : Domain (List ℕ)) (policy : Policy) (limit
 
   -- what they say is so by C
   said_by_c : (v : Vector) → SaysTruth (length found.solved.names) found.solved.body found.solved.template v
-      → SaysTruthByC (length found.solved.names) core.statements found.solved.template v
+      → SaysTruthByC program.integers (length found.solved.names) core.statements found.solved.template v
   said_by_c v truth p known clause listed =
       kept_in_source program found.solved.names found.solved.body core p (λ state. IsTrueAt clause state)
       (λ run now is among at. truth p known clause listed run now is among at) core.statements core.reading
@@ -238,11 +242,12 @@ module _ (program : Program) (rows : Domain (List ℕ)) (policy : Policy) (limit
           has_core = core;
           tree = stands.tree;
           is_tree = stands.is_tree;
-          points = points (line_at text) stands.tree s.names core.statements stands.is_tree.means
+          points = points program.integers (line_at text) stands.tree s.names core.statements stands.is_tree.means
               ∙ ap (λ (b : Statements). anchored (points_of_program b)) (sym core.core);
           written = spelled;
           comes_out = ap (λ b. without_comments 0 b said) spelled ∙ come text said stands.may_stand.order;
-          means = stay text tokens stands.front said program.function s.names core.statements noted.reads stands.ended stands.means
+          means = stay program.integers text tokens stands.front said program.function s.names core.statements noted.reads stands.ended
+              stands.means
               stands.may_stand;
           truth = truth;
           by_c = said_by_c v truth;

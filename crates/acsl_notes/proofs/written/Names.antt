@@ -62,6 +62,6 @@ apart_once (n ∷ names) h (suc i) (suc j) name e f = ap suc (apart_once names h
 
 -- the variables of a function that is meant
 pub program_names : VariablesAreNames → ProgramNamesAreNames
-program_names law text tokens front asked names body reads e means =
-    let (each, apart) = law text asked front names body (front_in text tokens front (placed_tokens text tokens reads) e) means in
+program_names law integers text tokens front asked names body reads e means =
+    let (each, apart) = law integers text asked front names body (front_in text tokens front (placed_tokens text tokens reads) e) means in
     record { each = each; once = apart_once names apart }

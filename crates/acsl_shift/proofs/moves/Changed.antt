@@ -18,35 +18,40 @@ use Rattle.acsl_shift.proofs.moves.Twice.{nowhere}
 use Rattle.acsl_shift.proofs.moves.Seen.{Seen, seen_then, seen_limited, seen_counted, from_hidden}
 use Rattle.acsl_shift.proofs.moves.Read.{seen_variable, seen_array, seen_ranged, seen_read, behind_same, behind_number_same}
 use Rattle.acsl_shift.proofs.moves.Cores.{behind_change_same, deeds_small, deeds_length}
+use Rattle.base_integers.specs.declared.integers.Integers.{Integers}
 
 -- what has been met, and a part by a view
 abbrev pub beside : {A B : Type 0} → (A → B) → State × A → State × B
 beside view r = (r.0, view r.1)
 
-module _ (n line : ℕ) where
+module _ (integers : Integers) (n line : ℕ) where
   -- the limits of a change
   pub seen_few : {A B : Type 0} (view : A → B) (at : ℕ) (g : Change) (x : A)
-      → Seen view (few n line at g x) (few n 0 0 (change_without g) (view x))
-  seen_few view at g x = seen_limited view n at (behind_change n line g) (behind_change n 0 (change_without g)) (change_deeds n g)
-      (change_deeds n (change_without g)) [] [] x (behind_change_same n line g) (deeds_small n g) refl
+      → Seen view (few integers n line at g x) (few integers n 0 0 (change_without g) (view x))
+  seen_few view at g x =
+      seen_limited view n at (behind_change integers n line g) (behind_change integers n 0 (change_without g)) (change_deeds integers n g)
+      (change_deeds integers n (change_without g)) [] [] x (behind_change_same integers n line g) (deeds_small integers n g) refl
 
   -- a place with 1 more or less
   seen_stepped : (d : g.Direction) (sign h : ℕ) (old : Expression)
-      → Seen expression_without (ranged line sign h (stepped d sign old)) (ranged 0 0 h (stepped d 0 (expression_without old)))
-  seen_stepped g.up sign h old = seen_ranged line sign h (joined plus sign old (number 1 sign))
-  seen_stepped g.down sign h old = seen_ranged line sign h (joined minus sign old (number 1 sign))
+      → Seen expression_without (ranged integers line sign h (stepped d sign old))
+      (ranged integers 0 0 h (stepped d 0 (expression_without old)))
+  seen_stepped g.up sign h old = seen_ranged integers line sign h (joined plus sign old (number 1 sign))
+  seen_stepped g.down sign h old = seen_ranged integers line sign h (joined minus sign old (number 1 sign))
 
   -- an old value and a right side
   seen_joined : (st : State) (o : Operation) (sign : ℕ) (old : Expression) (e : Expr)
-      → Seen expression_without (read line st e n >>= λ x. ranged line sign n (joined o sign old x))
-      (read 0 st (move_expr nowhere e) n >>= λ x. ranged 0 0 n (joined o 0 (expression_without old) x))
-  seen_joined st o sign old e = seen_then expression_without expression_without (read line st e n) (read 0 st (move_expr nowhere e) n) _ _
-      (seen_read line st e n) (λ x. seen_ranged line sign n (joined o sign old x))
+      → Seen expression_without (read integers line st e n >>= λ x. ranged integers line sign n (joined o sign old x))
+      (read integers 0 st (move_expr nowhere e) n >>= λ x. ranged integers 0 0 n (joined o 0 (expression_without old) x))
+  seen_joined st o sign old e =
+      seen_then expression_without expression_without (read integers line st e n) (read integers 0 st (move_expr nowhere e) n) _ _
+      (seen_read integers line st e n) (λ x. seen_ranged integers line sign n (joined o sign old x))
 
   -- the right side of an assignment
   seen_right : (st : State) (c : g.Change) (sign : ℕ) (old : Expression) (e : Expr)
-      → Seen expression_without (right_side n line st c sign old e) (right_side n 0 st c 0 (expression_without old) (move_expr nowhere e))
-  seen_right st g.replaces sign old e = seen_read line st e n
+      → Seen expression_without (right_side integers n line st c sign old e)
+      (right_side integers n 0 st c 0 (expression_without old) (move_expr nowhere e))
+  seen_right st g.replaces sign old e = seen_read integers line st e n
   seen_right st g.adds sign old e = seen_joined st plus sign old e
   seen_right st g.subtracts sign old e = seen_joined st minus sign old e
   seen_right st g.multiplies sign old e = seen_joined st times sign old e
@@ -55,29 +60,33 @@ module _ (n line : ℕ) where
 
   -- an old value of an element and a right side
   seen_joined_behind : (st : State) (o : Operation) (sign : ℕ) (old : Expression) (e : Expr)
-      → Seen expressions_without (read line st e (behind_number line old n) >>= λ x. ranged line sign n (joined o sign old x)
+      → Seen expressions_without
+      (read integers line st e (behind_number integers line old n) >>= λ x. ranged integers line sign n (joined o sign old x)
       >>= λ y. Ok (more y none))
-      (read 0 st (move_expr nowhere e) (behind_number 0 (expression_without old) n)
-      >>= λ x. ranged 0 0 n (joined o 0 (expression_without old) x) >>= λ y. Ok (more y none))
+      (read integers 0 st (move_expr nowhere e) (behind_number integers 0 (expression_without old) n)
+      >>= λ x. ranged integers 0 0 n (joined o 0 (expression_without old) x) >>= λ y. Ok (more y none))
   seen_joined_behind st o sign old e =
-      let k = behind_number line old n in
-      let l = behind_number 0 (expression_without old) n in
-      seen_then expression_without expressions_without (read line st e k) (read 0 st (move_expr nowhere e) l) _ _
-      (from_hidden expression_without (read line st e k) (λ z. read 0 st (move_expr nowhere e) z) k l (behind_number_same line old n)
-      (seen_read line st e k)) (λ x.
-      seen_then expression_without expressions_without (ranged line sign n (joined o sign old x))
-      (ranged 0 0 n (joined o 0 (expression_without old) (expression_without x))) _ _
-      (seen_ranged line sign n (joined o sign old x)) (λ y. record { same = refl }))
+      let k = behind_number integers line old n in
+      let l = behind_number integers 0 (expression_without old) n in
+      seen_then expression_without expressions_without (read integers line st e k) (read integers 0 st (move_expr nowhere e) l) _ _
+      (from_hidden expression_without (read integers line st e k) (λ z. read integers 0 st (move_expr nowhere e) z) k l
+      (behind_number_same integers line old n)
+      (seen_read integers line st e k)) (λ x.
+      seen_then expression_without expressions_without (ranged integers line sign n (joined o sign old x))
+      (ranged integers 0 0 n (joined o 0 (expression_without old) (expression_without x))) _ _
+      (seen_ranged integers line sign n (joined o sign old x)) (λ y. record { same = refl }))
 
   -- what is evaluated where an element is written
   seen_written : (st : State) (c : g.Change) (sign : ℕ) (old : Expression) (e : Expr)
-      → Seen expressions_without (written n line st c sign old e) (written n 0 st c 0 (expression_without old) (move_expr nowhere e))
+      → Seen expressions_without (written integers n line st c sign old e)
+      (written integers n 0 st c 0 (expression_without old) (move_expr nowhere e))
   seen_written st g.replaces sign old e =
-      let k = behind line old n in
-      let l = behind 0 (expression_without old) n in
-      seen_then expression_without expressions_without (read line st e k) (read 0 st (move_expr nowhere e) l) _ _
-      (from_hidden expression_without (read line st e k) (λ z. read 0 st (move_expr nowhere e) z) k l (behind_same line old n)
-      (seen_read line st e k)) (λ x. record { same = refl })
+      let k = behind integers line old n in
+      let l = behind integers 0 (expression_without old) n in
+      seen_then expression_without expressions_without (read integers line st e k) (read integers 0 st (move_expr nowhere e) l) _ _
+      (from_hidden expression_without (read integers line st e k) (λ z. read integers 0 st (move_expr nowhere e) z) k l
+      (behind_same integers line old n)
+      (seen_read integers line st e k)) (λ x. record { same = refl })
   seen_written st g.adds sign old e = seen_joined_behind st plus sign old e
   seen_written st g.subtracts sign old e = seen_joined_behind st minus sign old e
   seen_written st g.multiplies sign old e = seen_joined_behind st times sign old e
@@ -86,60 +95,68 @@ module _ (n line : ℕ) where
 
   -- what is done to a variable
   seen_affected : (st : State) (i at : ℕ) (f : Effect)
-      → Seen change_without (affected n line st i at f) (affected n 0 st i 0 (move_effect nowhere f))
+      → Seen change_without (affected integers n line st i at f) (affected integers n 0 st i 0 (move_effect nowhere f))
   seen_affected st i at (assigns c sign e) =
-      seen_then expression_without change_without (right_side n line st c sign (variable i at) e)
-      (right_side n 0 st c 0 (variable i 0) (move_expr nowhere e)) _ _ (seen_right st c sign (variable i at) e)
+      seen_then expression_without change_without (right_side integers n line st c sign (variable i at) e)
+      (right_side integers n 0 st c 0 (variable i 0) (move_expr nowhere e)) _ _ (seen_right st c sign (variable i at) e)
       (λ x. record { same = refl })
   seen_affected st i at (steps d sign) =
-      seen_then expression_without change_without (ranged line sign n (stepped d sign (variable i at)))
-      (ranged 0 0 n (stepped d 0 (variable i 0))) _ _ (seen_stepped d sign n (variable i at)) (λ x. record { same = refl })
+      seen_then expression_without change_without (ranged integers line sign n (stepped d sign (variable i at)))
+      (ranged integers 0 0 n (stepped d 0 (variable i 0))) _ _ (seen_stepped d sign n (variable i at)) (λ x. record { same = refl })
 
   -- what is done to an element
   seen_evaluated : (st : State) (old : Expression) (f : Effect)
-      → Seen change_without (evaluated_by n line st old f) (evaluated_by n 0 st (expression_without old) (move_effect nowhere f))
+      → Seen change_without (evaluated_by integers n line st old f)
+      (evaluated_by integers n 0 st (expression_without old) (move_effect nowhere f))
   seen_evaluated st old (assigns c sign e) =
-      seen_then expressions_without change_without (written n line st c sign old e)
-      (written n 0 st c 0 (expression_without old) (move_expr nowhere e)) _ _ (seen_written st c sign old e) (λ x. record { same = refl })
+      seen_then expressions_without change_without (written integers n line st c sign old e)
+      (written integers n 0 st c 0 (expression_without old) (move_expr nowhere e)) _ _ (seen_written st c sign old e)
+      (λ x. record { same = refl })
   seen_evaluated st old (steps d sign) =
-      seen_then expression_without change_without (ranged line sign n (stepped d sign old))
-      (ranged 0 0 n (stepped d 0 (expression_without old))) _ _ (seen_stepped d sign n old) (λ x. record { same = refl })
+      seen_then expression_without change_without (ranged integers line sign n (stepped d sign old))
+      (ranged integers 0 0 n (stepped d 0 (expression_without old))) _ _ (seen_stepped d sign n old) (λ x. record { same = refl })
 
   -- what is done to a place
   pub seen_changed : (st : State) (p : Place) (f : Effect)
-      → Seen change_without (changed n line st p f) (changed n 0 st (move_place nowhere p) (move_effect nowhere f))
+      → Seen change_without (changed integers n line st p f) (changed integers n 0 st (move_place nowhere p) (move_effect nowhere f))
   seen_changed st (place x a no_index) f =
       seen_then (λ i. i) change_without (variable_of x a st) (variable_of x 0 st) _ _ (seen_variable x a st) (λ i. seen_affected st i a f)
   seen_changed st (place x a (index b e c)) f =
-      seen_then expression_without change_without (read_element n line st x a b e) (read_element n 0 st x 0 0 (move_expr nowhere e)) _ _
+      seen_then expression_without change_without (read_element integers n line st x a b e)
+      (read_element integers n 0 st x 0 0 (move_expr nowhere e)) _ _
       (seen_then (λ i. i) expression_without (array_of x a st) (array_of x 0 st) _ _ (seen_array x a st) (λ size.
-      seen_then expression_without expression_without (read line st e n) (read 0 st (move_expr nowhere e) n) _ _ (seen_read line st e n)
-      (λ i. seen_ranged line b n (element size b i a)))) (λ old. seen_evaluated st old f)
+      seen_then expression_without expression_without (read integers line st e n) (read integers 0 st (move_expr nowhere e) n) _ _
+      (seen_read integers line st e n)
+      (λ i. seen_ranged integers line b n (element size b i a)))) (λ old. seen_evaluated st old f)
 
 -- A place's first token is at that one place.
 first_is_nowhere : (p : Place) → first_place (move_place nowhere p) ≡ 0
 first_is_nowhere (place x a i) = refl
 
-module _ (line : ℕ → ℕ) (n : ℕ) where
+module _ (integers : Integers) (line : ℕ → ℕ) (n : ℕ) where
   -- a change that is read, behind its limits
   seen_counted_change : (st : State) (at : ℕ) (g : Change)
-      → Seen (beside change_without) (few n (line at) at g g >>= λ g. counted at (length (change_deeds n g)) st >>= λ st. Ok (st, g))
-      (few n 0 0 (change_without g) (change_without g) >>= λ g. counted 0 (length (change_deeds n g)) st >>= λ st. Ok (st, g))
+      → Seen (beside change_without)
+      (few integers n (line at) at g g >>= λ g. counted at (length (change_deeds integers n g)) st >>= λ st. Ok (st, g))
+      (few integers n 0 0 (change_without g) (change_without g) >>= λ g. counted 0 (length (change_deeds integers n g)) st
+      >>= λ st. Ok (st, g))
   seen_counted_change st at g =
-      seen_then change_without (beside change_without) (few n (line at) at g g) (few n 0 0 (change_without g) (change_without g)) _ _
-      (seen_few n (line at) change_without at g g) (λ g.
-      seen_then (λ x. x) (beside change_without) (counted at (length (change_deeds n g)) st)
-      (counted 0 (length (change_deeds n (change_without g))) st) _ _ (seen_counted at _ _ st (deeds_length n g))
+      seen_then change_without (beside change_without) (few integers n (line at) at g g)
+      (few integers n 0 0 (change_without g) (change_without g)) _ _
+      (seen_few integers n (line at) change_without at g g) (λ g.
+      seen_then (λ x. x) (beside change_without) (counted at (length (change_deeds integers n g)) st)
+      (counted 0 (length (change_deeds integers n (change_without g))) st) _ _ (seen_counted at _ _ st (deeds_length integers n g))
       (λ st. record { same = refl }))
 
   -- a change
   pub seen_update : (st : State) (u : Update)
-      → Seen (beside change_without) (read_update line n st u) (read_update nowhere n st (move_update nowhere u))
+      → Seen (beside change_without) (read_update integers line n st u) (read_update integers nowhere n st (move_update nowhere u))
   seen_update st (update (place x a i) f) =
-      seen_then change_without (beside change_without) (changed n (line a) st (place x a i) f)
-      (changed n 0 st (move_place nowhere (place x a i)) (move_effect nowhere f)) _ _ (seen_changed n (line a) st (place x a i) f)
+      seen_then change_without (beside change_without) (changed integers n (line a) st (place x a i) f)
+      (changed integers n 0 st (move_place nowhere (place x a i)) (move_effect nowhere f)) _ _
+      (seen_changed integers n (line a) st (place x a i) f)
       (λ g. seen_counted_change st a g)
   seen_update st (step_before d at p) =
-      seen_then change_without (beside change_without) (changed n (line at) st p (steps d at))
-      (changed n 0 st (move_place nowhere p) (steps d 0)) _ _ (seen_changed n (line at) st p (steps d at))
+      seen_then change_without (beside change_without) (changed integers n (line at) st p (steps d at))
+      (changed integers n 0 st (move_place nowhere p) (steps d 0)) _ _ (seen_changed integers n (line at) st p (steps d at))
       (λ g. seen_counted_change st at g)

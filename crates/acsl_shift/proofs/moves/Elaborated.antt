@@ -1,9 +1,9 @@
 -- What an expression without its places is in the core: the same, but for the lines and places of its deeds.
 use Rattle.std.proofs.Common.{◌≡◌, ◌∙◌, ◌++◌, ◌∷◌, ℕ, suc, ℤ, pos, Bool, true, false, List, [], refl, ap, ap₂, subst}
-use Rattle.std.proofs.Common.{if◌then◌else◌}
+use Rattle.std.proofs.Common.{if◌then◌else◌, nat_le}
 use Rattle.lang_tree.specs.declared.form.Form.{Form}
 use Rattle.lang_tree.specs.declared.cond.Rel.TheVariants.{Ne}
-use Rattle.lang_tree.specs.declared.check.CheckKind.TheVariants.{Divisor, Index}
+use Rattle.lang_tree.specs.declared.check.CheckKind.TheVariants.{Divisor, Index, Range}
 use Rattle.lang_tree.specs.Tree as tree
 use Rattle.lang_tree.specs.Tree.{Condition, Deed, havocs, wheres}
 use Rattle.source_tree.specs.Expressions.{Operation, plus, minus, times, over, remainder}
@@ -15,9 +15,15 @@ use Rattle.source_core.specs.Preludes.{all_under}
 use Rattle.source_core.specs.Elaborated.{Result, a_form, a_truth, any, Elaborated, Numbered, Tested, Evaluated, related, selects}
 use Rattle.source_core.specs.Elaborated.{tested, form_behind, is_unit, is_divisor, is_index, as_number, numbered, product}
 use Rattle.source_core.specs.Elaborated.{unless_zero, quotient_by, remainder_by, operated, element_behind, choice, elaborated, evaluated}
-use Rattle.source_core.specs.Elaborated.{checked, divides, havocked}
+use Rattle.source_core.specs.Elaborated.{checked, divides, havocked, is_held, operation_held, form_in, held, ranged, number_at}
+use Rattle.source_core.specs.Elaborated.{operation_on}
+use Rattle.source_core.specs.Core.{taken_any}
 use Rattle.acsl_shift.specs.Sources.{expression_without, expressions_without}
 use Rattle.acsl_shift.proofs.moves.Deeds.{bare_deeds, bare_append, bare_under}
+use Rattle.base_integers.specs.declared.integers.Integers.{Integers}
+use Rattle.base_integers.specs.declared.integers.Integers.TheVariants.{Mathematical, Machine}
+use Rattle.base_integers.specs.declared.integers.Width.{Width}
+use Rattle.base_integers.specs.Integers.{greatest}
 
 -- without the lines and places of its prelude
 abbrev pub bare : Elaborated → Elaborated
@@ -44,34 +50,59 @@ if_bare : (b : Bool) (x y z w : Elaborated) → bare x ≡ z → bare y ≡ w �
 if_bare true x y z w h i = h
 if_bare false x y z w h i = i
 
-module _ (line : ℕ) where
+-- ---- machine integers
+-- any of them is taken
+pub any_bare : (integers : Integers) (line var : ℕ) → bare_deeds (taken_any integers var line) ≡ taken_any integers var 0
+any_bare Mathematical line var = refl
+any_bare (Machine width) line var = refl
+
+-- an operation with a check that its result is one
+ranged_bare : (integers : Integers) (line place : ℕ) (holds : Width → Form → Condition) (e : Elaborated)
+    → bare (ranged integers line place holds e) ≡ ranged integers 0 0 holds (bare e)
+ranged_bare Mathematical line place holds e = refl
+ranged_bare (Machine width) line place holds e =
+    ap (behind e.result e.next) (bare_append e.prelude (checked line Range place (holds width (form_in e.result)) ∷ []))
+
+-- a number of the text
+number_bare : (integers : Integers) (line v at h : ℕ) → bare (number_at integers line v at h) ≡ number_at integers 0 v 0 h
+number_bare Mathematical line v at h = refl
+number_bare (Machine width) line v at h = if_bare (nat_le v (greatest width)) _ _ _ _ refl refl
+
+module _ (integers : Integers) (line : ℕ) where
+  -- any of the integers is taken behind a prelude
+  behind_any : (ds : List Deed) (h : ℕ)
+      → bare_deeds (ds ++ havocs h line ∷ held integers line h) ≡ bare_deeds ds ++ havocs h 0 ∷ held integers 0 h
+  behind_any ds h = bare_append ds (taken_any integers h line) ∙ ap (λ (es : List Deed). bare_deeds ds ++ es) (any_bare integers line h)
+
   -- a result as a number
-  as_number_bare : (ds : List Deed) (h : ℕ) (r : Result) → bare_number (as_number line ds h r) ≡ as_number 0 (bare_deeds ds) h r
+  as_number_bare : (ds : List Deed) (h : ℕ) (r : Result)
+      → bare_number (as_number integers line ds h r) ≡ as_number integers 0 (bare_deeds ds) h r
   as_number_bare ds h (a_form f) = refl
   as_number_bare ds h (a_truth c) =
       ap (λ (x : List Deed). let a : Numbered = record { prelude = x; form = variable_form h; next = suc h } in a)
       (bare_append ds (havocs h line ∷ wheres (selects c h (constant_form (pos 1)) (constant_form (pos 0))) line ∷ []))
   as_number_bare ds h any =
-      ap (λ (x : List Deed). let a : Numbered = record { prelude = x; form = variable_form h; next = suc h } in a)
-      (bare_append ds (havocs h line ∷ []))
+      ap (λ (x : List Deed). let a : Numbered = record { prelude = x; form = variable_form h; next = suc h } in a) (behind_any ds h)
 
   -- an expression as a number
-  pub numbered_bare : (e : Elaborated) (f : Elaborated) → bare e ≡ f → bare_number (numbered line e) ≡ numbered 0 f
-  numbered_bare e f h = as_number_bare e.prelude e.next e.result ∙ ap (λ (x : Elaborated). numbered 0 x) h
+  pub numbered_bare : (e : Elaborated) (f : Elaborated) → bare e ≡ f → bare_number (numbered integers line e) ≡ numbered integers 0 f
+  numbered_bare e f h = as_number_bare e.prelude e.next e.result ∙ ap (λ (x : Elaborated). numbered integers 0 x) h
 
   -- any number
-  havocked_bare : (ds : List Deed) (h : ℕ) → bare (havocked line ds h) ≡ havocked 0 (bare_deeds ds) h
-  havocked_bare ds h = ap (behind (a_form (variable_form h)) (suc h)) (bare_append ds (havocs h line ∷ []))
+  havocked_bare : (ds : List Deed) (h : ℕ) → bare (havocked integers line ds h) ≡ havocked integers 0 (bare_deeds ds) h
+  havocked_bare ds h = ap (behind (a_form (variable_form h)) (suc h)) (behind_any ds h)
 
   -- a product
-  product_bare : (ds : List Deed) (h : ℕ) (f g : Form) → bare (product line ds h f g) ≡ product 0 (bare_deeds ds) h f g
+  product_bare : (ds : List Deed) (h : ℕ) (f g : Form) → bare (product integers line ds h f g) ≡ product integers 0 (bare_deeds ds) h f g
   product_bare ds h f g = if_bare (is_constant f) _ _ _ _ refl (if_bare (is_constant g) _ _ _ _ refl (havocked_bare ds h))
 
   -- behind a check of the divisor
-  unless_bare : (ds : List Deed) (h sign : ℕ) (g : Form) → bare (unless_zero line ds h sign g) ≡ unless_zero 0 (bare_deeds ds) h 0 g
+  unless_bare : (ds : List Deed) (h sign : ℕ) (g : Form)
+      → bare (unless_zero integers line ds h sign g) ≡ unless_zero integers 0 (bare_deeds ds) h 0 g
   unless_bare ds h sign g =
       havocked_bare (ds ++ checked line Divisor sign (related Ne g (constant_form (pos 0))) ∷ []) h
-      ∙ ap (λ (x : List Deed). havocked 0 x h) (bare_append ds (checked line Divisor sign (related Ne g (constant_form (pos 0))) ∷ []))
+      ∙ ap (λ (x : List Deed). havocked integers 0 x h)
+      (bare_append ds (checked line Divisor sign (related Ne g (constant_form (pos 0))) ∷ []))
 
   -- a quotient by a number
   quotient_bare : (ds : List Deed) (h : ℕ) (f : Form) (c : ℤ) → bare (quotient_by line ds h f c) ≡ quotient_by 0 (bare_deeds ds) h f c
@@ -88,12 +119,19 @@ module _ (line : ℕ) where
 
   -- an operation
   operated_bare : (o : Operation) (sign : ℕ) (ds : List Deed) (h : ℕ) (f g : Form)
-      → bare (operated line o sign ds h f g) ≡ operated 0 o 0 (bare_deeds ds) h f g
+      → bare (operated integers line o sign ds h f g) ≡ operated integers 0 o 0 (bare_deeds ds) h f g
   operated_bare plus sign ds h f g = refl
   operated_bare minus sign ds h f g = refl
   operated_bare times sign ds h f g = product_bare ds h f g
   operated_bare over sign ds h f g = if_bare (is_divisor g) _ _ _ _ (quotient_bare ds h f g.constant) (unless_bare ds h sign g)
   operated_bare remainder sign ds h f g = if_bare (is_divisor g) _ _ _ _ (remainder_bare ds h f g.constant) (unless_bare ds h sign g)
+
+  -- with a check of its result
+  operation_bare : (o : Operation) (sign : ℕ) (ds : List Deed) (h : ℕ) (f g : Form)
+      → bare (operation_on integers line o sign ds h f g) ≡ operation_on integers 0 o 0 (bare_deeds ds) h f g
+  operation_bare o sign ds h f g =
+      ranged_bare integers line sign (λ width r. operation_held width o f g r) (operated integers line o sign ds h f g)
+      ∙ ap (λ (x : Elaborated). ranged integers 0 0 (λ width r. operation_held width o f g r) x) (operated_bare o sign ds h f g)
 
   -- an element
   element_bare : (size bracket : ℕ) (i j : Numbered) → bare_number i ≡ j
@@ -171,60 +209,69 @@ module _ (line : ℕ) where
 
   mutual
     -- an expression
-    pub elaborated_bare : (e : Expression) (h : ℕ) → bare (elaborated line e h) ≡ elaborated 0 (expression_without e) h
-    elaborated_bare (number v at) h = refl
+    pub elaborated_bare : (e : Expression) (h : ℕ) → bare (elaborated integers line e h) ≡ elaborated integers 0 (expression_without e) h
+    elaborated_bare (number v at) h = number_bare integers line v at h
     elaborated_bare (variable i at) h = refl
     elaborated_bare (unknown at) h = refl
     elaborated_bare (call es at) h = ap (λ (x : Evaluated). behind any x.next x.prelude) (evaluated_bare es h)
     elaborated_bare (element size bracket e at) h =
-        element_bare size bracket (numbered line (elaborated line e h)) (numbered 0 (elaborated 0 (expression_without e) h))
-        (numbered_bare (elaborated line e h) (elaborated 0 (expression_without e) h) (elaborated_bare e h))
+        element_bare size bracket (numbered integers line (elaborated integers line e h))
+        (numbered integers 0 (elaborated integers 0 (expression_without e) h))
+        (numbered_bare (elaborated integers line e h) (elaborated integers 0 (expression_without e) h) (elaborated_bare e h))
     elaborated_bare (grouped at e) h = elaborated_bare e h
-    elaborated_bare (negative at e) h = ap (λ (a : Numbered). form_behind a.prelude a.next (opposite a.form))
-        (numbered_bare (elaborated line e h) (elaborated 0 (expression_without e) h) (elaborated_bare e h))
+    elaborated_bare (negative at e) h =
+        let a = numbered integers line (elaborated integers line e h) in
+        ranged_bare integers line at is_held (form_behind a.prelude a.next (opposite a.form))
+        ∙ ap (λ (a : Numbered). ranged integers 0 0 is_held (form_behind a.prelude a.next (opposite a.form)))
+        (numbered_bare (elaborated integers line e h) (elaborated integers 0 (expression_without e) h) (elaborated_bare e h))
     elaborated_bare (positive at e) h = ap (λ (a : Numbered). form_behind a.prelude a.next a.form)
-        (numbered_bare (elaborated line e h) (elaborated 0 (expression_without e) h) (elaborated_bare e h))
+        (numbered_bare (elaborated integers line e h) (elaborated integers 0 (expression_without e) h) (elaborated_bare e h))
     elaborated_bare (inverse at e) h = ap (λ (a : Tested). behind (a_truth (tree.negation a.condition)) a.next a.prelude)
-        (tested_bare (elaborated line e h) (elaborated 0 (expression_without e) h) (elaborated_bare e h))
+        (tested_bare (elaborated integers line e h) (elaborated integers 0 (expression_without e) h) (elaborated_bare e h))
     elaborated_bare (joined o sign e f) h =
-        let a = numbered line (elaborated line e h) in
-        two_numbers (operated line o sign) (operated 0 o 0) (operated_bare o sign) a (numbered 0 (elaborated 0 (expression_without e) h))
-        (numbered_bare (elaborated line e h) (elaborated 0 (expression_without e) h) (elaborated_bare e h))
-        (numbered line (elaborated line f a.next)) (λ n. numbered 0 (elaborated 0 (expression_without f) n))
-        (numbered_bare (elaborated line f a.next) (elaborated 0 (expression_without f) a.next) (elaborated_bare f a.next))
+        let a = numbered integers line (elaborated integers line e h) in
+        two_numbers (operation_on integers line o sign) (operation_on integers 0 o 0) (operation_bare o sign) a (numbered integers 0
+        (elaborated integers 0 (expression_without e) h))
+        (numbered_bare (elaborated integers line e h) (elaborated integers 0 (expression_without e) h) (elaborated_bare e h))
+        (numbered integers line (elaborated integers line f a.next))
+        (λ n. numbered integers 0 (elaborated integers 0 (expression_without f) n))
+        (numbered_bare (elaborated integers line f a.next) (elaborated integers 0 (expression_without f) a.next) (elaborated_bare f a.next))
     elaborated_bare (compared rel sign e f) h =
-        let a = numbered line (elaborated line e h) in
+        let a = numbered integers line (elaborated integers line e h) in
         let K : List Deed → ℕ → Form → Form → Elaborated = λ ds n x y. behind (a_truth (related rel x y)) n ds in
-        two_numbers K K (λ ds n x y. refl) a (numbered 0 (elaborated 0 (expression_without e) h))
-        (numbered_bare (elaborated line e h) (elaborated 0 (expression_without e) h) (elaborated_bare e h))
-        (numbered line (elaborated line f a.next)) (λ n. numbered 0 (elaborated 0 (expression_without f) n))
-        (numbered_bare (elaborated line f a.next) (elaborated 0 (expression_without f) a.next) (elaborated_bare f a.next))
+        two_numbers K K (λ ds n x y. refl) a (numbered integers 0 (elaborated integers 0 (expression_without e) h))
+        (numbered_bare (elaborated integers line e h) (elaborated integers 0 (expression_without e) h) (elaborated_bare e h))
+        (numbered integers line (elaborated integers line f a.next))
+        (λ n. numbered integers 0 (elaborated integers 0 (expression_without f) n))
+        (numbered_bare (elaborated integers line f a.next) (elaborated integers 0 (expression_without f) a.next) (elaborated_bare f a.next))
     elaborated_bare (both c d) h =
-        let a = tested (elaborated line c h) in
-        two_tests (λ x. x) (λ x y. a_truth (tree.both x y)) a (tested (elaborated 0 (expression_without c) h))
-        (tested_bare (elaborated line c h) (elaborated 0 (expression_without c) h) (elaborated_bare c h))
-        (tested (elaborated line d a.next)) (λ n. tested (elaborated 0 (expression_without d) n))
-        (tested_bare (elaborated line d a.next) (elaborated 0 (expression_without d) a.next) (elaborated_bare d a.next))
+        let a = tested (elaborated integers line c h) in
+        two_tests (λ x. x) (λ x y. a_truth (tree.both x y)) a (tested (elaborated integers 0 (expression_without c) h))
+        (tested_bare (elaborated integers line c h) (elaborated integers 0 (expression_without c) h) (elaborated_bare c h))
+        (tested (elaborated integers line d a.next)) (λ n. tested (elaborated integers 0 (expression_without d) n))
+        (tested_bare (elaborated integers line d a.next) (elaborated integers 0 (expression_without d) a.next) (elaborated_bare d a.next))
     elaborated_bare (either c d) h =
-        let a = tested (elaborated line c h) in
-        two_tests tree.negation (λ x y. a_truth (tree.either x y)) a (tested (elaborated 0 (expression_without c) h))
-        (tested_bare (elaborated line c h) (elaborated 0 (expression_without c) h) (elaborated_bare c h))
-        (tested (elaborated line d a.next)) (λ n. tested (elaborated 0 (expression_without d) n))
-        (tested_bare (elaborated line d a.next) (elaborated 0 (expression_without d) a.next) (elaborated_bare d a.next))
+        let a = tested (elaborated integers line c h) in
+        two_tests tree.negation (λ x y. a_truth (tree.either x y)) a (tested (elaborated integers 0 (expression_without c) h))
+        (tested_bare (elaborated integers line c h) (elaborated integers 0 (expression_without c) h) (elaborated_bare c h))
+        (tested (elaborated integers line d a.next)) (λ n. tested (elaborated integers 0 (expression_without d) n))
+        (tested_bare (elaborated integers line d a.next) (elaborated integers 0 (expression_without d) a.next) (elaborated_bare d a.next))
     elaborated_bare (chosen sign c e f) h =
-        let a = tested (elaborated line c h) in
-        let b = numbered line (elaborated line e a.next) in
-        choice_bare a (tested (elaborated 0 (expression_without c) h))
-        (tested_bare (elaborated line c h) (elaborated 0 (expression_without c) h) (elaborated_bare c h))
-        b (λ n. numbered 0 (elaborated 0 (expression_without e) n))
-        (numbered_bare (elaborated line e a.next) (elaborated 0 (expression_without e) a.next) (elaborated_bare e a.next))
-        (numbered line (elaborated line f b.next)) (λ n. numbered 0 (elaborated 0 (expression_without f) n))
-        (numbered_bare (elaborated line f b.next) (elaborated 0 (expression_without f) b.next) (elaborated_bare f b.next))
+        let a = tested (elaborated integers line c h) in
+        let b = numbered integers line (elaborated integers line e a.next) in
+        choice_bare a (tested (elaborated integers 0 (expression_without c) h))
+        (tested_bare (elaborated integers line c h) (elaborated integers 0 (expression_without c) h) (elaborated_bare c h))
+        b (λ n. numbered integers 0 (elaborated integers 0 (expression_without e) n))
+        (numbered_bare (elaborated integers line e a.next) (elaborated integers 0 (expression_without e) a.next) (elaborated_bare e a.next))
+        (numbered integers line (elaborated integers line f b.next))
+        (λ n. numbered integers 0 (elaborated integers 0 (expression_without f) n))
+        (numbered_bare (elaborated integers line f b.next) (elaborated integers 0 (expression_without f) b.next) (elaborated_bare f b.next))
 
     -- expressions one behind the other
-    pub evaluated_bare : (es : Expressions) (h : ℕ) → bare_evaluated (evaluated line es h) ≡ evaluated 0 (expressions_without es) h
+    pub evaluated_bare : (es : Expressions) (h : ℕ)
+        → bare_evaluated (evaluated integers line es h) ≡ evaluated integers 0 (expressions_without es) h
     evaluated_bare none h = refl
     evaluated_bare (more e es) h =
-        let a = elaborated line e h in
-        more_bare a (elaborated 0 (expression_without e) h) (elaborated_bare e h) (evaluated line es a.next)
-        (λ n. evaluated 0 (expressions_without es) n) (evaluated_bare es a.next)
+        let a = elaborated integers line e h in
+        more_bare a (elaborated integers 0 (expression_without e) h) (elaborated_bare e h) (evaluated integers line es a.next)
+        (λ n. evaluated integers 0 (expressions_without es) n) (evaluated_bare es a.next)

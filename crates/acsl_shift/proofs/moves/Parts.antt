@@ -30,6 +30,7 @@ use Rattle.acsl_shift.proofs.moves.Seen.{Seen, Same, seen_then, seen_provided, s
 use Rattle.acsl_shift.proofs.moves.Read.{first_nowhere, seen_condition, seen_read}
 use Rattle.acsl_shift.proofs.moves.Cores.{condition_same}
 use Rattle.acsl_shift.proofs.moves.Changed.{beside}
+use Rattle.base_integers.specs.declared.integers.Integers.{Integers}
 
 -- ---- statements without their places
 -- one list and then another
@@ -107,26 +108,26 @@ seen_jumped inside at st =
     seen_then (λ x. x) (λ x. x) (provided inside (fault.OutsideLoop at) st) (provided inside (fault.OutsideLoop 0) st)
     _ _ (seen_provided (λ x. x) inside inside (fault.OutsideLoop at) st refl) (λ now. seen_counted at 1 1 now refl)
 
-module _ (line : ℕ → ℕ) (n : ℕ) where
+module _ (integers : Integers) (line : ℕ → ℕ) (n : ℕ) where
   -- ---- conditions
   -- the condition of a statement
   pub seen_tested : (st : State) (at : ℕ) (e : Expr)
-      → Seen expression_without (read_condition line n st at e) (read_condition nowhere n st 0 (move_expr nowhere e))
+      → Seen expression_without (read_condition integers line n st at e) (read_condition integers nowhere n st 0 (move_expr nowhere e))
   seen_tested st at e =
-      seen_then expression_without expression_without (read (line at) st e n) (read 0 st (move_expr nowhere e) n) _ _
-      (seen_read (line at) st e n) (λ x.
-      seen_then expression_without expression_without (as_condition (line at) (first_of e) n x)
-      (as_condition 0 (first_of (move_expr nowhere e)) n (expression_without x)) _ _
-      (seen_condition (line at) (first_of e) (first_of (move_expr nowhere e)) n x (first_nowhere e)) (λ x.
-      let t : Tested = condition_of n (line at) x in
-      let u : Tested = condition_of n 0 (expression_without x) in
-      let same = condition_same n (line at) x in
+      seen_then expression_without expression_without (read integers (line at) st e n) (read integers 0 st (move_expr nowhere e) n) _ _
+      (seen_read integers (line at) st e n) (λ x.
+      seen_then expression_without expression_without (as_condition integers (line at) (first_of e) n x)
+      (as_condition integers 0 (first_of (move_expr nowhere e)) n (expression_without x)) _ _
+      (seen_condition integers (line at) (first_of e) (first_of (move_expr nowhere e)) n x (first_nowhere e)) (λ x.
+      let t : Tested = condition_of integers n (line at) x in
+      let u : Tested = condition_of integers n 0 (expression_without x) in
+      let same = condition_same integers n (line at) x in
       seen_limited expression_without n at t.next u.next t.prelude u.prelude (t.condition ∷ []) (u.condition ∷ []) x
       (ap (λ (z : Tested). z.next) same)
       (sym (bare_small t.prelude) ∙ ap (λ (z : Tested). list_all is_small_deed z.prelude) same)
       (ap (λ (z : Tested). z.condition ∷ []) same)))
 
   -- how many statements its prelude is
-  pub prelude_same : (at : ℕ) (x : Expression) → prelude_of line n at x ≡ prelude_of nowhere n 0 (expression_without x)
-  prelude_same at x = sym (bare_length (condition_of n (line at) x).prelude)
-      ∙ ap (λ (z : Tested). length z.prelude) (condition_same n (line at) x)
+  pub prelude_same : (at : ℕ) (x : Expression) → prelude_of integers line n at x ≡ prelude_of integers nowhere n 0 (expression_without x)
+  prelude_same at x = sym (bare_length (condition_of integers n (line at) x).prelude)
+      ∙ ap (λ (z : Tested). length z.prelude) (condition_same integers n (line at) x)

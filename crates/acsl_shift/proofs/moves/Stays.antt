@@ -3,7 +3,7 @@ use Rattle.std.proofs.Common.{◌≡◌, ◌∙◌, ◌∷◌, ℕ, false, List,
 use Rattle.source_grammar.specs.Grammar.{MoreParameters, last_parameter, next_parameter, Parameters, no_parameters, void_parameters}
 use Rattle.source_grammar.specs.Grammar.{int_parameters, Function, function}
 use Rattle.source_tree.specs.Statements.{Statements}
-use Rattle.source_core.specs.Core.{core_in}
+use Rattle.source_core.specs.Core.{taken_any, core_in}
 use Rattle.source_meaning.specs.declared.fault.FunctionFault.{FunctionFault}
 use Rattle.source_meaning.specs.declared.fault.FunctionFault.TheVariants.{NoVariables}
 use Rattle.source_meaning.specs.Results.{◌>>=◌}
@@ -19,44 +19,52 @@ use Rattle.acsl_shift.proofs.moves.Spelled.{moved_reads}
 use Rattle.acsl_shift.proofs.moves.Declared.{same_width}
 use Rattle.acsl_shift.proofs.moves.Seen.{seen, Seen, seen_ok, seen_then, seen_counted}
 use Rattle.acsl_shift.proofs.moves.Parts.{followed_without, lines, seen_with_variable}
-use Rattle.acsl_shift.proofs.moves.Cores.{cores_same}
+use Rattle.acsl_shift.proofs.moves.Cores.{any_length, cores_same}
 use Rattle.acsl_shift.proofs.moves.Walked.{seen_items}
+use Rattle.base_integers.specs.declared.integers.Integers.{Integers}
 
 -- variables, and statements without their lines and places
 abbrev named : List (List ℕ) × Statements → List (List ℕ) × Statements
 named r = (r.0, without_places r.1)
 
-module _ (line : ℕ → ℕ) where
+module _ (integers : Integers) (line : ℕ → ℕ) where
   -- a parameter
-  seen_parameter : (st : State) (x : List ℕ) (at : ℕ) → Seen lines (read_parameter line st x at) (read_parameter nowhere st x 0)
+  seen_parameter : (st : State) (x : List ℕ) (at : ℕ)
+      → Seen lines (read_parameter integers line st x at) (read_parameter integers nowhere st x 0)
   seen_parameter st x at =
       seen_then (λ z. z) lines (with_variable x at st) (with_variable x 0 st) _ _ (seen_with_variable x at st) (λ now.
-      seen_then (λ z. z) lines (counted at 1 now) (counted 0 1 now) _ _ (seen_counted at 1 1 now refl) (λ now. record { same = refl }))
+      seen_then (λ z. z) lines (counted at (length (taken_any integers st.variables (line at))) now)
+      (counted 0 (length (taken_any integers st.variables 0)) now) _ _
+      (seen_counted at _ _ now (any_length integers st.variables (line at))) (λ now. record { same = refl }))
 
   -- the parameters behind the first
   seen_more_parameters : (st : State) (ps : MoreParameters)
-      → Seen lines (read_more_parameters line st ps) (read_more_parameters nowhere st (move_more_parameters nowhere ps))
+      → Seen lines (read_more_parameters integers line st ps) (read_more_parameters integers nowhere st (move_more_parameters nowhere ps))
   seen_more_parameters st last_parameter = record { same = refl }
   seen_more_parameters st (next_parameter a b x at ps) =
-      seen_then lines lines (read_parameter line st x at) (read_parameter nowhere st x 0) _ _ (seen_parameter st x at) (λ r.
-      seen_then lines lines (read_more_parameters line r.0 ps) (read_more_parameters nowhere r.0 (move_more_parameters nowhere ps)) _ _
+      seen_then lines lines (read_parameter integers line st x at) (read_parameter integers nowhere st x 0) _ _ (seen_parameter st x at)
+      (λ r.
+      seen_then lines lines (read_more_parameters integers line r.0 ps)
+      (read_more_parameters integers nowhere r.0 (move_more_parameters nowhere ps)) _ _
       (seen_more_parameters r.0 ps)
       (λ q. seen_ok lines _ _ (ap (λ (z : Statements). let w : State × Statements = (q.0, z) in w) (followed_without r.1 q.1))))
 
   -- the parameters
   seen_parameters : (st : State) (ps : Parameters)
-      → Seen lines (read_parameters line st ps) (read_parameters nowhere st (move_parameters nowhere ps))
+      → Seen lines (read_parameters integers line st ps) (read_parameters integers nowhere st (move_parameters nowhere ps))
   seen_parameters st no_parameters = record { same = refl }
   seen_parameters st (void_parameters a) = record { same = refl }
   seen_parameters st (int_parameters a x at ps) =
-      seen_then lines lines (read_parameter line st x at) (read_parameter nowhere st x 0) _ _ (seen_parameter st x at) (λ r.
-      seen_then lines lines (read_more_parameters line r.0 ps) (read_more_parameters nowhere r.0 (move_more_parameters nowhere ps)) _ _
+      seen_then lines lines (read_parameter integers line st x at) (read_parameter integers nowhere st x 0) _ _ (seen_parameter st x at)
+      (λ r.
+      seen_then lines lines (read_more_parameters integers line r.0 ps)
+      (read_more_parameters integers nowhere r.0 (move_more_parameters nowhere ps)) _ _
       (seen_more_parameters r.0 ps)
       (λ q. seen_ok lines _ _ (ap (λ (z : Statements). let w : State × Statements = (q.0, z) in w) (followed_without r.1 q.1))))
 
   -- there has to be a variable
   seen_function_of : (st : State) (body now : Statements) → without_places body ≡ now
-      → Seen named (function_of line st body) (function_of nowhere st now)
+      → Seen named (function_of integers line st body) (function_of integers nowhere st now)
   seen_function_of st body now h = by_names (reverse (variables_of st.names)) where
     by_names : (names : List (List ℕ)) → Seen named
         (elim names as (λ z. Result (List (List ℕ) × Statements) FunctionFault) [ [] ↦ Err NoVariables | x ∷ xs ↦ Ok (x ∷ xs, body) ])
@@ -65,17 +73,20 @@ module _ (line : ℕ → ℕ) where
     by_names (x ∷ xs) = seen_ok named _ _ (ap (λ (z : Statements). let w : List (List ℕ) × Statements = (x ∷ xs, z) in w) h)
 
   -- A function at one place means what it means, without lines and places.
-  seen_walk : (f : Function) → Seen named (walk line f) (walk nowhere (move_function nowhere f))
+  seen_walk : (f : Function) → Seen named (walk integers line f) (walk integers nowhere (move_function nowhere f))
   seen_walk (function ss f a ps b c is d) =
       let n = width_of (function ss f a ps b c is d) in
-      let at : ℕ → Result (List (List ℕ) × Statements) FunctionFault = λ m. read_parameters nowhere start_state (move_parameters nowhere ps)
-      >>= λ p. read_items nowhere m false p.0 (move_items nowhere is) >>= λ r. function_of nowhere r.0 (followed_by p.1 r.1) in
-      let P : ℕ → Type 0 = λ m. Seen named (walk line (function ss f a ps b c is d)) (at m) in
+      let at : ℕ → Result (List (List ℕ) × Statements) FunctionFault = λ m. read_parameters integers nowhere start_state
+      (move_parameters nowhere ps)
+      >>= λ p. read_items integers nowhere m false p.0 (move_items nowhere is)
+      >>= λ r. function_of integers nowhere r.0 (followed_by p.1 r.1) in
+      let P : ℕ → Type 0 = λ m. Seen named (walk integers line (function ss f a ps b c is d)) (at m) in
       subst P (sym (same_width nowhere (function ss f a ps b c is d)))
-      (seen_then lines named (read_parameters line start_state ps) (read_parameters nowhere start_state (move_parameters nowhere ps)) _ _
+      (seen_then lines named (read_parameters integers line start_state ps)
+      (read_parameters integers nowhere start_state (move_parameters nowhere ps)) _ _
       (seen_parameters start_state ps) (λ p.
-      seen_then lines named (read_items line n false p.0 is) (read_items nowhere n false p.0 (move_items nowhere is)) _ _
-      (seen_items line n false p.0 is) (λ r. seen_function_of r.0 (followed_by p.1 r.1) _ (followed_without p.1 r.1))))
+      seen_then lines named (read_items integers line n false p.0 is) (read_items integers nowhere n false p.0 (move_items nowhere is)) _ _
+      (seen_items integers line n false p.0 is) (λ r. seen_function_of r.0 (followed_by p.1 r.1) _ (followed_without p.1 r.1))))
 
 -- what was seen of an answer that is a value
 answer_seen : (r : Result (List (List ℕ) × Statements) FunctionFault) (names : List (List ℕ)) (body : Statements)
@@ -90,20 +101,22 @@ answer_seen (Ok x) names body h =
 answer_seen (Err e) names body h = cc
 
 -- A function at other places means the same.
-stays : (to line other : ℕ → ℕ) (f : Function) (names : List (List ℕ)) (body : Statements) → walk line f ≡ Ok (names, body)
-    → Stays other (move_function to f) names body
-stays to line other f names body h =
-    let same = (seen_walk other (move_function to f)).same ∙ ap (λ (g : Function). walk nowhere g) (twice_function to f)
-    ∙ sym (seen_walk line f).same ∙ ap (λ (r : Result (List (List ℕ) × Statements) FunctionFault). seen named r) h in
-    let (now, means, e) = answer_seen (walk other (move_function to f)) names (without_places body) same in
+stays : (integers : Integers) (to line other : ℕ → ℕ) (f : Function) (names : List (List ℕ)) (body : Statements)
+    → walk integers line f ≡ Ok (names, body)
+    → Stays integers other (move_function to f) names body
+stays integers to line other f names body h =
+    let same = (seen_walk integers other (move_function to f)).same ∙ ap (λ (g : Function). walk integers nowhere g) (twice_function to f)
+    ∙ sym (seen_walk integers line f).same ∙ ap (λ (r : Result (List (List ℕ) × Statements) FunctionFault). seen named r) h in
+    let (now, means, e) = answer_seen (walk integers other (move_function to f)) names (without_places body) same in
     record {
       now = now;
       means = means;
       same = e;
-      core = cores_same (length names) now ∙ ap (λ (ss : Statements). core_in (length names) ss) e ∙ sym (cores_same (length names) body);
+      core = cores_same integers (length names) now ∙ ap (λ (ss : Statements). core_in integers (length names) ss) e
+          ∙ sym (cores_same integers (length names) body);
     }
 
 -- Tokens that read as a function read as the same one at other places.
 pub tokens_may_move : TokensMayMove
-tokens_may_move to tokens f r =
-    (move_function to f, moved_reads to tokens f r, λ line other names body h. stays to line other f names body h)
+tokens_may_move integers to tokens f r =
+    (move_function to f, moved_reads to tokens f r, λ line other names body h. stays integers to line other f names body h)

@@ -28,6 +28,7 @@ met word = refl
 record FindsAlone (word : Text) (rows : List Row) : Type 0 where
   program : first_of (codes "program") rows ≡ Some word
   function : first_of (codes "function") rows ≡ None
+  integers : first_of (codes "int") rows ≡ None
   domain : first_of (codes "domain") rows ≡ None
   file : first_of (codes "rows") rows ≡ None
   improvements : first_of (codes "improvements") rows ≡ None
@@ -44,6 +45,7 @@ found x rest e = rw (e, no_short x rest e) (
   record {
     program = refl;
     function = refl;
+    integers = refl;
     domain = refl;
     file = refl;
     improvements = refl;
@@ -55,7 +57,7 @@ found x rest e = rw (e, no_short x rest e) (
 -- a program alone is analysed over intervals, and its report is a text
 analysed : (word : Text) (rows : List Row) → FindsAlone word rows
     → solve_in rows ≡ Some (Analyse Report (plain_analysis word Intervals) format.Text)
-analysed word rows f = rw (f.program, f.function, f.domain, f.file, f.improvements, f.policy, f.written) refl
+analysed word rows f = rw (f.program, f.function, f.integers, f.domain, f.file, f.improvements, f.policy, f.written) refl
 
 named : (x : ℕ) (rest : Text) → eqb x 45 ≡ false
     → option_and_then command_in (subcommand_of tmpl_app (codes "solve" ∷ (x ∷ rest) ∷ []))

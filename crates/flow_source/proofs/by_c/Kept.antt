@@ -18,34 +18,37 @@ use Rattle.flow_systems.specs.States.{rational}
 use Rattle.flow_source.specs.ByC.{IsKeptByC}
 use Rattle.flow_source.specs.Laws.{BoundsHoldByC, ChecksHoldByC}
 use Rattle.flow_source.proofs.by_c.Among.{check_among}
+use Rattle.base_integers.specs.declared.integers.Integers.{Integers}
 
 -- the statements of a function are over its variables
-over : (line : ℕ → ℕ) (f : Function) (names : List (List ℕ)) (body : Statements) → walk line f ≡ Ok (names, body)
+over : (integers : Integers) (line : ℕ → ℕ) (f : Function) (names : List (List ℕ)) (body : Statements)
+    → walk integers line f ≡ Ok (names, body)
     → IsTrue (are_statements_over (length names) body)
-over line f names body e = (value_of (Reads f) (walk line f) (names, body) (walk_reads line f) e).good.0
+over integers line f names body e = (value_of (Reads integers f) (walk integers line f) (names, body) (walk_reads integers line f) e).good.0
 
 -- what each state at a point keeps in every run of the core it keeps by C
-pub kept_by_c : (line : ℕ → ℕ) (f : Function) (names : List (List ℕ)) (body : Statements) → walk line f ≡ Ok (names, body)
+pub kept_by_c : (integers : Integers) (line : ℕ → ℕ) (f : Function) (names : List (List ℕ)) (body : Statements)
+    → walk integers line f ≡ Ok (names, body)
     → (point : ℕ) (Keeps : State → Type 0)
-    → ((run : List core.Configuration) (now : core.Configuration) → core.IsRun (length names) (core_in (length names) body) run
+    → ((run : List core.Configuration) (now : core.Configuration) → core.IsRun (length names) (core_in integers (length names) body) run
     → Contains run now → core.IsAt now point → Keeps now.state)
-    → IsKeptByC (length names) body point Keeps
-kept_by_c line f names body e point Keeps all run now is among at =
-    let kept = runs-kept (length names) body (over line f names body e) run is in
+    → IsKeptByC integers (length names) body point Keeps
+kept_by_c integers line f names body e point Keeps all run now is among at =
+    let kept = runs-kept integers (length names) body (over integers line f names body e) run is in
     let d = kept.2 now among point at in
     subst Keeps d.3 (all kept.0 d.0 kept.1 d.1 d.2)
 
 -- a vector that holds in every run of the core holds by C
 pub bounds_by_c : BoundsHoldByC
-bounds_by_c line f names body e system v n holds run now point is among at =
-    kept_by_c line f names body e point (λ x. Fits system v point (rational x))
-    (λ r c are m p. holds r c point (subst (λ k. core.IsRun k (core_in (length names) body) r) (sym n) are) m p) run now
-    (subst (λ k. IsRunBy k body run) n is) among at
+bounds_by_c integers line f names body e system v n holds run now point is among at =
+    kept_by_c integers line f names body e point (λ x. Fits system v point (rational x))
+    (λ r c are m p. holds r c point (subst (λ k. core.IsRun k (core_in integers (length names) body) r) (sym n) are) m p) run now
+    (subst (λ k. IsRunBy integers k body run) n is) among at
 
 -- a check is true by C where all that are about its place are true in every run of the core
 pub checks_by_c : ChecksHoldByC
-checks_by_c line f names body e about each =
-    checks-kept (length names) body (over line f names body e) about
+checks_by_c integers line f names body e about each =
+    checks-kept integers (length names) body (over integers line f names body e) about
     (λ run is cond now among at.
     each record { about = about; cond = cond }
-    (check_among (length names) (core_in (length names) body) run now about cond is among at) refl run is now among at)
+    (check_among (length names) (core_in integers (length names) body) run now about cond is among at) refl run is now among at)

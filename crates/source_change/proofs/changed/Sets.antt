@@ -1,5 +1,5 @@
 -- The limits of an assignment to a variable.
-use Rattle.std.proofs.Common.{◌≡◌, ◌∙◌, ◌++◌, ℕ, List, [], ◌∷◌, Result, Ok, Err, refl, sym, ap, ap₂, subst}
+use Rattle.std.proofs.Common.{◌≡◌, ◌∙◌, ◌++◌, ℕ, List, [], Result, Ok, refl, ap₂, subst}
 use Rattle.std.specs.declared.alloc.Global.{Global}
 use Rattle.std.specs.declared.vec.Vec.{Vec}
 use Rattle.lang_tree.specs.Tree as tree
@@ -9,38 +9,39 @@ use Rattle.lang_tree.specs.declared.deed.Deed as code_deed
 use Rattle.source_tree.specs.Expressions.{Expression}
 use Rattle.source_tree.specs.Statements.{Change, sets}
 use Rattle.source_core.specs.Elaborated.{any, Elaborated, Numbered, elaborated, numbered}
-use Rattle.source_core.specs.Core.{change_deeds, taken}
+use Rattle.source_core.specs.Core.{taken_any}
 use Rattle.source_meaning.specs.Results.{◌>>=◌}
 use Rattle.source_meaning.specs.Limits.{limited}
-use Rattle.source_meaning.specs.Changes.{behind_taken, few}
-use Rattle.source_value.specs.Kept.{kept_deeds}
+use Rattle.source_meaning.specs.Changes.{few}
 use Rattle.source_reader.specs.Answers.{Answers}
 use Rattle.source_reader.specs.declared.stop.Stop.{Stop}
 use Rattle.source_change.proofs.limited.Limits.{limited_more}
 use Rattle.source_change.proofs.limited.Told.{as_limited}
 use Rattle.source_change.proofs.changed.Taken.{takes_any, behind_any, takes_number, behind_number}
+use Rattle.base_integers.specs.declared.integers.Integers.{Integers}
 
-module _ (n line at var : ℕ) (e : Expression) where
+module _ (integers : Integers) (n line at var : ℕ) (e : Expression) where
   -- any value
-  pub few_any : (elaborated line e n).result ≡ any
-      → few n line at (sets var e line) (sets var e line)
-      ≡ (limited n at (elaborated line e n).next (elaborated line e n).prelude [] (tt {0}) >>= λ _. Ok (sets var e line))
+  pub few_any : (elaborated integers line e n).result ≡ any
+      → few integers n line at (sets var e line) (sets var e line)
+      ≡ limited n at (elaborated integers line e n).next ((elaborated integers line e n).prelude ++ taken_any integers var line) []
+      (sets var e line)
   few_any h =
-      let x : Elaborated = elaborated line e n in
+      let x : Elaborated = elaborated integers line e n in
       let g : Change = sets var e line in
-      ap₂ (λ k ds. limited n at k ds [] g) (behind_any var line x x.result h) (takes_any var line x x.result h)
-      ∙ limited_more n at x.next x.prelude (tree.havocs var line) g (tt {0}) refl
+      ap₂ (λ k ds. limited n at k ds [] g) (behind_any integers var line x x.result h) (takes_any integers var line x x.result h)
 
   -- a number
-  pub few_number : ((elaborated line e n).result ≡ any → ⊥)
-      → few n line at (sets var e line) (sets var e line)
-      ≡ (limited n at (numbered line (elaborated line e n)).next (numbered line (elaborated line e n)).prelude [] (tt {0})
+  pub few_number : ((elaborated integers line e n).result ≡ any → ⊥)
+      → few integers n line at (sets var e line) (sets var e line)
+      ≡ (limited n at (numbered integers line (elaborated integers line e n)).next (numbered integers line
+      (elaborated integers line e n)).prelude [] (tt {0})
       >>= λ _. Ok (sets var e line))
   few_number h =
-      let x : Elaborated = elaborated line e n in
-      let a : Numbered = numbered line x in
+      let x : Elaborated = elaborated integers line e n in
+      let a : Numbered = numbered integers line x in
       let g : Change = sets var e line in
-      ap₂ (λ k ds. limited n at k ds [] g) (behind_number var line x x.result h) (takes_number var line x x.result h)
+      ap₂ (λ k ds. limited n at k ds [] g) (behind_number integers var line x x.result h) (takes_number integers var line x x.result h)
       ∙ limited_more n at a.next a.prelude (tree.sets var a.form line) g (tt {0}) refl
 
 -- what is answered of deeds that are kept

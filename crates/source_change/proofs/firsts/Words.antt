@@ -1,8 +1,8 @@
 -- A name that comes next.
-use Rattle.std.proofs.Common.{◌≡◌, ◌<◌, List, [], ◌∷◌, length, arith, true, subst, ℕ}
+use Rattle.std.proofs.Common.{◌≡◌, ◌<◌, List, [], ◌∷◌, length, arith, subst, ℕ}
 use Rattle.std.specs.Prelude.{IsTrue}
 use Rattle.lang_tree.specs.Word.{is_word}
-use Rattle.source_grammar.specs.Tokens.{Token, token}
+use Rattle.source_grammar.specs.Tokens.{Token}
 use Rattle.source_reader.specs.Reading.{behind_first, first_kind, name_in}
 
 -- there is a token where a word comes next

@@ -3,7 +3,7 @@ use Rattle.std.proofs.Common.{◌≡◌, refl, Bool, true, false}
 use Rattle.source_grammar.specs.Tokens as g
 use Rattle.source_grammar.specs.Tokens.{Kind}
 use Rattle.source_grammar.specs.View.{plain_kind}
-use Rattle.source_change.specs.Nexts.{Following, a_name, a_step, a_change, a_bracket, a_comma, another, next_in, is_comma, step_in}
+use Rattle.source_change.specs.Nexts.{Following, a_comma, next_in, is_comma, step_in}
 use Rattle.source_change.specs.Nexts.{begins_change}
 
 -- what comes next

@@ -1,5 +1,5 @@
 -- What the code answers of the limits of a statement.
-use Rattle.std.proofs.Common.{◌≡◌, ◌∙◌, ℕ, Bool, true, false, List, [], ◌∷◌, Option, Some, None, Result, Ok, Err, refl, sym, ap, ap₂, subst}
+use Rattle.std.proofs.Common.{◌≡◌, ◌∙◌, ℕ, Bool, true, false, List, [], ◌∷◌, Some, None, Result, Ok, Err, refl, sym, ap, ap₂, subst}
 use Rattle.std.specs.Prelude.{◌&&◌}
 use Rattle.std.specs.List.{list_all}
 use Rattle.std.specs.declared.alloc.Global.{Global}
@@ -7,9 +7,8 @@ use Rattle.std.specs.declared.vec.Vec.{Vec}
 use Rattle.lang_tree.specs.Tree.{Condition, Deed}
 use Rattle.lang_tree.specs.DeedView.{deeds_of, condition_of}
 use Rattle.lang_tree.specs.declared.deed.Deed as code_deed
-use Rattle.lang_tree.specs.declared.cond.Cond.{Cond}
 use Rattle.source_core.specs.Elaborated as core
-use Rattle.source_value.specs.Kept.{is_within, is_small as small, have_small, kept, kept_deeds, kept_condition}
+use Rattle.source_value.specs.Kept.{is_within, is_small as small, have_small, kept_deeds, kept_condition}
 use Rattle.source_meaning.specs.declared.fault.FunctionFault.{FunctionFault}
 use Rattle.source_meaning.specs.declared.fault.FunctionFault.TheVariants as fault
 use Rattle.source_meaning.specs.declared.fault.Limit.TheVariants as limit

@@ -1,5 +1,5 @@
 -- Lists of deeds and of statements of the code.
-use Rattle.std.proofs.Common.{◌≡◌, ◌∙◌, ◌++◌, ℕ, suc, List, [], ◌∷◌, length, refl, sym, ap}
+use Rattle.std.proofs.Common.{◌≡◌, ◌++◌, suc, List, [], ◌∷◌, length, refl, ap}
 use Rattle.lang_tree.specs.Tree.{Deed, Statements, nil, cons, statement_by}
 use Rattle.lang_tree.specs.View.{deed_of, deeds_of, statement_of, statements_of}
 use Rattle.lang_tree.specs.declared.deed.Deed as code_deed

@@ -19,6 +19,7 @@ use Rattle.source_core.proofs.runs.Runs.{Among, among-first, contains-among, amo
 use Rattle.source_core.proofs.backward.ExactWork.{exact-nodes}
 use Rattle.source_core.proofs.backward.Middle.{Settled, Live, final_of, settle}
 use Rattle.source_core.proofs.backward.Reverse.{advances, cons_head}
+use Rattle.base_integers.specs.declared.integers.Integers.TheVariants.{Mathematical}
 
 -- ---- marks
 abbrev AtMark : core.Item → Type 0
@@ -64,11 +65,11 @@ met n s c (inl f) p at = nothing_there (core.mark p) at.0 (sym at.1 ∙ f.1)
 met n s c (inr m) p at = by m.todo m.all m.work m.live
   where
     by : (todo : List Deed) → parts n m.item ≡ m.done ++ todo
-        → c.work ≡ deed_items (number_of m.item) todo (control n m.item ++ image n m.rest)
+        → c.work ≡ deed_items (number_of m.item) todo (control n m.item ++ image Mathematical n m.rest)
         → Live todo (control n m.item) → IsAt s p × (s.state ≡ c.state)
     by (d ∷ ds) all work live = no_mark _ p _ at.0 (λ h. h) (sym work ∙ at.1)
     by [] all work live =
-        let i = at_mark n m.item p (image n m.rest) at.0 live (sym work ∙ at.1) in
+        let i = at_mark n m.item p (image Mathematical n m.rest) at.0 live (sym work ∙ at.1) in
         let none = none_of m.done [] (sym i.1 ∙ all) in
         let left = subst (λ v. AllLeave v m.start c.state) none m.left in
         let agree = subst (λ v. Agree n s.state v) (sym left) m.agree in
@@ -77,8 +78,9 @@ met n s c (inr m) p at = by m.todo m.all m.work m.live
         ((m.rest, m.first ∙ ap (λ k. k ∷ m.rest) i.0), same_state n s.state c.state m.size (omega (arith, short, long)) agree)
 
 -- ---- runs
-follows-on : (n exit : ℕ) (c : Configuration) (cs ds : List Configuration) → Follows n exit c cs → Follows n exit (final_of c cs) ds
-    → Follows n exit c (cs ++ ds)
+follows-on : (n exit : ℕ) (c : Configuration) (cs ds : List Configuration) → Follows Mathematical n exit c cs
+    → Follows Mathematical n exit (final_of c cs) ds
+    → Follows Mathematical n exit c (cs ++ ds)
 follows-on n exit c [] ds f g = g
 follows-on n exit c (d ∷ cs) ds f g = (f.0, follows-on n exit d cs ds f.1 g)
 
@@ -94,7 +96,7 @@ record Traced (n exit : ℕ) (s : Configuration) (c : core.Configuration) (ds : 
   -- the configurations of the source behind its first
   pub path : List Configuration
   -- each is a step from the one before it
-  pub follows : Follows n exit s path
+  pub follows : Follows Mathematical n exit s path
   -- where the core is at a point, one of them is at it, in the same state
   pub each : (d : core.Configuration) → Among c ds d → (p : ℕ) → core.IsAt d p
       → (t : Configuration) × Among s path t × IsAt t p × (t.state ≡ d.state)
@@ -113,7 +115,8 @@ traced n exit s c (e ∷ es) (inr m) f =
     let k = traced n exit r.0 e es r.2 f.1 in
     record {
       path = r.1.path ++ k.path;
-      follows = follows-on n exit s r.1.path k.path r.1.follows (subst (λ v. Follows n exit v k.path) (sym r.1.ends) k.follows);
+      follows = follows-on n exit s r.1.path k.path r.1.follows (subst (λ v. Follows Mathematical n exit v k.path)
+          (sym r.1.ends) k.follows);
       each = λ d h p at. ⊎_elim
           (λ q. let u = met n s c (inr m) p (subst (λ v. core.IsAt v p) q at) in
           (s, among-first s (r.1.path ++ k.path), u.0, u.1 ∙ ap (λ v. v.state) (sym q)))
@@ -125,18 +128,25 @@ traced n exit s c (e ∷ es) (inr m) f =
 pub runs-exact : RunsAreExact
 runs-exact n body o q [] r = absurd r
 runs-exact n body o q (c ∷ cs) r =
-    let exit = exit_of n body in
-    let s : Configuration = record { work = start_work n body; state = c.state } in
+    let exit = exit_of Mathematical n body in
+    let s : Configuration = record { work = start_work Mathematical n body; state = c.state } in
     let ends = mark exit ∷ [] in
-    let e : c.work ≡ image n (start_work n body) = r.0 ∙ ap (λ w. core.mark 0 ∷ w) (sym (image-nodes_then n body 1 ends)) in
+    let e : c.work ≡ image Mathematical n (start_work Mathematical n body) = r.0
+    ∙ ap (λ w. core.mark 0 ∷ w) (sym (image-nodes_then Mathematical n body 1 ends)) in
     let kept = ap (λ w. left_at n w c.state) r.0 ∙ take-all n c.state r.1 in
     let long : n ≤ length c.state = omega (arith, r.1) in
-    let b = settle n exit (start_work n body) c.state c.work c.state e (agree_refl n c.state) r.1 long
-    (tt, over-nodes n body 1 ends o (tt, tt)) (tt, exact-nodes n body 1 ends q (tt, tt)) kept in
+    let b = settle n exit (start_work Mathematical n body) c.state c.work c.state e (agree_refl n c.state) r.1 long
+    (tt, over-nodes Mathematical n body 1 ends o (tt, tt)) (tt, exact-nodes n body 1 ends q (tt, tt)) kept in
     let t = traced n exit b.0 c cs b.2 r.2 in
     let path = b.1.path ++ t.path in (
       s ∷ path,
-      (refl, r.1, follows-on n exit s b.1.path t.path b.1.follows (subst (λ v. Follows n exit v t.path) (sym b.1.ends) t.follows)),
+      (
+        refl,
+        r.1,
+        (λ i l. tt),
+        follows-on n exit s b.1.path t.path b.1.follows (subst (λ v. Follows Mathematical n exit v t.path)
+            (sym b.1.ends) t.follows),
+      ),
       λ d h p at.
           let u = t.each d (contains-among c cs d h) p at in
           (u.0, among-contains s path u.0 (among-on s b.1.path t.path u.0 (subst (λ v. Among v t.path u.0) (sym b.1.ends) u.1)), u.2, u.3),

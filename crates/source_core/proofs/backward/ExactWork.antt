@@ -11,6 +11,7 @@ use Rattle.source_core.specs.SourceRuns.{Item, node, change, mark, turn, end, no
 use Rattle.source_core.specs.SourceRuns.{head_work, turn_work, end_work, branch_work, body_work, changes_work}
 use Rattle.source_core.proofs.forms.Tests.{both_of}
 use Rattle.source_core.proofs.backward.Completed.{item_exact}
+use Rattle.base_integers.specs.declared.integers.Integers.TheVariants.{Mathematical}
 
 -- the operations of all items are exact
 abbrev pub work_exact : ℕ → List Item → Type 0
@@ -19,7 +20,7 @@ work_exact n (i ∷ is) = item_exact n i × work_exact n is
 
 -- the nodes of exact statements are exact, and with exact work behind them
 pub exact-nodes : (n : ℕ) (ss : Statements) (m : ℕ) (is : List Item) → IsTrue (are_statements_exact n ss) → work_exact n is
-    → work_exact n (nodes n ss m ++ is)
+    → work_exact n (nodes Mathematical n ss m ++ is)
 exact-nodes n nil m is o w = w
 exact-nodes n (cons s ss) m is o w =
     let p = both_of (is_statement_exact n s) (are_statements_exact n ss) o in (p.0, exact-nodes n ss _ is p.1 w)
@@ -50,26 +51,29 @@ exact-changes n (g ∷ gs) is o w =
 
 -- the work behind an `if` is exact where its branches are
 pub exact-branch : (n : ℕ) (t : Bool) (first second : Statements) (m : ℕ) (is : List Item) → IsTrue (are_statements_exact n first)
-    → IsTrue (are_statements_exact n second) → work_exact n is → work_exact n (branch_work n t first second m is)
+    → IsTrue (are_statements_exact n second) → work_exact n is → work_exact n (branch_work Mathematical n t first second m is)
 exact-branch n true first second m is p q w = exact-nodes n first m _ p (tt, w)
-exact-branch n false first second m is p q w = exact-nodes n second (m + points_in n first) _ q (tt, w)
+exact-branch n false first second m is p q w = exact-nodes n second (m + points_in Mathematical n first) _ q (tt, w)
 
 exact-body : (n : ℕ) (kind : LoopKind) (e : _) (body : Statements) (line m : ℕ) (is : List Item)
-    → IsTrue (is_statement_exact n (loop kind e body line)) → work_exact n is → work_exact n (body_work n kind e body line m is)
+    → IsTrue (is_statement_exact n (loop kind e body line)) → work_exact n is
+    → work_exact n (body_work Mathematical n kind e body line m is)
 exact-body n kind e body line m is o w =
     let p = both_of (is_kind_exact n kind) (is_exact line e n && are_statements_exact n body) o in
     let q = both_of (is_exact line e n) (are_statements_exact n body) p.1 in exact-nodes n body (m + 1) _ q.1 (o, w)
 
 -- the work behind the head of a loop is exact where the loop is
 pub exact-head : (n : ℕ) (kind : LoopKind) (e : _) (body : Statements) (line m : ℕ) (is : List Item)
-    → IsTrue (is_statement_exact n (loop kind e body line)) → work_exact n is → work_exact n (head_work n kind e body line m is)
+    → IsTrue (is_statement_exact n (loop kind e body line)) → work_exact n is
+    → work_exact n (head_work Mathematical n kind e body line m is)
 exact-head n while_loop e body line m is o w = (o, w)
 exact-head n (for_loop gs) e body line m is o w = (o, w)
 exact-head n do_loop e body line m is o w = exact-body n do_loop e body line m is o w
 
 -- the work behind the turn of a loop is exact where the loop is
 pub exact-turn : (n : ℕ) (t : Bool) (kind : LoopKind) (e : _) (body : Statements) (line m : ℕ) (is : List Item)
-    → IsTrue (is_statement_exact n (loop kind e body line)) → work_exact n is → work_exact n (turn_work n t kind e body line m is)
+    → IsTrue (is_statement_exact n (loop kind e body line)) → work_exact n is
+    → work_exact n (turn_work Mathematical n t kind e body line m is)
 exact-turn n true while_loop e body line m is o w = exact-body n while_loop e body line m is o w
 exact-turn n true (for_loop gs) e body line m is o w = exact-body n (for_loop gs) e body line m is o w
 exact-turn n true do_loop e body line m is o w = (o, w)
@@ -77,7 +81,7 @@ exact-turn n false kind e body line m is o w = w
 
 -- the work behind the end of a loop's body is exact where the loop is
 pub exact-end : (n : ℕ) (kind : LoopKind) (e : _) (body : Statements) (line m : ℕ) (is : List Item)
-    → IsTrue (is_statement_exact n (loop kind e body line)) → work_exact n is → work_exact n (end_work n kind e body line m is)
+    → IsTrue (is_statement_exact n (loop kind e body line)) → work_exact n is → work_exact n (end_work Mathematical n kind e body line m is)
 exact-end n while_loop e body line m is o w = (o, w)
 exact-end n (for_loop gs) e body line m is o w =
     let p = both_of (is_kind_exact n (for_loop gs)) (is_exact line e n && are_statements_exact n body) o in exact-changes n gs _ p.0 (o, w)

@@ -13,6 +13,7 @@ use Rattle.source_core.proofs.runs.Steps.{item_over, work_over}
 use Rattle.source_core.proofs.backward.Completed.{item_exact, completes}
 use Rattle.source_core.proofs.backward.Items.{parts, control, number_of, item_core-is}
 use Rattle.source_core.proofs.backward.ExactWork.{work_exact}
+use Rattle.base_integers.specs.declared.integers.Integers.TheVariants.{Mathematical}
 
 -- ---- steps of the source one after another
 -- the last configuration of a path of the source, which is where it begins if it is empty
@@ -25,7 +26,7 @@ pub record Comes (n exit : ℕ) (c d : Configuration) : Type 0 where
   -- the configurations behind the first
   pub path : List Configuration
   -- each is a step from the one before it
-  pub follows : Follows n exit c path
+  pub follows : Follows Mathematical n exit c path
   -- the last of them is the other one
   pub ends : final_of c path ≡ d
 
@@ -34,7 +35,7 @@ pub comes-same : (n exit : ℕ) (c : Configuration) → Comes n exit c c
 comes-same n exit c = record { path = []; follows = tt; ends = refl }
 
 -- where the source comes to behind a step it comes to from before it
-pub comes-step : (n exit : ℕ) (c d e : Configuration) → Step n exit c d → Comes n exit d e → Comes n exit c e
+pub comes-step : (n exit : ℕ) (c d e : Configuration) → Step Mathematical n exit c d → Comes n exit d e → Comes n exit c e
 comes-step n exit c d e s r = record { path = d ∷ r.path; follows = (s, r.follows); ends = r.ends }
 
 -- ---- in the middle of an item
@@ -73,7 +74,7 @@ pub record Mid (n : ℕ) (s : Configuration) (c : core.Configuration) : Type 0 w
   -- what is done leads to the core's state
   pub left : AllLeave done start c.state
   -- the core's work is what is not done, what the item tests, and the work behind it
-  pub work : c.work ≡ deed_items (number_of item) todo (control n item ++ image n rest)
+  pub work : c.work ≡ deed_items (number_of item) todo (control n item ++ image Mathematical n rest)
   -- something of the item is left to do
   pub live : Live todo (control n item)
   -- no hidden value is there where a mark stands first
@@ -84,7 +85,8 @@ abbrev pub Settled : ℕ → Configuration → core.Configuration → Type 0
 Settled n s c = ((s.work ≡ []) × (c.work ≡ [])) ⊎ Mid n s c
 
 -- where the core has the work for the source's, the source goes past what does nothing there, and both are settled
-pub settle : (n exit : ℕ) (is : List Item) (y : State) (w : List core.Item) (z : State) → w ≡ image n is → Agree n y z → length y ≡ n
+pub settle : (n exit : ℕ) (is : List Item) (y : State) (w : List core.Item) (z : State) → w ≡ image Mathematical n is → Agree n y z
+    → length y ≡ n
     → n ≤ length z
     → work_over n is → work_exact n is → left_at n w z ≡ z
     → (t : Configuration) × Comes n exit record { work = is; state = y } t × Settled n t record { work = w; state = z }
@@ -108,7 +110,7 @@ settle n exit (i ∷ is) y w z e a l g o q k =
       todo = parts n i;
       all = refl;
       left = refl;
-      work = e ∙ item_core-is n i (image n is);
+      work = e ∙ item_core-is n i (image Mathematical n is);
       live = v;
       kept = k;
     }
@@ -117,7 +119,7 @@ settle n exit (i ∷ is) y w z e a l g o q k =
         → (t : Configuration) × Comes n exit record { work = i ∷ is; state = y } t × Settled n t record { work = w; state = z }
     stay v = (record { work = i ∷ is; state = y }, comes-same n exit record { work = i ∷ is; state = y }, here v)
 
-    by : ((v : State) → w ≡ image n is → Agree n v z → length v ≡ n
+    by : ((v : State) → w ≡ image Mathematical n is → Agree n v z → length v ≡ n
         → (t : Configuration) × Comes n exit record { work = is; state = v } t × Settled n t record { work = w; state = z })
         → (ds : List Deed) (ks : List core.Item) → parts n i ≡ ds → control n i ≡ ks
         → (t : Configuration) × Comes n exit record { work = i ∷ is; state = y } t × Settled n t record { work = w; state = z }
@@ -125,8 +127,8 @@ settle n exit (i ∷ is) y w z e a l g o q k =
     by later [] (x ∷ ks) p c = stay (subst (λ v. Live (parts n i) v) (sym c) (subst (λ v. Live v (x ∷ ks)) (sym p) tt))
     by later [] [] p c =
         let r = completes n i y z z c o.0 q.0 a l (subst (λ v. AllLeave v z z) (sym p) refl) in
-        let next : w ≡ image n is = e ∙ item_core-is n i (image n is)
-        ∙ ap₂ (λ (v : List Deed) (u : List core.Item). deed_items (number_of i) v (u ++ image n is)) p c in
+        let next : w ≡ image Mathematical n is = e ∙ item_core-is n i (image Mathematical n is)
+        ∙ ap₂ (λ (v : List Deed) (u : List core.Item). deed_items (number_of i) v (u ++ image Mathematical n is)) p c in
         let more = later r.0 next r.2 r.3 in (
           more.0,
           comes-step n exit record { work = i ∷ is; state = y } record { work = is; state = r.0 } more.0

@@ -26,6 +26,7 @@ use Rattle.source_core.proofs.backward.Items.{parts, control, number_of}
 use Rattle.source_core.proofs.backward.ExactWork.{work_exact, exact-past, exact-ending, exact-branch, exact-head, exact-turn, exact-end}
 use Rattle.source_core.proofs.backward.ExactWork.{exact-split, loop_exact}
 use Rattle.source_core.proofs.backward.Middle.{Comes, comes-same, comes-step, Live, Mid, Settled, settle}
+use Rattle.base_integers.specs.declared.integers.Integers.TheVariants.{Mathematical}
 
 -- ---- a step of the core
 -- equal lists have the same first element
@@ -79,9 +80,9 @@ pub record Controlled (n exit : ℕ) (item : Item) (rest : List Item) (x : State
   -- the source's work behind the item
   pub next : List Item
   -- a step of the source with the item leads to it, and keeps the state
-  pub does : Does n exit item rest x next x
+  pub does : Does Mathematical n exit item rest x next x
   -- the core's work is that for it
-  pub is : work ≡ image n next
+  pub is : work ≡ image Mathematical n next
   -- the core's state stays
   pub same : z ≡ t
   -- it has the source's values of the variables
@@ -100,14 +101,14 @@ moved exit first k ks more t work z c d =
 
 controlled : (n exit : ℕ) (item : Item) (rest : List Item) (x s t : State) (k : core.Item) (ks : List core.Item) (work : List core.Item)
     (z : State) → control n item ≡ k ∷ ks → item_over n item × work_over n rest → item_exact n item × work_exact n rest → Agree n x s
-    → AllLeave (parts n item) s t → core.Does exit k (ks ++ image n rest) t work z → Controlled n exit item rest x work t z
+    → AllLeave (parts n item) s t → core.Does exit k (ks ++ image Mathematical n rest) t work z → Controlled n exit item rest x work t z
 controlled n exit (change g) rest x s t k ks work z c o q a l d = nothing_there k ks (sym c)
 controlled n exit (node (declares var line) m) rest x s t k ks work z c o q a l d = nothing_there k ks (sym c)
 controlled n exit (node (changes g) m) rest x s t k ks work z c o q a l d = nothing_there k ks (sym c)
 controlled n exit (node (asserts e at line) m) rest x s t k ks work z c o q a l d = nothing_there k ks (sym c)
 controlled n exit (node (never at line) m) rest x s t k ks work z c o q a l d = nothing_there k ks (sym c)
 controlled n exit (mark p) rest x s t k ks work z c o q a l d =
-    let h = moved exit (core.mark p) k ks (image n rest) t work z c d in
+    let h = moved exit (core.mark p) k ks (image Mathematical n rest) t work z c d in
     record {
       next = rest;
       does = (refl, refl);
@@ -118,70 +119,71 @@ controlled n exit (mark p) rest x s t k ks work z c o q a l d =
       exact = q.1;
     }
 controlled n exit (node (assumes e line) m) rest x s t k ks work z c o q a l d =
-    let con = (condition_of n line e).condition in
-    let h = moved exit (core.node (tree.assume con line) m) k ks (image n rest) t work z c d in
+    let con = (condition_of Mathematical n line e).condition in
+    let h = moved exit (core.node (tree.assume con line) m) k ks (image Mathematical n rest) t work z c d in
     let r = condition_exact n line e x s t true o.0 q.0 a l h.0 in
     record {
       next = if splits con then mark m ∷ rest else rest;
       does = (r.0.0, r.0.1, r.0.2, refl, refl);
-      is = h.1 ∙ image-split n (splits con) m rest;
+      is = h.1 ∙ image-split Mathematical n (splits con) m rest;
       same = h.2;
       agree = r.1;
       over = over-split n (splits con) m rest o.1;
       exact = exact-split n (splits con) m rest q.1;
     }
 controlled n exit (node (branch e first second line) m) rest x s t k ks work z c o q a l d =
-    let con = (condition_of n line e).condition in
-    let h = moved exit (core.node (tree.branch con (core_in n first) (core_in n second) line) m) k ks (image n rest) t work z c d in
+    let con = (condition_of Mathematical n line e).condition in
+    let h = moved exit (core.node (tree.branch con (core_in Mathematical n first) (core_in Mathematical n second) line) m) k ks
+    (image Mathematical n rest) t work z c d in
     let p = both_of (is_over n e) (are_statements_over n first && are_statements_over n second) o.0 in
     let p' = both_of (are_statements_over n first) (are_statements_over n second) p.1 in
     let u = both_of (is_exact line e n) (are_statements_exact n first && are_statements_exact n second) q.0 in
     let u' = both_of (are_statements_exact n first) (are_statements_exact n second) u.1 in
     let r = condition_exact n line e x s t h.0 p.0 u.0 a l h.1 in
     record {
-      next = branch_work n h.0 first second m rest;
+      next = branch_work Mathematical n h.0 first second m rest;
       does = (r.0.0, h.0, r.0.1, r.0.2, refl, refl);
-      is = h.2 ∙ image-branch n h.0 first second m rest;
+      is = h.2 ∙ image-branch Mathematical n h.0 first second m rest;
       same = h.3;
       agree = r.1;
-      over = over-branch n h.0 first second m rest p'.0 p'.1 o.1;
+      over = over-branch Mathematical n h.0 first second m rest p'.0 p'.1 o.1;
       exact = exact-branch n h.0 first second m rest u'.0 u'.1 q.1;
     }
 controlled n exit (node (loop kind e body line) m) rest x s t k ks work z c o q a l d =
-    let h = moved exit _ k ks (image n rest) t work z c d in
+    let h = moved exit _ k ks (image Mathematical n rest) t work z c d in
     record {
-      next = mark m ∷ head_work n kind e body line m rest;
+      next = mark m ∷ head_work Mathematical n kind e body line m rest;
       does = (refl, refl);
-      is = h.0 ∙ ap (λ w. core.mark m ∷ w) (image-head n kind e body line m rest);
+      is = h.0 ∙ ap (λ w. core.mark m ∷ w) (image-head Mathematical n kind e body line m rest);
       same = h.1;
       agree = subst (λ w. Agree n x w) (sym l) a;
-      over = (tt, over-head n kind e body line m rest o.0 o.1);
+      over = (tt, over-head Mathematical n kind e body line m rest o.0 o.1);
       exact = (tt, exact-head n kind e body line m rest q.0 q.1);
     }
 controlled n exit (node (jump breaks line) m) rest x s t k ks work z c o q a l d =
-    let h = moved exit (core.node (tree.jump breaks line) m) k ks (image n rest) t work z c d in
+    let h = moved exit (core.node (tree.jump breaks line) m) k ks (image Mathematical n rest) t work z c d in
     record {
       next = past_loop rest;
       does = (refl, refl);
-      is = h.0 ∙ image-past n rest;
+      is = h.0 ∙ image-past Mathematical n rest;
       same = h.1;
       agree = subst (λ w. Agree n x w) (sym l) a;
       over = over-past n rest o.1;
       exact = exact-past n rest q.1;
     }
 controlled n exit (node (jump continues line) m) rest x s t k ks work z c o q a l d =
-    let h = moved exit (core.node (tree.jump continues line) m) k ks (image n rest) t work z c d in
+    let h = moved exit (core.node (tree.jump continues line) m) k ks (image Mathematical n rest) t work z c d in
     record {
       next = end_of_body rest;
       does = (refl, refl);
-      is = h.0 ∙ image-ending n rest;
+      is = h.0 ∙ image-ending Mathematical n rest;
       same = h.1;
       agree = subst (λ w. Agree n x w) (sym l) a;
       over = over-ending n rest o.1;
       exact = exact-ending n rest q.1;
     }
 controlled n exit (node (jump returns line) m) rest x s t k ks work z c o q a l d =
-    let h = moved exit (core.node (tree.jump returns line) m) k ks (image n rest) t work z c d in
+    let h = moved exit (core.node (tree.jump returns line) m) k ks (image Mathematical n rest) t work z c d in
     record {
       next = mark exit ∷ [];
       does = (refl, refl);
@@ -192,7 +194,7 @@ controlled n exit (node (jump returns line) m) rest x s t k ks work z c o q a l 
       exact = (tt, tt);
     }
 controlled n exit (node (label name line) m) rest x s t k ks work z c o q a l d =
-    let h = moved exit (core.node (tree.label name line) m) k ks (image n rest) t work z c d in
+    let h = moved exit (core.node (tree.label name line) m) k ks (image Mathematical n rest) t work z c d in
     record {
       next = mark m ∷ rest;
       does = (refl, refl);
@@ -203,27 +205,28 @@ controlled n exit (node (label name line) m) rest x s t k ks work z c o q a l d 
       exact = (tt, q.1);
     }
 controlled n exit (turn kind e body line m) rest x s t k ks work z c o q a l d =
-    let con = condition_of n line e in
-    let h = moved exit (core.turn (kind_of n kind con.prelude) con.condition (core_in n body) line m) k ks (image n rest) t work z c d in
+    let con = condition_of Mathematical n line e in
+    let h = moved exit (core.turn (kind_of Mathematical n kind con.prelude) con.condition (core_in Mathematical n body) line m) k ks
+    (image Mathematical n rest) t work z c d in
     let r = condition_exact n line e x s t h.0 (condition_over n kind e body line o.0) (loop_exact n kind e body line q.0) a l h.1 in
     record {
-      next = turn_work n h.0 kind e body line m rest;
+      next = turn_work Mathematical n h.0 kind e body line m rest;
       does = (r.0.0, h.0, r.0.1, r.0.2, refl, refl);
-      is = h.2 ∙ image-turn n h.0 kind e body line m rest;
+      is = h.2 ∙ image-turn Mathematical n h.0 kind e body line m rest;
       same = h.3;
       agree = r.1;
-      over = over-turn n h.0 kind e body line m rest o.0 o.1;
+      over = over-turn Mathematical n h.0 kind e body line m rest o.0 o.1;
       exact = exact-turn n h.0 kind e body line m rest q.0 q.1;
     }
 controlled n exit (end kind e body line m) rest x s t k ks work z c o q a l d =
-    let h = moved exit _ k ks (image n rest) t work z c d in
+    let h = moved exit _ k ks (image Mathematical n rest) t work z c d in
     record {
-      next = end_work n kind e body line m rest;
+      next = end_work Mathematical n kind e body line m rest;
       does = (refl, refl);
-      is = h.0 ∙ image-end n kind e body line m rest;
+      is = h.0 ∙ image-end Mathematical n kind e body line m rest;
       same = h.1;
       agree = subst (λ w. Agree n x w) (sym l) a;
-      over = over-end n kind e body line m rest o.0 o.1;
+      over = over-end Mathematical n kind e body line m rest o.0 o.1;
       exact = exact-end n kind e body line m rest q.0 q.1;
     }
 
@@ -248,7 +251,8 @@ advances n exit s c d m step = by m.todo m.all m.work m.live
     longer l = let g = leave-longer m.done m.start c.state l in omega (arith, g, m.enough)
 
     -- the item ends
-    ended : (next : List Item) (y z : State) → Does n exit m.item m.rest s.state next y → d.work ≡ image n next → Agree n y z
+    ended : (next : List Item) (y z : State) → Does Mathematical n exit m.item m.rest s.state next y
+        → d.work ≡ image Mathematical n next → Agree n y z
         → length y ≡ n → n ≤ length z → work_over n next → work_exact n next → d.state ≡ left_at n d.work z
         → (t : Configuration) × Comes n exit s t × Settled n t d
     ended next y z does is a l g o q k =
@@ -264,7 +268,7 @@ advances n exit s c d m step = by m.todo m.all m.work m.live
 
     -- what is left of the item
     goes_on : (done todo : List Deed) (z : State) → parts n m.item ≡ done ++ todo → AllLeave done m.start z
-        → d.work ≡ deed_items (number_of m.item) todo (control n m.item ++ image n m.rest) → Live todo (control n m.item)
+        → d.work ≡ deed_items (number_of m.item) todo (control n m.item ++ image Mathematical n m.rest) → Live todo (control n m.item)
         → left_at n d.work z ≡ z
         → d.state ≡ left_at n d.work z → (t : Configuration) × Comes n exit s t × Settled n t d
     goes_on done todo z all left work live same k =
@@ -292,11 +296,13 @@ advances n exit s c d m step = by m.todo m.all m.work m.live
         )
 
     -- the item's last part
-    control_done : (w : List core.Item) → control n m.item ≡ w → parts n m.item ≡ m.done ++ [] → c.work ≡ control n m.item ++ image n m.rest
+    control_done : (w : List core.Item) → control n m.item ≡ w → parts n m.item ≡ m.done ++ []
+        → c.work ≡ control n m.item ++ image Mathematical n m.rest
         → Live [] (control n m.item) → (t : Configuration) × Comes n exit s t × Settled n t d
     control_done [] e all work live = absurd (subst (λ v. Live [] v) e live)
     control_done (k ∷ ks) e all work live =
-        let h = step_does n exit c d k (ks ++ image n m.rest) step (work ∙ ap (λ (v : List core.Item). v ++ image n m.rest) e) in
+        let h = step_does n exit c d k (ks ++ image Mathematical n m.rest) step (work
+        ∙ ap (λ (v : List core.Item). v ++ image Mathematical n m.rest) e) in
         let whole = subst (λ v. AllLeave v m.start c.state) (sym (all ∙ append-nil m.done)) m.left in
         let r = controlled n exit m.item m.rest s.state m.start c.state k ks d.work h.0 e m.over m.exact m.agree whole h.1 in
         let size = longer m.left in
@@ -306,13 +312,14 @@ advances n exit s c d m step = by m.todo m.all m.work m.live
     -- a deed, by what is left behind it
     deed_left : (e : Deed) (ds : List Deed) (ks : List core.Item) (z : State) → control n m.item ≡ ks
         → parts n m.item ≡ (m.done ++ (e ∷ [])) ++ ds
-        → AllLeave (m.done ++ (e ∷ [])) m.start z → d.work ≡ deed_items (number_of m.item) ds (control n m.item ++ image n m.rest)
+        → AllLeave (m.done ++ (e ∷ [])) m.start z → d.work ≡ deed_items (number_of m.item) ds
+        (control n m.item ++ image Mathematical n m.rest)
         → d.state ≡ left_at n d.work z → (t : Configuration) × Comes n exit s t × Settled n t d
     deed_left e [] [] z ct all left work k =
         let whole = subst (λ v. AllLeave v m.start z) (sym (all ∙ append-nil (m.done ++ (e ∷ [])))) left in
         let r = completes n m.item s.state m.start z ct m.over.0 m.exact.0 m.agree m.size whole in
         let g = leave-longer (m.done ++ (e ∷ [])) m.start z left in
-        ended m.rest r.0 z (r.1 exit m.rest) (work ∙ ap (λ (v : List core.Item). v ++ image n m.rest) ct) r.2 r.3
+        ended m.rest r.0 z (r.1 exit m.rest) (work ∙ ap (λ (v : List core.Item). v ++ image Mathematical n m.rest) ct) r.2 r.3
         (omega (arith, g, m.enough)) m.over.1 m.exact.1 k
     deed_left e [] (x ∷ ks) z ct all left work k =
         let first = all ∙ append-nil (m.done ++ (e ∷ [])) in
@@ -320,22 +327,22 @@ advances n exit s c d m step = by m.todo m.all m.work m.live
         (ap (λ v. left_at n v z) work ∙ by_parts (parts n m.item) refl first) k
       where
         by_parts : (ps : List Deed) → parts n m.item ≡ ps → parts n m.item ≡ m.done ++ (e ∷ [])
-            → left_at n (control n m.item ++ image n m.rest) z ≡ z
+            → left_at n (control n m.item ++ image Mathematical n m.rest) z ≡ z
         by_parts [] q f = absurd (ends_in m.done e (sym f ∙ q))
           where
             ends_in : (xs : List Deed) (y : Deed) → xs ++ (y ∷ []) ≡ [] → ⊥
             ends_in [] y h = nothing_there y [] h
             ends_in (x ∷ xs) y h = nothing_there x (xs ++ (y ∷ [])) h
-        by_parts (p ∷ ps) q f = unmarked n m.item p ps x ks (image n m.rest) z q ct
+        by_parts (p ∷ ps) q f = unmarked n m.item p ps x ks (image Mathematical n m.rest) z q ct
     deed_left e (b ∷ ds) ks z ct all left work k =
         goes_on (m.done ++ (e ∷ [])) (b ∷ ds) z all left work tt (ap (λ v. left_at n v z) work) k
 
     by : (todo : List Deed) → parts n m.item ≡ m.done ++ todo
-        → c.work ≡ deed_items (number_of m.item) todo (control n m.item ++ image n m.rest)
+        → c.work ≡ deed_items (number_of m.item) todo (control n m.item ++ image Mathematical n m.rest)
         → Live todo (control n m.item) → (t : Configuration) × Comes n exit s t × Settled n t d
     by [] all work live = control_done (control n m.item) refl all work live
     by (e ∷ ds) all work live =
-        let tail = deed_items (number_of m.item) ds (control n m.item ++ image n m.rest) in
+        let tail = deed_items (number_of m.item) ds (control n m.item ++ image Mathematical n m.rest) in
         let h = step_does n exit c d (core.node (statement_by e) (number_of m.item)) tail step work in
         let q = deed_done exit e (number_of m.item) tail d.work c.state h.0 h.1 in
         deed_left e ds (control n m.item) h.0 refl (all ∙ append_one m.done e ds)

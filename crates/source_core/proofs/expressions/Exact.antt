@@ -8,7 +8,7 @@ use Rattle.lang_tree.specs.Tree.{Condition, Deed, havocs, wheres}
 use Rattle.lang_tree.specs.Tree as tree
 use Rattle.lang_tree.specs.Meaning.{State, value, MayBe}
 use Rattle.source_tree.specs.Expressions.{Operation, plus, minus, times, over, remainder}
-use Rattle.source_tree.specs.Values.{truth_number, Tells, Gives}
+use Rattle.source_tree.specs.Values.{truth_number, Tells, Gives, IsHeld}
 use Rattle.source_core.specs.Forms as form
 use Rattle.source_core.specs.Forms.{constant_form, variable_form, scaled, is_constant}
 use Rattle.source_core.specs.Preludes.{AllLeave, all_under}
@@ -25,6 +25,7 @@ use Rattle.source_core.proofs.forms.Forms.{value-plus, value-minus, value-scaled
 use Rattle.source_core.proofs.forms.Over.{FormOver, ConditionOver, agree_sym, value-agrees, may_be-agrees}
 use Rattle.source_core.proofs.forms.Over.{over_constant}
 use Rattle.source_core.proofs.preludes.Preludes.{WritesFrom, leave-agrees}
+use Rattle.base_integers.specs.declared.integers.Integers.TheVariants.{Mathematical}
 
 -- ---- preludes in two parts
 -- what one list of deeds and then another leave, the second leaves behind a state that the first leaves
@@ -43,7 +44,7 @@ leave-from_under c (tree.checks about d line ∷ ds) x y h = (h.0, h.1, leave-fr
 -- ---- what an operand has
 -- the values of a result behind its prelude are among these
 abbrev pub Has : (State → ℤ → Type 0) → Elaborated → Type 0
-Has P e = (x y : State) (z : ℤ) → AllLeave e.prelude x y → MayResult e.result y z → P x z
+Has P e = (x y : State) (z : ℤ) → AllLeave e.prelude x y → MayResult Mathematical e.result y z → P x z
 
 -- the values of a form behind its prelude are among these
 abbrev pub HasNumber : (State → ℤ → Type 0) → Numbered → Type 0
@@ -80,7 +81,7 @@ selected line c h f g x y o p q l =
 -- ---- results as numbers and as conditions
 -- a result has no other values as a number
 pub number-of_result : (line : ℕ) (P : State → ℤ → Type 0) (ds : List Deed) (h : ℕ) (r : Result) → ResultOver h r
-    → ((x y : State) (z : ℤ) → AllLeave ds x y → MayResult r y z → P x z) → HasNumber P (as_number line ds h r)
+    → ((x y : State) (z : ℤ) → AllLeave ds x y → MayResult Mathematical r y z → P x z) → HasNumber P (as_number Mathematical line ds h r)
 number-of_result line P ds h (a_form f) o has = λ x y l. has x y (value f y) l refl
 number-of_result line P ds h (a_truth c) o has = λ x y l.
     let s = leave-split ds _ x y l in
@@ -103,7 +104,8 @@ tells_itself false = refl
 pub truth-of_result : (P : State → ℤ → Type 0) (e : Elaborated) → Has P e → HasTruth P (tested e)
 truth-of_result P e has = λ x y t l m. by e.result t x y l m (λ z. has x y z l)
   where
-    by : (r : Result) (t : Bool) (x y : State) → AllLeave e.prelude x y → MayBe t (as_condition r) y → ((z : ℤ) → MayResult r y z → P x z)
+    by : (r : Result) (t : Bool) (x y : State) → AllLeave e.prelude x y → MayBe t (as_condition r) y → ((z : ℤ)
+        → MayResult Mathematical r y z → P x z)
         → (z : ℤ) × P x z × Tells t z
     by (a_form f) true x y l m k = (value f y, k (value f y) refl, m)
     by (a_form f) false x y l m k = (value f y, k (value f y) refl, not_unequal (value f y) m)
@@ -130,12 +132,21 @@ behind_deeds line f c h x y o n l =
 abbrev pub HasBoth : (State → ℤ → ℤ → Type 0) → List Deed → Form → Form → Type 0
 HasBoth R ds f g = (x y : State) → AllLeave ds x y → R x (value f y) (value g y)
 
-given : (o : Operation) (R : State → ℤ → ℤ → Type 0) (x : State) (u v z w : ℤ) → R x u v → Gives o u v z → w ≡ z → Given o R x w
-given o R x u v z w r g e = (u, v, r, subst (λ k. Gives o u v k) (sym e) g)
+-- all numbers are among all integers
+pub held_by_all : (o : Operation) (u v z : ℤ) → IsHeld Mathematical o u v z
+held_by_all plus u v z = tt
+held_by_all minus u v z = tt
+held_by_all times u v z = tt
+held_by_all over u v z = tt
+held_by_all remainder u v z = (tt, tt)
+
+given : (o : Operation) (R : State → ℤ → ℤ → Type 0) (x : State) (u v z w : ℤ) → R x u v → Gives o u v z → w ≡ z
+    → Given Mathematical o R x w
+given o R x u v z w r g e = (u, v, r, subst (λ k. Gives o u v k) (sym e) g, held_by_all o u v w)
 
 -- the result of an exact operation has no values but numbers that the operation gives
 pub operated-has : (line : ℕ) (o : Operation) (sign : ℕ) (R : State → ℤ → ℤ → Type 0) (ds : List Deed) (h : ℕ) (f g : Form) → FormOver h f
-    → IsTrue (is_exact_on o f g) → HasBoth R ds f g → Has (Given o R) (operated line o sign ds h f g)
+    → IsTrue (is_exact_on o f g) → HasBoth R ds f g → Has (Given Mathematical o R) (operated Mathematical line o sign ds h f g)
 operated-has line plus sign R ds h f g o t has = λ x y z l m.
     given plus R x (value f y) (value g y) _ z (has x y l) refl (m ∙ value-plus f g y)
 operated-has line minus sign R ds h f g o t has = λ x y z l m.
@@ -146,15 +157,16 @@ operated-has line times sign R ds h f g o t has = by (is_constant f) (is_constan
     neither p q t = true≢false (sym t ∙ ap₂ (λ a b. a || b) p q)
 
     by : (s u : Bool) → is_constant f ≡ s → is_constant g ≡ u
-        → Has (Given times R) (if s then form_behind ds h (scaled f.constant g)
-        else (if u then form_behind ds h (scaled g.constant f) else havocked line ds h))
+        → Has (Given Mathematical times R) (if s then form_behind ds h (scaled f.constant g)
+        else (if u then form_behind ds h (scaled g.constant f) else havocked Mathematical line ds h))
     by true u p q = λ x y z l m. given times R x (value f y) (value g y) _ z (has x y l) refl
         (m ∙ value-scaled f.constant g y ∙ ap (λ k. k *ℤ value g y) (sym (value-is_constant f y p)))
     by false true p q = λ x y z l m. given times R x (value f y) (value g y) _ z (has x y l) refl
         (m ∙ value-scaled g.constant f y ∙ ap (λ k. k *ℤ value f y) (sym (value-is_constant g y q)) ∙ *ℤ_comm (value g y) (value f y))
     by false false p q = absurd (neither p q t)
 operated-has line over sign R ds h f g o t has =
-    subst (λ s. Has (Given over R) (if s then quotient_by line ds h f g.constant else unless_zero line ds h sign g)) (sym t)
+    subst (λ s. Has (Given Mathematical over R)
+    (if s then quotient_by line ds h f g.constant else unless_zero Mathematical line ds h sign g)) (sym t)
     (by (is_unit g.constant) (is_constant f) refl refl)
   where
     d : IsTrue (is_constant g) × (g.constant ≢ pos 0)
@@ -167,7 +179,7 @@ operated-has line over sign R ds h f g o t has =
     not_zero y = λ e. d.1 (sym (divisor y) ∙ e)
 
     by : (s u : Bool) → is_unit g.constant ≡ s → is_constant f ≡ u
-        → Has (Given over R) (if s then form_behind ds h (scaled g.constant f)
+        → Has (Given Mathematical over R) (if s then form_behind ds h (scaled g.constant f)
         else (if u then form_behind ds h (constant_form (int_div f.constant g.constant))
         else form_behind (quotient_behind line ds h f g.constant) (suc h) (variable_form h)))
     by true u p q = λ x y z l m. given over R x (value f y) (value g y) _ z (has x y l) (not_zero y, refl)
@@ -181,7 +193,9 @@ operated-has line over sign R ds h f g o t has =
         given over R x (value f s.0) (value g s.0) _ z (has x s.0 s.1) (not_zero s.0, refl)
         (m ∙ r ∙ ap (λ k. int_div (value f s.0) k) (sym (divisor s.0)))
 operated-has line remainder sign R ds h f g o t has =
-    subst (λ s. Has (Given remainder R) (if s then remainder_by line ds h f g.constant else unless_zero line ds h sign g)) (sym t)
+    subst (λ s. Has (Given Mathematical remainder R)
+    (if s then remainder_by line ds h f g.constant else unless_zero Mathematical line ds h sign g))
+    (sym t)
     (by (is_unit g.constant) (is_constant f) refl refl)
   where
     d : IsTrue (is_constant g) × (g.constant ≢ pos 0)
@@ -194,7 +208,7 @@ operated-has line remainder sign R ds h f g o t has =
     not_zero y = λ e. d.1 (sym (divisor y) ∙ e)
 
     by : (s u : Bool) → is_unit g.constant ≡ s → is_constant f ≡ u
-        → Has (Given remainder R) (if s then form_behind ds h (constant_form (pos 0))
+        → Has (Given Mathematical remainder R) (if s then form_behind ds h (constant_form (pos 0))
         else (if u then form_behind ds h (constant_form (int_rem f.constant g.constant))
         else form_behind (quotient_behind line ds h f g.constant) (suc h) (form.minus f (scaled g.constant (variable_form h)))))
     by true u p q = λ x y z l m. given remainder R x (value f y) (value g y) _ z (has x y l) (not_zero y, refl)

@@ -19,11 +19,13 @@ use Rattle.source_core.proofs.forms.Forms.{value-minus, value-constant, value-va
 use Rattle.source_core.proofs.forms.Over.{agree_sym, agree_trans, agree_less, value-agrees, may_be-agrees, has_truth, over_more}
 use Rattle.source_core.proofs.forms.Over.{condition_over_more}
 use Rattle.source_core.proofs.preludes.Preludes.{leave-agrees}
-use Rattle.source_core.proofs.preludes.Parts.{KeepsNumber, KeepsTruth, keeps-number, keeps-truth}
+use Rattle.source_core.proofs.preludes.Parts.{KeepsNumber, KeepsTruth}
+use Rattle.source_core.proofs.preludes.Results.{keeps-number, keeps-truth}
 use Rattle.source_core.proofs.expressions.Values.{may-agrees}
 use Rattle.source_core.proofs.expressions.Kept.{kept}
 use Rattle.source_core.proofs.expressions.Exact.{Has, HasNumber, HasTruth, HasBoth, leave-split, leave-from_under, number-of_result}
 use Rattle.source_core.proofs.expressions.Exact.{truth-of_result, operated-has, selected}
+use Rattle.base_integers.specs.declared.integers.Integers.TheVariants.{Mathematical}
 
 -- ---- two numbers
 both-has : (h : ℕ) (P Q : State → ℤ → Type 0) (a b : Numbered) → ((x y : State) (z : ℤ) → Agree h x y → Q x z → Q y z)
@@ -68,8 +70,8 @@ inverts false = refl
 -- ---- all
 -- an exact expression may have each value that its result may be behind its prelude
 pub exactly : (line : ℕ) (e : Expression) (n h : ℕ) → n ≤ h → IsTrue (is_over n e) → IsTrue (is_exact line e h)
-    → Has (May e) (elaborated line e h)
-exactly line (number v at) n h s o t = λ x y z l m. m ∙ value-constant (pos v) y
+    → Has (May Mathematical e) (elaborated Mathematical line e h)
+exactly line (number v at) n h s o t = λ x y z l m. (m ∙ value-constant (pos v) y, tt)
 exactly line (variable i at) n h s o t = λ x y z l m.
     m ∙ value-variable i y ∙ ap (λ (r : State). Rattle.std.specs.Prelude.get_or r i (pos 0)) l
 exactly line (unknown at) n h s o t = λ x y z l m. tt
@@ -77,136 +79,149 @@ exactly line (call es at) n h s o t = absurd (true≢false (sym t))
 exactly line (element size bracket e at) n h s o t = absurd (true≢false (sym t))
 exactly line (grouped at e) n h s o t = exactly line e n h s o t
 exactly line (negative at e) n h s o t = λ x y z l m.
-    let k = kept line e n h s o in
-    let a = numbered line (elaborated line e h) in
-    let r = number-of_result line (May e) (elaborated line e h).prelude (elaborated line e h).next (elaborated line e h).result k.over
+    let k = kept Mathematical line e n h s o in
+    let a = numbered Mathematical line (elaborated Mathematical line e h) in
+    let r = number-of_result line (May Mathematical e) (elaborated Mathematical line e h).prelude
+    (elaborated Mathematical line e h).next (elaborated Mathematical line e h).result k.over
     (exactly line e n h s o t) in
-    (value a.form y, r x y l, negates (value a.form y) z (m ∙ value-opposite a.form y))
+    (value a.form y, r x y l, negates (value a.form y) z (m ∙ value-opposite a.form y), tt)
 exactly line (positive at e) n h s o t = λ x y z l m.
-    let k = kept line e n h s o in
-    let r = number-of_result line (May e) (elaborated line e h).prelude (elaborated line e h).next (elaborated line e h).result k.over
+    let k = kept Mathematical line e n h s o in
+    let r = number-of_result line (May Mathematical e) (elaborated Mathematical line e h).prelude
+    (elaborated Mathematical line e h).next (elaborated Mathematical line e h).result k.over
     (exactly line e n h s o t) in
-    subst (λ w. May e x w) (sym m) (r x y l)
+    subst (λ w. May Mathematical e x w) (sym m) (r x y l)
 exactly line (inverse at e) n h s o t = λ x y z l m.
-    let r = truth-of_result (May e) (elaborated line e h) (exactly line e n h s o t) x y (not m.0) l m.1 in
+    let r = truth-of_result (May Mathematical e) (elaborated Mathematical line e h) (exactly line e n h s o t) x y (not m.0) l m.1 in
     (r.0, not m.0, r.1, r.2, m.2 ∙ inverts m.0)
 exactly line (joined k sign e f) n h s o t =
     let p = both_of (is_over n e) (is_over n f) o in
-    let a = elaborated line e h in
-    let u = numbered line a in
-    let b = elaborated line f u.next in
-    let w = numbered line b in
+    let a = elaborated Mathematical line e h in
+    let u = numbered Mathematical line a in
+    let b = elaborated Mathematical line f u.next in
+    let w = numbered Mathematical line b in
     let q = both_of (is_exact line e h) (is_exact line f u.next && is_exact_on k u.form w.form) t in
     let r = both_of (is_exact line f u.next) (is_exact_on k u.form w.form) q.1 in
-    let ka = kept line e n h s p.0 in
-    let one = keeps-number line h (May e) a ka in
+    let ka = kept Mathematical line e n h s p.0 in
+    let one = keeps-number Mathematical line h (May Mathematical e) a ka in
     let later : n ≤ u.next = omega (arith, s, one.fits.grows) in
-    let kb = kept line f n u.next later p.1 in
-    let two = keeps-number line u.next (May f) b kb in
-    let ha = number-of_result line (May e) a.prelude a.next a.result ka.over (exactly line e n h s p.0 q.0) in
-    let hb = number-of_result line (May f) b.prelude b.next b.result kb.over (exactly line f n u.next later p.1 r.0) in
-    let rests = λ (x y : State) (z : ℤ) (g : Agree h x y) (m : May f x z). may-agrees f n x y z p.1 (agree_less n h x y s g) m in
-    let has = operated-has line k sign (λ x a b. May e x a × May f x b) (u.prelude ++ w.prelude) w.next u.form w.form
-    (over_more u.next w.next u.form two.fits.grows one.over) r.1 (both-has h (May e) (May f) u w rests one two ha hb) in
-    λ x y z l m. let g = has x y z l m in (g.0, g.1, g.2.0, g.2.1, g.3)
+    let kb = kept Mathematical line f n u.next later p.1 in
+    let two = keeps-number Mathematical line u.next (May Mathematical f) b kb in
+    let ha = number-of_result line (May Mathematical e) a.prelude a.next a.result ka.over (exactly line e n h s p.0 q.0) in
+    let hb = number-of_result line (May Mathematical f) b.prelude b.next b.result kb.over (exactly line f n u.next later p.1 r.0) in
+    let rests = λ (x y : State) (z : ℤ) (g : Agree h x y) (m : May Mathematical f x z). may-agrees Mathematical f n x y z p.1
+    (agree_less n h x y s g) m in
+    let has = operated-has line k sign (λ x a b. May Mathematical e x a
+    × May Mathematical f x b) (u.prelude ++ w.prelude) w.next u.form w.form
+    (over_more u.next w.next u.form two.fits.grows one.over) r.1 (both-has h (May Mathematical e)
+    (May Mathematical f) u w rests one two ha hb) in
+    λ x y z l m. let g = has x y z l m in (g.0, g.1, g.2.0, g.2.1, g.3, g.4)
 exactly line (compared rel sign e f) n h s o t =
     let p = both_of (is_over n e) (is_over n f) o in
-    let a = elaborated line e h in
-    let u = numbered line a in
-    let b = elaborated line f u.next in
-    let w = numbered line b in
+    let a = elaborated Mathematical line e h in
+    let u = numbered Mathematical line a in
+    let b = elaborated Mathematical line f u.next in
+    let w = numbered Mathematical line b in
     let q = both_of (is_exact line e h) (is_exact line f u.next) t in
-    let ka = kept line e n h s p.0 in
-    let one = keeps-number line h (May e) a ka in
+    let ka = kept Mathematical line e n h s p.0 in
+    let one = keeps-number Mathematical line h (May Mathematical e) a ka in
     let later : n ≤ u.next = omega (arith, s, one.fits.grows) in
-    let kb = kept line f n u.next later p.1 in
-    let two = keeps-number line u.next (May f) b kb in
-    let ha = number-of_result line (May e) a.prelude a.next a.result ka.over (exactly line e n h s p.0 q.0) in
-    let hb = number-of_result line (May f) b.prelude b.next b.result kb.over (exactly line f n u.next later p.1 q.1) in
-    let rests = λ (x y : State) (z : ℤ) (g : Agree h x y) (m : May f x z). may-agrees f n x y z p.1 (agree_less n h x y s g) m in
-    let has = both-has h (May e) (May f) u w rests one two ha hb in
+    let kb = kept Mathematical line f n u.next later p.1 in
+    let two = keeps-number Mathematical line u.next (May Mathematical f) b kb in
+    let ha = number-of_result line (May Mathematical e) a.prelude a.next a.result ka.over (exactly line e n h s p.0 q.0) in
+    let hb = number-of_result line (May Mathematical f) b.prelude b.next b.result kb.over (exactly line f n u.next later p.1 q.1) in
+    let rests = λ (x y : State) (z : ℤ) (g : Agree h x y) (m : May Mathematical f x z). may-agrees Mathematical f n x y z p.1
+    (agree_less n h x y s g) m in
+    let has = both-has h (May Mathematical e) (May Mathematical f) u w rests one two ha hb in
     λ x y z l m.
     let g = has x y l in
     (value u.form y, value w.form y, m.0, g.0, g.1, compares-back m.0 rel u.form w.form y m.1, m.2)
 exactly line (both c d) n h s o t =
     let p = both_of (is_over n c) (is_over n d) o in
-    let a = elaborated line c h in
-    let b = elaborated line d a.next in
+    let a = elaborated Mathematical line c h in
+    let b = elaborated Mathematical line d a.next in
     let q = both_of (is_exact line c h) (is_exact line d a.next) t in
-    let one = keeps-truth h (May c) a (kept line c n h s p.0) in
+    let one = keeps-truth Mathematical h (May Mathematical c) a (kept Mathematical line c n h s p.0) in
     let later : n ≤ a.next = omega (arith, s, one.fits.grows) in
-    let two = keeps-truth a.next (May d) b (kept line d n a.next later p.1) in
-    let hc = truth-of_result (May c) a (exactly line c n h s p.0 q.0) in
-    let hd = truth-of_result (May d) b (exactly line d n a.next later p.1 q.1) in
-    let rests = λ (x y : State) (z : ℤ) (g : Agree h x y) (m : May d x z). may-agrees d n x y z p.1 (agree_less n h x y s g) m in
+    let two = keeps-truth Mathematical a.next (May Mathematical d) b (kept Mathematical line d n a.next later p.1) in
+    let hc = truth-of_result (May Mathematical c) a (exactly line c n h s p.0 q.0) in
+    let hd = truth-of_result (May Mathematical d) b (exactly line d n a.next later p.1 q.1) in
+    let rests = λ (x y : State) (z : ℤ) (g : Agree h x y) (m : May Mathematical d x z). may-agrees Mathematical d n x y z p.1
+    (agree_less n h x y s g) m in
     λ x y z l m.
-    let r = both-truths h (May c) (May d) (tested a) (tested b) (tested a).condition rests one two hc hd x y l in
+    let r = both-truths h (May Mathematical c) (May Mathematical d) (tested a) (tested b) (tested a).condition rests one two hc hd x y l in
     conjoined x y z m r.0 r.1
   where
-    conjoined : (x y : State) (z : ℤ) → MayResult (elaborated line (both c d) h).result y z
-        → ((t : Bool) → MayBe t (tested (elaborated line c h)).condition y → (z : ℤ) × May c x z × Tells t z)
-        → ((t : Bool) → MayBe t (tested (elaborated line d (elaborated line c h).next)).condition y → (z : ℤ) × May d x z × Tells t z)
-        → May (both c d) x z
+    conjoined : (x y : State) (z : ℤ) → MayResult Mathematical (elaborated Mathematical line (both c d) h).result y z
+        → ((t : Bool) → MayBe t (tested (elaborated Mathematical line c h)).condition y → (z : ℤ) × May Mathematical c x z × Tells t z)
+        → ((t : Bool) → MayBe t (tested (elaborated Mathematical line d (elaborated Mathematical line c h).next)).condition y
+        → (z : ℤ) × May Mathematical d x z × Tells t z)
+        → May Mathematical (both c d) x z
     conjoined x y z (true, m, e) first second =
         let a = first true m.0 in
         let b = second true m.1 in inr (a.0, b.0, true, a.1, a.2, b.1, b.2, e)
     conjoined x y z (false, m, e) first second = ⊎_elim
-        (λ k. let a = first false k in inl (is_zero a.0 (May c x) a.1 a.2, e))
-        (λ k. by (has_truth (tested (elaborated line c h)).condition y) (second false k)) m
+        (λ k. let a = first false k in inl (is_zero a.0 (May Mathematical c x) a.1 a.2, e))
+        (λ k. by (has_truth (tested (elaborated Mathematical line c h)).condition y) (second false k)) m
       where
-        by : (t : Bool) × MayBe t (tested (elaborated line c h)).condition y → (z : ℤ) × May d x z × Tells false z → May (both c d) x z
+        by : (t : Bool) × MayBe t (tested (elaborated Mathematical line c h)).condition y
+            → (z : ℤ) × May Mathematical d x z × Tells false z → May Mathematical (both c d) x z
         by (true, w) b = let a = first true w in inr (a.0, b.0, false, a.1, a.2, b.1, b.2, e)
-        by (false, w) b = let a = first false w in inl (is_zero a.0 (May c x) a.1 a.2, e)
+        by (false, w) b = let a = first false w in inl (is_zero a.0 (May Mathematical c x) a.1 a.2, e)
 exactly line (either c d) n h s o t =
     let p = both_of (is_over n c) (is_over n d) o in
-    let a = elaborated line c h in
-    let b = elaborated line d a.next in
+    let a = elaborated Mathematical line c h in
+    let b = elaborated Mathematical line d a.next in
     let q = both_of (is_exact line c h) (is_exact line d a.next) t in
-    let one = keeps-truth h (May c) a (kept line c n h s p.0) in
+    let one = keeps-truth Mathematical h (May Mathematical c) a (kept Mathematical line c n h s p.0) in
     let later : n ≤ a.next = omega (arith, s, one.fits.grows) in
-    let two = keeps-truth a.next (May d) b (kept line d n a.next later p.1) in
-    let hc = truth-of_result (May c) a (exactly line c n h s p.0 q.0) in
-    let hd = truth-of_result (May d) b (exactly line d n a.next later p.1 q.1) in
-    let rests = λ (x y : State) (z : ℤ) (g : Agree h x y) (m : May d x z). may-agrees d n x y z p.1 (agree_less n h x y s g) m in
+    let two = keeps-truth Mathematical a.next (May Mathematical d) b (kept Mathematical line d n a.next later p.1) in
+    let hc = truth-of_result (May Mathematical c) a (exactly line c n h s p.0 q.0) in
+    let hd = truth-of_result (May Mathematical d) b (exactly line d n a.next later p.1 q.1) in
+    let rests = λ (x y : State) (z : ℤ) (g : Agree h x y) (m : May Mathematical d x z). may-agrees Mathematical d n x y z p.1
+    (agree_less n h x y s g) m in
     λ x y z l m.
-    let r = both-truths h (May c) (May d) (tested a) (tested b) (tree.negation (tested a).condition) rests one two hc hd x y l in
+    let r = both-truths h (May Mathematical c) (May Mathematical d) (tested a) (tested b) (tree.negation
+    (tested a).condition) rests one two hc hd x y l in
     disjoined x y z m r.0 r.1
   where
-    disjoined : (x y : State) (z : ℤ) → MayResult (elaborated line (either c d) h).result y z
-        → ((t : Bool) → MayBe t (tested (elaborated line c h)).condition y → (z : ℤ) × May c x z × Tells t z)
-        → ((t : Bool) → MayBe t (tested (elaborated line d (elaborated line c h).next)).condition y → (z : ℤ) × May d x z × Tells t z)
-        → May (either c d) x z
+    disjoined : (x y : State) (z : ℤ) → MayResult Mathematical (elaborated Mathematical line (either c d) h).result y z
+        → ((t : Bool) → MayBe t (tested (elaborated Mathematical line c h)).condition y → (z : ℤ) × May Mathematical c x z × Tells t z)
+        → ((t : Bool) → MayBe t (tested (elaborated Mathematical line d (elaborated Mathematical line c h).next)).condition y
+        → (z : ℤ) × May Mathematical d x z × Tells t z)
+        → May Mathematical (either c d) x z
     disjoined x y z (false, m, e) first second =
         let a = first false m.0 in
-        let b = second false m.1 in inr (b.0, false, is_zero a.0 (May c x) a.1 a.2, b.1, b.2, e)
+        let b = second false m.1 in inr (b.0, false, is_zero a.0 (May Mathematical c x) a.1 a.2, b.1, b.2, e)
     disjoined x y z (true, m, e) first second = ⊎_elim
         (λ k. let a = first true k in inl (a.0, a.1, a.2, e))
-        (λ k. by (has_truth (tested (elaborated line c h)).condition y) (second true k)) m
+        (λ k. by (has_truth (tested (elaborated Mathematical line c h)).condition y) (second true k)) m
       where
-        by : (t : Bool) × MayBe t (tested (elaborated line c h)).condition y → (z : ℤ) × May d x z × Tells true z → May (either c d) x z
+        by : (t : Bool) × MayBe t (tested (elaborated Mathematical line c h)).condition y
+            → (z : ℤ) × May Mathematical d x z × Tells true z → May Mathematical (either c d) x z
         by (true, w) b = let a = first true w in inl (a.0, a.1, a.2, e)
-        by (false, w) b = let a = first false w in inr (b.0, true, is_zero a.0 (May c x) a.1 a.2, b.1, b.2, e)
+        by (false, w) b = let a = first false w in inr (b.0, true, is_zero a.0 (May Mathematical c x) a.1 a.2, b.1, b.2, e)
 exactly line (chosen sign c e f) n h s o t =
     let p = both_of (is_over n c) (is_over n e && is_over n f) o in
     let q = both_of (is_over n e) (is_over n f) p.1 in
-    let a = elaborated line c h in
-    let b = elaborated line e a.next in
-    let u = numbered line b in
-    let d = elaborated line f u.next in
-    let w = numbered line d in
+    let a = elaborated Mathematical line c h in
+    let b = elaborated Mathematical line e a.next in
+    let u = numbered Mathematical line b in
+    let d = elaborated Mathematical line f u.next in
+    let w = numbered Mathematical line d in
     let con = (tested a).condition in
     let i = both_of (is_exact line c h) (is_exact line e a.next && is_exact line f u.next) t in
     let j = both_of (is_exact line e a.next) (is_exact line f u.next) i.1 in
-    let one = keeps-truth h (May c) a (kept line c n h s p.0) in
+    let one = keeps-truth Mathematical h (May Mathematical c) a (kept Mathematical line c n h s p.0) in
     let later : n ≤ a.next = omega (arith, s, one.fits.grows) in
-    let kb = kept line e n a.next later q.0 in
-    let two = keeps-number line a.next (May e) b kb in
+    let kb = kept Mathematical line e n a.next later q.0 in
+    let two = keeps-number Mathematical line a.next (May Mathematical e) b kb in
     let last : n ≤ u.next = omega (arith, later, two.fits.grows) in
-    let kd = kept line f n u.next last q.1 in
-    let three = keeps-number line u.next (May f) d kd in
-    let hc = truth-of_result (May c) a (exactly line c n h s p.0 i.0) in
-    let he = number-of_result line (May e) b.prelude b.next b.result kb.over (exactly line e n a.next later q.0 j.0) in
-    let hf = number-of_result line (May f) d.prelude d.next d.result kd.over (exactly line f n u.next last q.1 j.1) in
+    let kd = kept Mathematical line f n u.next last q.1 in
+    let three = keeps-number Mathematical line u.next (May Mathematical f) d kd in
+    let hc = truth-of_result (May Mathematical c) a (exactly line c n h s p.0 i.0) in
+    let he = number-of_result line (May Mathematical e) b.prelude b.next b.result kb.over (exactly line e n a.next later q.0 j.0) in
+    let hf = number-of_result line (May Mathematical f) d.prelude d.next d.result kd.over (exactly line f n u.next last q.1 j.1) in
     let over_c = condition_over_more a.next w.next con (omega (arith, two.fits.grows, three.fits.grows)) one.over in
     let over_f = over_more u.next w.next u.form three.fits.grows two.over in
     λ x y z l m.
@@ -226,11 +241,18 @@ exactly line (chosen sign c e f) n h s o t =
     (λ k.
     let r = back true k.0 in
     let is = m ∙ k.1 ∙ sym (value-agrees u.next u.form s2.0 s3.0 two.over g23) in
-    inl (r.0, r.1, r.2, may-agrees e n s1.0 x z q.0 (agree_sym n x s1.0 x1) (subst (λ v. May e s1.0 v) (sym is) (he s1.0 s2.0 first))))
+    inl (
+      r.0,
+      r.1,
+      r.2,
+      may-agrees Mathematical e n s1.0 x z q.0 (agree_sym n x s1.0 x1) (subst (λ v. May Mathematical e s1.0 v)
+          (sym is) (he s1.0 s2.0 first)),
+    ))
     (λ k.
     let r = back false k.0 in
     inr (
-      is_zero r.0 (May c x) r.1 r.2,
-      may-agrees f n s2.0 x z q.1 (agree_sym n x s2.0 x2) (subst (λ v. May f s2.0 v) (sym (m ∙ k.1)) (hf s2.0 s3.0 second)),
+      is_zero r.0 (May Mathematical c x) r.1 r.2,
+      may-agrees Mathematical f n s2.0 x z q.1 (agree_sym n x s2.0 x2) (subst (λ v. May Mathematical f s2.0 v) (sym (m
+          ∙ k.1)) (hf s2.0 s3.0 second)),
     ))
     (selected line con w.next u.form w.form s3.0 y over_c over_f three.over s3.2)

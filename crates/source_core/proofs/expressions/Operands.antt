@@ -19,6 +19,7 @@ use Rattle.source_core.proofs.forms.Over.{may_be-agrees, agree_trans}
 use Rattle.source_core.proofs.preludes.Preludes.{leave-then, leave-agrees, writes-under, writes-less, leave-under}
 use Rattle.source_core.proofs.preludes.Parts.{Fits, fits-then, goes-given, given-one, one_of, Keeps, KeepsNumber, KeepsTruth}
 use Rattle.source_core.proofs.expressions.Operated.{Both}
+use Rattle.base_integers.specs.declared.integers.Integers.{Integers}
 
 -- the values rest on the first n variables alone
 abbrev pub Rests : ℕ → (State → ℤ → Type 0) → Type 0
@@ -47,10 +48,11 @@ compares-forms false rel f g y u v p q h =
     subst (λ z. ¬ (Relates rel z)) (ap₂ (λ (a b : ℤ). a -ℤ b) p q ∙ sym (value-minus f g y)) h
 
 -- what a comparison of two operands tells is what its condition may be
-pub keeps-compared : (n : ℕ) (R : State → ℤ → ℤ → Type 0) (ds : List Deed) (h : ℕ) (rel : Rel) (f g : Form) → Both n R ds h f g
-    → Keeps n (λ x z. (u v : ℤ) × (t : Bool) × R x u v × Compares t rel u v × (z ≡ truth_number t))
+pub keeps-compared : (integers : Integers) (n : ℕ) (R : State → ℤ → ℤ → Type 0) (ds : List Deed) (h : ℕ) (rel : Rel) (f g : Form)
+    → Both n R ds h f g
+    → Keeps integers n (λ x z. (u v : ℤ) × (t : Bool) × R x u v × Compares t rel u v × (z ≡ truth_number t))
     record { prelude = ds; result = a_truth (related rel f g); next = h }
-keeps-compared n R ds h rel f g b = record {
+keeps-compared integers n R ds h rel f g b = record {
   fits = b.fits;
   over = over_minus h f g b.first_over b.second_over;
   keeps = λ x z m. let k = b.keeps x m.0 m.1 m.3 in
@@ -115,9 +117,9 @@ OrMay P Q x z =
     ((a : ℤ) × P x a × (a ≢ pos 0) × (z ≡ pos 1)) ⊎ ((b : ℤ) × (t : Bool) × P x (pos 0) × Q x b × Tells t b × (z ≡ truth_number t))
 
 -- what `&&` tells is what its condition may be
-pub keeps-both : (n : ℕ) (P Q : State → ℤ → Type 0) (ds : List Deed) (h : ℕ) (c d : Condition) → Joint n P Q ds h c d
-    → Keeps n (AndMay P Q) record { prelude = ds; result = a_truth (tree.both c d); next = h }
-keeps-both n P Q ds h c d j = record {
+pub keeps-both : (integers : Integers) (n : ℕ) (P Q : State → ℤ → Type 0) (ds : List Deed) (h : ℕ) (c d : Condition) → Joint n P Q ds h c d
+    → Keeps integers n (AndMay P Q) record { prelude = ds; result = a_truth (tree.both c d); next = h }
+keeps-both integers n P Q ds h c d j = record {
   fits = j.fits;
   over = (j.first_over, j.second_over);
   keeps = λ x z m. ⊎_elim
@@ -130,9 +132,10 @@ keeps-both n P Q ds h c d j = record {
     true_as false y a b = inr b
 
 -- what `||` tells is what its condition may be
-pub keeps-either : (n : ℕ) (P Q : State → ℤ → Type 0) (ds : List Deed) (h : ℕ) (c d : Condition) → Joint n P Q ds h c d
-    → Keeps n (OrMay P Q) record { prelude = ds; result = a_truth (tree.either c d); next = h }
-keeps-either n P Q ds h c d j = record {
+pub keeps-either : (integers : Integers) (n : ℕ) (P Q : State → ℤ → Type 0) (ds : List Deed) (h : ℕ) (c d : Condition)
+    → Joint n P Q ds h c d
+    → Keeps integers n (OrMay P Q) record { prelude = ds; result = a_truth (tree.either c d); next = h }
+keeps-either integers n P Q ds h c d j = record {
   fits = j.fits;
   over = (j.first_over, j.second_over);
   keeps = λ x z m. ⊎_elim
@@ -150,9 +153,10 @@ abbrev pub OneMay : (P Q R : State → ℤ → Type 0) → State → ℤ → Typ
 OneMay P Q R x z = ((a : ℤ) × P x a × (a ≢ pos 0) × Q x z) ⊎ (P x (pos 0) × R x z)
 
 -- each value that `?:` may have is one that its hidden variable may have
-pub keeps-choice : (line h : ℕ) (P Q R : State → ℤ → Type 0) (c : Tested) (f g : Numbered) → Rests h Q → Rests h R → KeepsTruth h P c
-    → KeepsNumber c.next Q f → KeepsNumber f.next R g → Keeps h (OneMay P Q R) (choice line c f g)
-keeps-choice line h P Q R c f g rest_yes rest_no k l m = record {
+pub keeps-choice : (integers : Integers) (line h : ℕ) (P Q R : State → ℤ → Type 0) (c : Tested) (f g : Numbered) → Rests h Q
+    → Rests h R → KeepsTruth h P c
+    → KeepsNumber c.next Q f → KeepsNumber f.next R g → Keeps integers h (OneMay P Q R) (choice line c f g)
+keeps-choice integers line h P Q R c f g rest_yes rest_no k l m = record {
   fits = fits-then h c.next (suc g.next) c.prelude (one ++ (two ++ last)) k.fits
       (fits-then c.next f.next (suc g.next) one (two ++ last) (fits-under c.next c.condition f.prelude f.next l.fits)
       (fits-then f.next g.next (suc g.next) two last (fits-under f.next (tree.negation c.condition) g.prelude g.next m.fits)

@@ -1,7 +1,7 @@
 -- Operations on two forms give the values that they have by C.
 use Rattle.std.proofs.Common.{◌≡◌, ◌≢◌, ◌⊎◌, inl, inr, ◌/◌, ℕ, suc, Bool, true, false, List, [], ◌∷◌, ◌++◌}
 use Rattle.std.proofs.Common.{refl, sym, ap, ap₂, subst, ◌∙◌, arith, ◌*◌, true≢false}
-use Rattle.std.specs.Prelude.{ℤ, pos, negsuc, ◌+ℤ◌, ◌-ℤ◌, ◌*ℤ◌, neg_ℤ, int_div, int_rem, IsTrue, ◌||◌, if◌then◌else◌}
+use Rattle.std.specs.Prelude.{ℤ, pos, negsuc, ◌+ℤ◌, ◌-ℤ◌, ◌*ℤ◌, neg_ℤ, int_div, int_rem, IsTrue, ◌||◌, if◌then◌else◌, nat_le}
 use Rattle.std.specs.Ordering.{int_eq}
 use Rattle.std.proofs.lemmas.Int.{ints}
 use Rattle.std.proofs.lemmas.Bool.Decides.{Decides-int_eq}
@@ -11,15 +11,16 @@ use Rattle.lang_tree.specs.declared.form.Form.{Form}
 use Rattle.lang_tree.specs.Meaning.{State, put, value}
 use Rattle.lang_tree.specs.Tree.{Deed, havocs, wheres, checks}
 use Rattle.source_tree.specs.Expressions.{Operation, plus, minus, times, over, remainder}
-use Rattle.source_tree.specs.Values.{Gives}
+use Rattle.source_tree.specs.Values.{Gives, IsHeld}
 use Rattle.source_core.specs.Forms as form
 use Rattle.source_core.specs.Forms.{constant_form, variable_form, scaled, is_constant}
 use Rattle.source_core.specs.Preludes.{AllLeave}
 use Rattle.source_core.specs.Elaborated.{operated, product, quotient_by, remainder_by, unless_zero, quotient_behind, is_divisor}
-use Rattle.source_core.specs.Elaborated.{is_unit, divides, havocked, form_behind, related}
+use Rattle.source_core.specs.Elaborated.{held, checked, Elaborated, form_in, is_held, is_unit, divides, havocked, number_at, ranged}
+use Rattle.source_core.specs.Elaborated.{operation_held, operation_on, form_behind, related}
 use Rattle.lang_tree.specs.Tree.{Condition}
 use Rattle.lang_tree.specs.declared.check.Check.{Check}
-use Rattle.lang_tree.specs.declared.check.CheckKind.TheVariants.{Divisor}
+use Rattle.lang_tree.specs.declared.check.CheckKind.TheVariants.{Divisor, Range}
 use Rattle.lang_tree.specs.declared.cond.Rel.TheVariants.{Ne}
 use Rattle.source_core.proofs.forms.Tests.{both_of}
 use Rattle.source_core.proofs.forms.Forms.{value-plus, value-minus, value-scaled, value-constant, value-is_constant}
@@ -27,7 +28,12 @@ use Rattle.source_core.proofs.forms.Over.{FormOver, over_more, over_plus, over_m
 use Rattle.source_core.proofs.forms.Over.{value-agrees}
 use Rattle.source_core.proofs.preludes.Preludes.{leave-then, leave-agrees}
 use Rattle.source_core.proofs.expressions.Division.{rest_is, quotient_divides}
-use Rattle.source_core.proofs.preludes.Parts.{Fits, fits-then, fits-havoc, hidden-is, Keeps}
+use Rattle.source_core.proofs.preludes.Parts.{Fits, fits-none, fits-then, hidden-is, Keeps}
+use Rattle.source_core.proofs.preludes.Held.{take-any, fits-any}
+use Rattle.base_integers.specs.declared.integers.Width.{Width}
+use Rattle.base_integers.specs.declared.integers.Integers.TheVariants.{Mathematical, Machine}
+use Rattle.base_integers.specs.Integers.{greatest, Has}
+use Rattle.base_integers.specs.declared.integers.Integers.{Integers}
 
 -- two operands whose values are those of two forms behind a prelude
 pub record Both (n : ℕ) (R : State → ℤ → ℤ → Type 0) (ds : List Deed) (h : ℕ) (f g : Form) : Type 0 where
@@ -41,34 +47,47 @@ pub record Both (n : ℕ) (R : State → ℤ → ℤ → Type 0) (ds : List Deed
   pub keeps : (x : State) (u v : ℤ) → R x u v → (y : State) × AllLeave ds x y × (u ≡ value f y) × (v ≡ value g y)
 
 -- the number that an operation gives
-abbrev pub Given : Operation → (State → ℤ → ℤ → Type 0) → State → ℤ → Type 0
-Given o R x z = (u v : ℤ) × R x u v × Gives o u v z
+abbrev pub Given : Integers → Operation → (State → ℤ → ℤ → Type 0) → State → ℤ → Type 0
+Given integers o R x z = (u v : ℤ) × R x u v × Gives o u v z × IsHeld integers o u v z
+
+-- which is one of the integers
+pub held-result : (integers : Integers) (o : Operation) (u v z : ℤ) → IsHeld integers o u v z → Has integers z
+held-result integers plus u v z h = h
+held-result integers minus u v z h = h
+held-result integers times u v z h = h
+held-result integers over u v z h = h
+held-result integers remainder u v z h = h.1
 
 -- ---- any number
-any_number : (line n : ℕ) (P : State → ℤ → Type 0) (ds : List Deed) (h : ℕ) → Fits n ds h
-    → ((x : State) (z : ℤ) → P x z → (y : State) × AllLeave ds x y) → Keeps n P (havocked line ds h)
-any_number line n P ds h fits keeps = record {
-  fits = fits-then n h (suc h) ds (havocs h line ∷ []) fits (fits-havoc line h);
+any_number : (integers : Integers) (line n : ℕ) (P : State → ℤ → Type 0) (ds : List Deed) (h : ℕ) → Fits n ds h
+    → ((x : State) (z : ℤ) → P x z → (y : State) × AllLeave ds x y) → ((x : State) (z : ℤ) → P x z → Has integers z)
+    → Keeps integers n P (havocked integers line ds h)
+any_number integers line n P ds h fits keeps has = record {
+  fits = fits-then n h (suc h) ds (havocs h line ∷ held integers line h) fits (fits-any integers line h);
   over = over_variable (suc h) h (omega arith);
   keeps = λ x z p.
       let k = keeps x z p in
-      let y = put (pos 0) k.0 h z in
-      (y, leave-then ds (havocs h line ∷ []) x k.0 y k.1 (y, (z, refl), refl), sym (hidden-is h k.0 z));
+      let y = put (pos 0) k.0 h z in (
+        y,
+        leave-then ds (havocs h line ∷ held integers line h) x k.0 y k.1 (take-any integers line h k.0 z (has x z p)),
+        sym (hidden-is h k.0 z),
+      );
 }
 
 -- ---- products
-times_constant : (f g : Form) (y : State) (u v z : ℤ) → IsTrue (is_constant f) → u ≡ value f y → v ≡ value g y → z ≡ u *ℤ v
+-- a product with a constant is a multiple
+pub times_constant : (f g : Form) (y : State) (u v z : ℤ) → IsTrue (is_constant f) → u ≡ value f y → v ≡ value g y → z ≡ u *ℤ v
     → z ≡ value (scaled f.constant g) y
 times_constant f g y u v z c p q e =
     e ∙ ap₂ (λ (a b : ℤ). a *ℤ b) (p ∙ value-is_constant f y c) q ∙ sym (value-scaled f.constant g y)
 
-keeps-product : (line n : ℕ) (R : State → ℤ → ℤ → Type 0) (ds : List Deed) (h : ℕ) (f g : Form) → Both n R ds h f g
-    → Keeps n (Given times R) (product line ds h f g)
-keeps-product line n R ds h f g b = by (is_constant f) (is_constant g) refl refl
+keeps-product : (integers : Integers) (line n : ℕ) (R : State → ℤ → ℤ → Type 0) (ds : List Deed) (h : ℕ) (f g : Form) → Both n R ds h f g
+    → Keeps integers n (Given integers times R) (product integers line ds h f g)
+keeps-product integers line n R ds h f g b = by (is_constant f) (is_constant g) refl refl
   where
     by : (s t : Bool) → is_constant f ≡ s → is_constant g ≡ t
-        → Keeps n (Given times R) (if s then form_behind ds h (scaled f.constant g)
-        else (if t then form_behind ds h (scaled g.constant f) else havocked line ds h))
+        → Keeps integers n (Given integers times R) (if s then form_behind ds h (scaled f.constant g)
+        else (if t then form_behind ds h (scaled g.constant f) else havocked integers line ds h))
     by true t c d = record {
       fits = b.fits;
       over = over_scaled h f.constant g b.second_over;
@@ -80,7 +99,9 @@ keeps-product line n R ds h f g b = by (is_constant f) (is_constant g) refl refl
       keeps = λ x z p. let k = b.keeps x p.0 p.1 p.2 in
           (k.0, k.1, times_constant g f k.0 p.1 p.0 z d k.3 k.2 (p.3 ∙ *ℤ_comm p.0 p.1));
     }
-    by false false c d = any_number line n (Given times R) ds h b.fits (λ x z p. let k = b.keeps x p.0 p.1 p.2 in (k.0, k.1))
+    by false false c d =
+        any_number integers line n (Given integers times R) ds h b.fits (λ x z p. let k = b.keeps x p.0 p.1 p.2 in (k.0, k.1))
+        (λ x z p. p.4)
 
 -- ---- quotients and remainders by 1 and -1
 -- a number that passes as a unit is 1 or -1
@@ -162,9 +183,11 @@ is_divisor_of g h = let b = both_of (is_constant g) _ h in (b.0, by (int_eq g.co
     by true e k = absurd (true≢false (sym k))
     by false e k = λ z. true≢false (sym ((Decides-int_eq g.constant (pos 0)).1 z) ∙ e)
 
-keeps-quotient : (line n : ℕ) (R : State → ℤ → ℤ → Type 0) (ds : List Deed) (h : ℕ) (f g : Form) → IsTrue (is_divisor g)
-    → Both n R ds h f g → Keeps n (Given over R) (quotient_by line ds h f g.constant)
-keeps-quotient line n R ds h f g divisor b = by (is_unit g.constant) (is_constant f) refl refl
+-- a quotient by a constant
+pub keeps-quotient : (integers : Integers) (line n : ℕ) (R : State → ℤ → ℤ → Type 0) (ds : List Deed) (h : ℕ) (f g : Form)
+    → IsTrue (is_divisor g)
+    → Both n R ds h f g → Keeps integers n (Given integers over R) (quotient_by line ds h f g.constant)
+keeps-quotient integers line n R ds h f g divisor b = by (is_unit g.constant) (is_constant f) refl refl
   where
     c : ℤ
     c = g.constant
@@ -173,7 +196,7 @@ keeps-quotient line n R ds h f g divisor b = by (is_unit g.constant) (is_constan
     d = is_divisor_of g divisor
 
     by : (s t : Bool) → is_unit g.constant ≡ s → is_constant f ≡ t
-        → Keeps n (Given over R) (if s then form_behind ds h (scaled g.constant f)
+        → Keeps integers n (Given integers over R) (if s then form_behind ds h (scaled g.constant f)
         else (if t then form_behind ds h (constant_form (int_div f.constant g.constant))
         else form_behind (quotient_behind line ds h f g.constant) (suc h) (variable_form h)))
     by true t p q = record {
@@ -206,15 +229,17 @@ keeps-quotient line n R ds h f g divisor b = by (is_unit g.constant) (is_constan
           (w.0, w.1, m.3.1 ∙ ap (λ r. int_div m.0 r) v ∙ sym w.2);
     }
 
-keeps-remainder : (line n : ℕ) (R : State → ℤ → ℤ → Type 0) (ds : List Deed) (h : ℕ) (f g : Form) → IsTrue (is_divisor g)
-    → Both n R ds h f g → Keeps n (Given remainder R) (remainder_by line ds h f g.constant)
-keeps-remainder line n R ds h f g divisor b = by (is_unit g.constant) (is_constant f) refl refl
+-- a remainder by one
+pub keeps-remainder : (integers : Integers) (line n : ℕ) (R : State → ℤ → ℤ → Type 0) (ds : List Deed) (h : ℕ) (f g : Form)
+    → IsTrue (is_divisor g)
+    → Both n R ds h f g → Keeps integers n (Given integers remainder R) (remainder_by line ds h f g.constant)
+keeps-remainder integers line n R ds h f g divisor b = by (is_unit g.constant) (is_constant f) refl refl
   where
     d : IsTrue (is_constant g) × (g.constant ≢ pos 0)
     d = is_divisor_of g divisor
 
     by : (s t : Bool) → is_unit g.constant ≡ s → is_constant f ≡ t
-        → Keeps n (Given remainder R) (if s then form_behind ds h (constant_form (pos 0))
+        → Keeps integers n (Given integers remainder R) (if s then form_behind ds h (constant_form (pos 0))
         else (if t then form_behind ds h (constant_form (int_rem f.constant g.constant))
         else form_behind (quotient_behind line ds h f g.constant) (suc h) (form.minus f (scaled g.constant (variable_form h)))))
     by true t p q = record {
@@ -266,40 +291,92 @@ pub leave-check : (ds : List Deed) (about : Check) (c : Condition) (line : ℕ) 
     → AllLeave (ds ++ checks about c line ∷ []) x y
 leave-check ds about c line x y h = leave-then ds (checks about c line ∷ []) x y y h (y, refl, refl)
 
-keeps-unless_zero : (line n : ℕ) (o : Operation) (R : State → ℤ → ℤ → Type 0) (ds : List Deed) (h sign : ℕ) (f g : Form)
-    → Both n R ds h f g → Keeps n (Given o R) (unless_zero line ds h sign g)
-keeps-unless_zero line n o R ds h sign f g b =
+keeps-unless_zero : (integers : Integers) (line n : ℕ) (o : Operation) (R : State → ℤ → ℤ
+    → Type 0) (ds : List Deed) (h sign : ℕ) (f g : Form)
+    → Both n R ds h f g → Keeps integers n (Given integers o R) (unless_zero integers line ds h sign g)
+keeps-unless_zero integers line n o R ds h sign f g b =
     let about : Check = record { kind = Divisor; at = sign } in
     let c = related Ne g (constant_form (pos 0)) in
-    any_number line n (Given o R) (ds ++ checks about c line ∷ []) h (fits-check n ds h about c line b.fits)
+    any_number integers line n (Given integers o R) (ds ++ checks about c line ∷ []) h (fits-check n ds h about c line b.fits)
     (λ x z m. let k = b.keeps x m.0 m.1 m.2 in (k.0, leave-check ds about c line x k.0 k.1))
+    (λ x z m. held-result integers o m.0 m.1 z m.4)
 
 -- ---- all
 -- each number that an operation gives is one that its result may be
-pub keeps-operated : (line n : ℕ) (o : Operation) (sign : ℕ) (R : State → ℤ → ℤ → Type 0) (ds : List Deed) (h : ℕ) (f g : Form)
-    → Both n R ds h f g → Keeps n (Given o R) (operated line o sign ds h f g)
-keeps-operated line n plus sign R ds h f g b = record {
+pub keeps-operated : (integers : Integers) (line n : ℕ) (o : Operation) (sign : ℕ) (R : State → ℤ → ℤ
+    → Type 0) (ds : List Deed) (h : ℕ) (f g : Form)
+    → Both n R ds h f g → Keeps integers n (Given integers o R) (operated integers line o sign ds h f g)
+keeps-operated integers line n plus sign R ds h f g b = record {
   fits = b.fits;
   over = over_plus h f g b.first_over b.second_over;
   keeps = λ x z m. let k = b.keeps x m.0 m.1 m.2 in
       (k.0, k.1, m.3 ∙ ap₂ (λ (a b : ℤ). a +ℤ b) k.2 k.3 ∙ sym (value-plus f g k.0));
 }
-keeps-operated line n minus sign R ds h f g b = record {
+keeps-operated integers line n minus sign R ds h f g b = record {
   fits = b.fits;
   over = over_minus h f g b.first_over b.second_over;
   keeps = λ x z m. let k = b.keeps x m.0 m.1 m.2 in
       (k.0, k.1, m.3 ∙ ap₂ (λ (a b : ℤ). a -ℤ b) k.2 k.3 ∙ sym (value-minus f g k.0));
 }
-keeps-operated line n times sign R ds h f g b = keeps-product line n R ds h f g b
-keeps-operated line n over sign R ds h f g b = by (is_divisor g) refl
+keeps-operated integers line n times sign R ds h f g b = keeps-product integers line n R ds h f g b
+keeps-operated integers line n over sign R ds h f g b = by (is_divisor g) refl
   where
     by : (t : Bool) → is_divisor g ≡ t
-        → Keeps n (Given over R) (if t then quotient_by line ds h f g.constant else unless_zero line ds h sign g)
-    by true e = keeps-quotient line n R ds h f g e b
-    by false e = keeps-unless_zero line n over R ds h sign f g b
-keeps-operated line n remainder sign R ds h f g b = by (is_divisor g) refl
+        → Keeps integers n (Given integers over R) (if t then quotient_by line ds h f g.constant else unless_zero integers line ds h sign g)
+    by true e = keeps-quotient integers line n R ds h f g e b
+    by false e = keeps-unless_zero integers line n over R ds h sign f g b
+keeps-operated integers line n remainder sign R ds h f g b = by (is_divisor g) refl
   where
     by : (t : Bool) → is_divisor g ≡ t
-        → Keeps n (Given remainder R) (if t then remainder_by line ds h f g.constant else unless_zero line ds h sign g)
-    by true e = keeps-remainder line n R ds h f g e b
-    by false e = keeps-unless_zero line n remainder R ds h sign f g b
+        → Keeps integers n (Given integers remainder R)
+        (if t then remainder_by line ds h f g.constant else unless_zero integers line ds h sign g)
+    by true e = keeps-remainder integers line n R ds h f g e b
+    by false e = keeps-unless_zero integers line n remainder R ds h sign f g b
+
+-- ---- checks that results are among the integers
+-- what is kept of an operation is kept of it with such a check behind it
+pub keeps-ranged : (integers : Integers) (line n : ℕ) (P : State → ℤ → Type 0) (place : ℕ) (holds : Width → Form → Condition)
+    (e : Elaborated) → Keeps integers n P e → Keeps integers n P (ranged integers line place holds e)
+keeps-ranged Mathematical line n P place holds e k = k
+keeps-ranged (Machine width) line n P place holds e k =
+    let about : Check = record { kind = Range; at = place } in
+    let c = holds width (form_in e.result) in
+    record {
+      fits = fits-check n e.prelude e.next about c line k.fits;
+      over = k.over;
+      keeps = λ x z p. let r = k.keeps x z p in (r.0, leave-check e.prelude about c line x r.0 r.1, r.2);
+    }
+
+-- each number that an operation gives, and that is one of the integers, is one that its result may be
+pub keeps-operation_on : (integers : Integers) (line n : ℕ) (o : Operation) (sign : ℕ) (R : State → ℤ → ℤ → Type 0)
+    (ds : List Deed) (h : ℕ) (f g : Form) → Both n R ds h f g
+    → Keeps integers n (Given integers o R) (operation_on integers line o sign ds h f g)
+keeps-operation_on integers line n o sign R ds h f g b =
+    keeps-ranged integers line n (Given integers o R) sign (λ width r. operation_held width o f g r)
+    (operated integers line o sign ds h f g) (keeps-operated integers line n o sign R ds h f g b)
+
+-- a number of the text is its own result
+pub keeps-number_at : (integers : Integers) (line h v at : ℕ) → Keeps integers h (λ x z. z ≡ pos v) (number_at integers line v at h)
+keeps-number_at Mathematical line h v at = record {
+  fits = fits-none h;
+  over = over_constant h (pos v);
+  keeps = λ x z m. (x, refl, m ∙ sym (value-constant (pos v) x));
+}
+keeps-number_at (Machine width) line h v at = by (nat_le v (greatest width))
+  where
+    by : (t : Bool) → Keeps (Machine width) h (λ x z. z ≡ pos v) (if t then form_behind [] h (constant_form (pos v))
+        else form_behind (checked line Range at (is_held width (constant_form (pos v))) ∷ []) h (constant_form (pos v)))
+    by true = record {
+      fits = fits-none h;
+      over = over_constant h (pos v);
+      keeps = λ x z m. (x, refl, m ∙ sym (value-constant (pos v) x));
+    }
+    by false = record {
+      fits = fits-check h [] h record { kind = Range; at = at } (is_held width (constant_form (pos v))) line (fits-none h);
+      over = over_constant h (pos v);
+      keeps = λ x z m. (
+        x,
+        leave-check [] record { kind = Range; at = at } (is_held width (constant_form (pos v))) line x x refl,
+        m ∙ sym (value-constant (pos v) x),
+      );
+    }

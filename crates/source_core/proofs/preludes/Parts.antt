@@ -1,6 +1,6 @@
 -- What is kept of an operand in the core: as any result, as a number, and as a condition.
 use Rattle.std.proofs.Common.{◌≡◌, inl, inr, ◌≤◌, ℕ, suc, Bool, true, false, List, [], ◌∷◌, ◌++◌}
-use Rattle.std.proofs.Common.{refl, sym, subst, ◌∙◌, arith}
+use Rattle.std.proofs.Common.{refl, sym, ◌∙◌, arith}
 use Rattle.std.specs.Prelude.{ℤ, pos, ◌-ℤ◌}
 use Rattle.std.proofs.lemmas.Int.{ints}
 use Rattle.lang_tree.specs.declared.form.Form.{Form}
@@ -8,15 +8,16 @@ use Rattle.lang_tree.specs.Tree.{Condition}
 use Rattle.lang_tree.specs.Meaning.{State, put, value, MayBe}
 use Rattle.lang_tree.proofs.Put.{get_or-put_same}
 use Rattle.lang_tree.specs.Tree.{Deed, havocs, wheres}
-use Rattle.source_tree.specs.Values.{truth_number, Tells}
-use Rattle.source_core.specs.Forms.{constant_form, variable_form}
+use Rattle.source_tree.specs.Values.{Tells}
+use Rattle.source_core.specs.Forms.{variable_form}
 use Rattle.source_core.specs.Preludes.{AllLeave}
 use Rattle.source_core.specs.Laws.{Agree, MayResult}
-use Rattle.source_core.specs.Elaborated.{Result, a_form, a_truth, any, Elaborated, Numbered, Tested, numbered, tested}
-use Rattle.source_core.specs.Elaborated.{as_number, as_condition, selects}
-use Rattle.source_core.proofs.forms.Forms.{value-minus, value-constant, value-variable}
-use Rattle.source_core.proofs.forms.Over.{FormOver, over_variable, over_constant, ConditionOver, value-agrees, may_be-agrees, has_truth}
+use Rattle.source_core.specs.Elaborated.{Result, a_form, a_truth, any, Elaborated, Numbered, Tested}
+use Rattle.source_core.specs.Elaborated.{selects}
+use Rattle.source_core.proofs.forms.Forms.{value-minus, value-variable}
+use Rattle.source_core.proofs.forms.Over.{FormOver, ConditionOver, value-agrees, may_be-agrees, has_truth}
 use Rattle.source_core.proofs.preludes.Preludes.{leave-then, WritesFrom, writes-then, writes-less, leave-agrees}
+use Rattle.base_integers.specs.declared.integers.Integers.{Integers}
 
 -- a prelude stops no run
 abbrev pub Goes : List Deed → Type 0
@@ -54,13 +55,13 @@ fits-then n m k ds es f g = record {
 }
 
 -- the values that an operand may have are those of what is left of it
-pub record Keeps (n : ℕ) (P : State → ℤ → Type 0) (e : Elaborated) : Type 0 where
+pub record Keeps (integers : Integers) (n : ℕ) (P : State → ℤ → Type 0) (e : Elaborated) : Type 0 where
   -- the prelude takes the hidden variables from n up to the next one
   pub fits : Fits n e.prelude e.next
   -- the result has no variables but those that are taken
   pub over : ResultOver e.next e.result
   -- behind the prelude the result may be each value of the operand
-  pub keeps : (x : State) (z : ℤ) → P x z → (y : State) × AllLeave e.prelude x y × MayResult e.result y z
+  pub keeps : (x : State) (z : ℤ) → P x z → (y : State) × AllLeave e.prelude x y × MayResult integers e.result y z
 
 -- the same of an operand that is a number
 pub record KeepsNumber (n : ℕ) (P : State → ℤ → Type 0) (e : Numbered) : Type 0 where
@@ -129,71 +130,4 @@ goes-given line c h f g o p q = record {
   grows = omega arith;
   writes = (omega arith, tt);
   goes = λ x. let m = has_truth c x in let r = given-one line m.0 c h f g x o p q m.1 in (r.0, r.1);
-}
-
--- the deed that gives a hidden variable any value takes this variable alone
-pub fits-havoc : (line h : ℕ) → Fits h (havocs h line ∷ []) (suc h)
-fits-havoc line h = record {
-  grows = omega arith;
-  writes = (omega arith, tt);
-  goes = λ x. (put (pos 0) x h (pos 0), (put (pos 0) x h (pos 0), (pos 0, refl), refl));
-}
-
--- ---- results as numbers and as conditions
-truth-form : (t : Bool) (x : State) → value (one_of t (constant_form (pos 1)) (constant_form (pos 0))) x ≡ truth_number t
-truth-form true x = value-constant (pos 1) x
-truth-form false x = value-constant (pos 0) x
-
-keeps-as_number : (line n : ℕ) (P : State → ℤ → Type 0) (ds : List Deed) (h : ℕ) (r : Result) → Fits n ds h → ResultOver h r
-    → ((x : State) (z : ℤ) → P x z → (y : State) × AllLeave ds x y × MayResult r y z) → KeepsNumber n P (as_number line ds h r)
-keeps-as_number line n P ds h (a_form f) fits over keeps = record { fits = fits; over = over; keeps = keeps }
-keeps-as_number line n P ds h (a_truth c) fits over keeps =
-    let one = constant_form (pos 1) in
-    let none = constant_form (pos 0) in
-    let more = havocs h line ∷ wheres (selects c h one none) line ∷ [] in
-    record {
-      fits = fits-then n h (suc h) ds more fits (goes-given line c h one none over (over_constant h (pos 1)) (over_constant h (pos 0)));
-      over = over_variable (suc h) h (omega arith);
-      keeps = λ x z p.
-          let k = keeps x z p in
-          let t = k.2.0 in
-          let g = given-one line t c h one none k.0 over (over_constant h (pos 1)) (over_constant h (pos 0)) k.2.1 in
-          (g.0, leave-then ds more x k.0 g.0 k.1 g.1, k.2.2 ∙ sym (truth-form t k.0) ∙ g.2);
-    }
-keeps-as_number line n P ds h any fits over keeps = record {
-  fits = fits-then n h (suc h) ds (havocs h line ∷ []) fits (fits-havoc line h);
-  over = over_variable (suc h) h (omega arith);
-  keeps = λ x z p.
-      let k = keeps x z p in
-      let y = put (pos 0) k.0 h z in
-      (y, leave-then ds (havocs h line ∷ []) x k.0 y k.1 (y, (z, refl), refl), sym (hidden-is h k.0 z));
-}
-
--- what is kept of an operand is kept of it as a number
-pub keeps-number : (line n : ℕ) (P : State → ℤ → Type 0) (e : Elaborated) → Keeps n P e → KeepsNumber n P (numbered line e)
-keeps-number line n P e k = keeps-as_number line n P e.prelude e.next e.result k.fits k.over k.keeps
-
-tells-one : (t b : Bool) (z : ℤ) → z ≡ truth_number t → Tells b z → t ≡ b
-tells-one true true z e h = refl
-tells-one true false z e h = absurd (omega (arith, ints, e, h))
-tells-one false true z e h = absurd (h e)
-tells-one false false z e h = refl
-
-tells-result : (r : Result) (y : State) (z : ℤ) (t : Bool) → MayResult r y z → Tells t z → MayBe t (as_condition r) y
-tells-result (a_form f) y z true m h = λ e. h (m ∙ e)
-tells-result (a_form f) y z false m h = λ n. n (sym m ∙ h)
-tells-result (a_truth c) y z t m h = subst (λ b. MayBe b c y) (tells-one m.0 t z m.2 h) m.1
-tells-result any y z t m h = tt
-
-condition-result : (n : ℕ) (r : Result) → ResultOver n r → ConditionOver n (as_condition r)
-condition-result n (a_form f) o = o
-condition-result n (a_truth c) o = o
-condition-result n any o = tt
-
--- what is kept of an operand is kept of it as a condition
-pub keeps-truth : (n : ℕ) (P : State → ℤ → Type 0) (e : Elaborated) → Keeps n P e → KeepsTruth n P (tested e)
-keeps-truth n P e k = record {
-  fits = k.fits;
-  over = condition-result e.next e.result k.over;
-  keeps = λ x z p. let r = k.keeps x z p in (r.0, r.1, λ t h. tells-result e.result r.0 z t r.2 h);
 }

@@ -16,7 +16,7 @@ use Rattle.source_tree.specs.Statements.{Change, sets, evaluates}
 use Rattle.source_tree.specs.Statements.{declares, changes, assumes, asserts, never, branch, loop, jump, label}
 use Rattle.source_core.specs.Forms.{constant_form}
 use Rattle.source_core.specs.Preludes.{MayFail}
-use Rattle.source_core.specs.Laws.{is_over, Agree}
+use Rattle.source_core.specs.Laws.{is_over, Agree, AreIn}
 use Rattle.source_core.specs.RunLaws.{is_change_over, are_statements_over, ChecksAreKept}
 use Rattle.source_core.specs.Elaborated.{Result, a_form, a_truth, any, Elaborated, elaborated, numbered}
 use Rattle.source_core.specs.Core.{one, taken, change_deeds, condition_of, kind_of, core_in}
@@ -25,13 +25,17 @@ use Rattle.source_core.proofs.forms.Tests.{both_of}
 use Rattle.source_core.proofs.forms.Forms.{value-constant}
 use Rattle.source_core.proofs.preludes.Preludes.{fail-before}
 use Rattle.source_core.proofs.expressions.Breaking.{breaks-agrees, some_breaks-agrees}
-use Rattle.source_core.proofs.expressions.Broken.{broken, some_broken, fail-number}
+use Rattle.source_core.proofs.expressions.Broken.{broken, some_broken}
+use Rattle.source_core.proofs.expressions.Failing.{fail-number}
+use Rattle.source_core.proofs.expressions.Ranges.{in-agrees}
 use Rattle.source_core.proofs.runs.Work.{deed_items, deeds_work-is, image}
 use Rattle.source_core.proofs.runs.Reach.{Reaches, reaches-same, reaches-step, last_of, do-deeds, Fails, fails-behind, fails-here}
 use Rattle.source_core.proofs.runs.Reach.{fail-deeds}
 use Rattle.source_core.proofs.runs.Steps.{Same, core-behind, condition-kept}
 use Rattle.source_core.proofs.runs.Simulated.{condition_over}
+use Rattle.source_core.proofs.runs.Ranges.{states-in}
 use Rattle.source_core.proofs.runs.Runs.{Among, keep, starts, contains-among, among-contains}
+use Rattle.base_integers.specs.declared.integers.Integers.{Integers}
 
 -- ---- what a configuration comes to
 -- where the deeds that stand first may fail
@@ -43,43 +47,48 @@ fails-first n exit c ds m rest about w f =
     let is : at ≡ c = ap (λ v. let r : core.Configuration = record { work = v; state = c.state } in r) (sym w) in
     subst (λ k. Fails n exit k about) is (fail-deeds n exit ds m rest c.state about f)
 
-taken-fails : (line var : ℕ) (e : Elaborated) (x : State) (about : Check) → MayFail e.prelude x about
-    → MayFail (taken var line e e.result) x about
-taken-fails line var e x about f = by e.result
+taken-fails : (integers : Integers) (line var : ℕ) (e : Elaborated) (x : State) (about : Check) → MayFail e.prelude x about
+    → MayFail (taken integers var line e e.result) x about
+taken-fails integers line var e x about f = by e.result
   where
-    by : (r : Result) → MayFail (taken var line e r) x about
-    by (a_form g) = fail-before (numbered line e).prelude _ x about (fail-number line e x about f)
-    by (a_truth c) = fail-before (numbered line e).prelude _ x about (fail-number line e x about f)
+    by : (r : Result) → MayFail (taken integers var line e r) x about
+    by (a_form g) = fail-before (numbered integers line e).prelude _ x about (fail-number integers line e x about f)
+    by (a_truth c) = fail-before (numbered integers line e).prelude _ x about (fail-number integers line e x about f)
     by any = fail-before e.prelude _ x about f
 
-change-fails : (n : ℕ) (g : Change) (x s : State) (about : Check) → IsTrue (is_change_over n g) → Agree n x s → ChangeBreaks g x about
-    → MayFail (change_deeds n g) s about
-change-fails n (sets var e line) x s about o a b =
+change-fails : (integers : Integers) (n : ℕ) (g : Change) (x s : State) (about : Check) → IsTrue (is_change_over n g) → AreIn integers n x
+    → Agree n x s
+    → ChangeBreaks integers g x about
+    → MayFail (change_deeds integers n g) s about
+change-fails integers n (sets var e line) x s about o i a b =
     let p = both_of (nat_lt var n) (is_over n e) o in
-    taken-fails line var (elaborated line e n) s about
-    (broken line e n n (omega arith) p.1 s about (breaks-agrees e n x s about p.1 a b))
-change-fails n (evaluates es line) x s about o a b =
-    some_broken line es n n (omega arith) o s about (some_breaks-agrees es n x s about o a b)
+    taken-fails integers line var (elaborated integers line e n) s about
+    (broken integers line e n n (omega arith) p.1 s (in-agrees integers n x s a i) about (breaks-agrees integers e n x s about p.1 a b))
+change-fails integers n (evaluates es line) x s about o i a b =
+    some_broken integers line es n n (omega arith) o s (in-agrees integers n x s a i) about
+    (some_breaks-agrees integers es n x s about o a b)
 
-condition-fails : (n line : ℕ) (e : Expression) (x s : State) (about : Check) → IsTrue (is_over n e) → Agree n x s → Breaks e x about
-    → MayFail (condition_of n line e).prelude s about
-condition-fails n line e x s about o a b = broken line e n n (omega arith) o s about (breaks-agrees e n x s about o a b)
+condition-fails : (integers : Integers) (n line : ℕ) (e : Expression) (x s : State) (about : Check) → IsTrue (is_over n e)
+    → AreIn integers n x → Agree n x s → Breaks integers e x about
+    → MayFail (condition_of integers n line e).prelude s about
+condition-fails integers n line e x s about o i a b = broken integers line e n n (omega arith) o s (in-agrees integers n x s a i) about
+    (breaks-agrees integers e n x s about o a b)
 
 never_true : (x : State) → MayBe false (tree.compare Ne (constant_form (pos 0))) x
 never_true x = λ d. d (value-constant (pos 0) x)
 
 -- an assertion that is false
-assert-fails : (n exit line at m : ℕ) (e : Expression) (rest : List Item) (x : State) (c : core.Configuration)
-    → Same n record { work = node (asserts e at line) m ∷ rest; state = x } c → May e x (pos 0)
+assert-fails : (integers : Integers) (n exit line at m : ℕ) (e : Expression) (rest : List Item) (x : State) (c : core.Configuration)
+    → Same integers n record { work = node (asserts e at line) m ∷ rest; state = x } c → May integers e x (pos 0)
     → Fails n exit c record { kind = Assert; at = at }
-assert-fails n exit line at m e rest x c s z =
-    let con = condition_of n line e in
+assert-fails integers n exit line at m e rest x c s z =
+    let con = condition_of integers n line e in
     let about : Check = record { kind = Assert; at = at } in
-    let k = condition-kept n line e x c.state (pos 0) s.over.0 s.agree z in
+    let k = condition-kept integers n line e x c.state (pos 0) s.over.0 s.agree z in
     let last = tree.cons (tree.check about con.condition line) (one (tree.only_where con.condition line)) in
-    let behind = core.node (tree.only_where con.condition line) (m + 0) ∷ image n rest in
+    let behind = core.node (tree.only_where con.condition line) (m + 0) ∷ image integers n rest in
     let here = core.node (tree.check about con.condition line) m in
-    let w = s.work ∙ core-behind con.prelude last m (image n rest) in
+    let w = s.work ∙ core-behind con.prelude last m (image integers n rest) in
     let start : core.Configuration = record { work = deed_items m con.prelude (here ∷ behind); state = c.state } in
     let is : start ≡ c = ap (λ v. let r : core.Configuration = record { work = v; state = c.state } in r) (sym w) in
     let left = ap (λ v. left_at n v c.state) (sym w) ∙ s.left in
@@ -88,48 +97,53 @@ assert-fails n exit line at m e rest x c s z =
     (do-deeds n exit con.prelude m (here ∷ behind) c.state k.0 left k.1)
     (fails-here n exit about con.condition line m behind k.0 (k.2 false refl)))
 
-item-fails : (n exit : ℕ) (item : Item) (rest : List Item) (x : State) (c : core.Configuration) (about : Check)
-    → Same n record { work = item ∷ rest; state = x } c → ItemBreaks item x about → Fails n exit c about
-item-fails n exit (mark p) rest x c about s b = absurd b
-item-fails n exit (change g) rest x c about s b =
-    fails-first n exit c (change_deeds n g) 0 (image n rest) about (s.work ∙ deeds_work-is (change_deeds n g) (image n rest))
-    (change-fails n g x c.state about s.over.0 s.agree b)
-item-fails n exit (node (declares var line) m) rest x c about s b = absurd b
-item-fails n exit (node (changes g) m) rest x c about s b =
-    fails-first n exit c (change_deeds n g) m (image n rest) about (s.work ∙ core-behind (change_deeds n g) tree.nil m (image n rest))
-    (change-fails n g x c.state about s.over.0 s.agree b)
-item-fails n exit (node (assumes e line) m) rest x c about s b =
-    let con = condition_of n line e in
-    fails-first n exit c con.prelude m _ about (s.work ∙ core-behind con.prelude (one (tree.assume con.condition line)) m (image n rest))
-    (condition-fails n line e x c.state about s.over.0 s.agree b)
-item-fails n exit (node (asserts e at line) m) rest x c about s b =
-    let con = condition_of n line e in
+item-fails : (integers : Integers) (n exit : ℕ) (item : Item) (rest : List Item) (x : State) (c : core.Configuration) (about : Check)
+    → Same integers n record { work = item ∷ rest; state = x } c → AreIn integers n x → ItemBreaks integers item x about
+    → Fails n exit c about
+item-fails integers n exit (mark p) rest x c about s i b = absurd b
+item-fails integers n exit (change g) rest x c about s i b =
+    fails-first n exit c (change_deeds integers n g) 0 (image integers n rest) about (s.work
+    ∙ deeds_work-is (change_deeds integers n g) (image integers n rest))
+    (change-fails integers n g x c.state about s.over.0 i s.agree b)
+item-fails integers n exit (node (declares var line) m) rest x c about s i b = absurd b
+item-fails integers n exit (node (changes g) m) rest x c about s i b =
+    fails-first n exit c (change_deeds integers n g) m (image integers n rest) about (s.work
+    ∙ core-behind (change_deeds integers n g) tree.nil m (image integers n rest))
+    (change-fails integers n g x c.state about s.over.0 i s.agree b)
+item-fails integers n exit (node (assumes e line) m) rest x c about s i b =
+    let con = condition_of integers n line e in
+    fails-first n exit c con.prelude m _ about (s.work ∙ core-behind con.prelude (one (tree.assume con.condition line)) m
+    (image integers n rest))
+    (condition-fails integers n line e x c.state about s.over.0 i s.agree b)
+item-fails integers n exit (node (asserts e at line) m) rest x c about s i b =
+    let con = condition_of integers n line e in
     let last = tree.cons (tree.check record { kind = Assert; at = at } con.condition line) (one (tree.only_where con.condition line)) in
     ⊎_elim
-    (λ k. fails-first n exit c con.prelude m _ about (s.work ∙ core-behind con.prelude last m (image n rest))
-    (condition-fails n line e x c.state about s.over.0 s.agree k))
-    (λ k. subst (λ a. Fails n exit c a) (sym k.1) (assert-fails n exit line at m e rest x c s k.0)) b
-item-fails n exit (node (never at line) m) rest x c about s b =
+    (λ k. fails-first n exit c con.prelude m _ about (s.work ∙ core-behind con.prelude last m (image integers n rest))
+    (condition-fails integers n line e x c.state about s.over.0 i s.agree k))
+    (λ k. subst (λ a. Fails n exit c a) (sym k.1) (assert-fails integers n exit line at m e rest x c s k.0)) b
+item-fails integers n exit (node (never at line) m) rest x c about s i b =
     let none = tree.compare Ne (constant_form (pos 0)) in
     let here : Check = record { kind = Error; at = at } in
     let is = ap (λ v. let r : core.Configuration = record { work = v; state = c.state } in r) (sym s.work) in
     subst (λ a. Fails n exit c a) (sym b)
-    (subst (λ d. Fails n exit d here) is (fails-here n exit here none line m (image n rest) c.state (never_true c.state)))
-item-fails n exit (node (branch e first second line) m) rest x c about s b =
-    let con = condition_of n line e in
-    let last = one (tree.branch con.condition (core_in n first) (core_in n second) line) in
-    fails-first n exit c con.prelude m _ about (s.work ∙ core-behind con.prelude last m (image n rest))
-    (condition-fails n line e x c.state about
-    (both_of (is_over n e) (are_statements_over n first && are_statements_over n second) s.over.0).0 s.agree b)
-item-fails n exit (node (loop kind e body line) m) rest x c about s b = absurd b
-item-fails n exit (node (jump kind line) m) rest x c about s b = absurd b
-item-fails n exit (node (label name line) m) rest x c about s b = absurd b
-item-fails n exit (turn kind e body line m) rest x c about s b =
-    let con = condition_of n line e in
-    let item = core.turn (kind_of n kind con.prelude) con.condition (core_in n body) line m in
-    fails-first n exit c con.prelude 0 (item ∷ image n rest) about (s.work ∙ deeds_work-is con.prelude (item ∷ image n rest))
-    (condition-fails n line e x c.state about (condition_over n kind e body line s.over.0) s.agree b)
-item-fails n exit (end kind e body line m) rest x c about s b = absurd b
+    (subst (λ d. Fails n exit d here) is (fails-here n exit here none line m (image integers n rest) c.state (never_true c.state)))
+item-fails integers n exit (node (branch e first second line) m) rest x c about s i b =
+    let con = condition_of integers n line e in
+    let last = one (tree.branch con.condition (core_in integers n first) (core_in integers n second) line) in
+    fails-first n exit c con.prelude m _ about (s.work ∙ core-behind con.prelude last m (image integers n rest))
+    (condition-fails integers n line e x c.state about
+    (both_of (is_over n e) (are_statements_over n first && are_statements_over n second) s.over.0).0 i s.agree b)
+item-fails integers n exit (node (loop kind e body line) m) rest x c about s i b = absurd b
+item-fails integers n exit (node (jump kind line) m) rest x c about s i b = absurd b
+item-fails integers n exit (node (label name line) m) rest x c about s i b = absurd b
+item-fails integers n exit (turn kind e body line m) rest x c about s i b =
+    let con = condition_of integers n line e in
+    let item = core.turn (kind_of integers n kind con.prelude) con.condition (core_in integers n body) line m in
+    fails-first n exit c con.prelude 0 (item ∷ image integers n rest) about (s.work
+    ∙ deeds_work-is con.prelude (item ∷ image integers n rest))
+    (condition-fails integers n line e x c.state about (condition_over n kind e body line s.over.0) i s.agree b)
+item-fails integers n exit (end kind e body line m) rest x c about s i b = absurd b
 
 -- ---- the law
 -- the way to a configuration among those of a path
@@ -146,15 +160,16 @@ last-among c (b ∷ bs) d e = inr (last-among b bs d e)
 
 -- a check that is true in each run of the core is true in each run of the source
 pub checks-kept : ChecksAreKept
-checks-kept n body o about true_in_core [] r = absurd r
-checks-kept n body o about true_in_core (s ∷ ss) r = λ t h item rest w b.
-    let exit = exit_of n body in
-    let c : core.Configuration = record { work = core.start_work (core_in n body); state = s.state } in
-    let k = keep n exit s ss c (starts n body s o r.0 r.1) r.2 in
+checks-kept integers n body o about true_in_core [] r = absurd r
+checks-kept integers n body o about true_in_core (s ∷ ss) r = λ t h item rest w b.
+    let exit = exit_of integers n body in
+    let c : core.Configuration = record { work = core.start_work (core_in integers n body); state = s.state } in
+    let k = keep integers n exit s ss c (starts integers n body s o r.0 r.1) r.3 in
     let d = k.each t (contains-among s ss t h) in
-    let same = subst (λ v. Same n record { work = v; state = t.state } d.0) w d.2 in
+    let same = subst (λ v. Same integers n record { work = v; state = t.state } d.0) w d.2 in
     let f = fails-behind n exit c d.0 about (cut n exit c k.path d.0 k.follows d.1)
-    (item-fails n exit item rest t.state d.0 about same b) in
+    (item-fails integers n exit item rest t.state d.0 about same
+    (states-in integers n body o (s ∷ ss) r t h) b) in
     let now : core.Configuration = record { work = core.node (tree.check about f.cond f.line) f.number ∷ f.rest; state = f.state } in
     true_in_core (c ∷ f.reaches.path) (refl, r.1, f.reaches.follows) f.cond now
     (among-contains c f.reaches.path now (last-among c f.reaches.path now f.reaches.ends)) (f.line, f.number, f.rest, refl) f.fails

@@ -17,6 +17,7 @@ use Rattle.source_core.proofs.runs.Work.{image, image-nodes_then}
 use Rattle.source_core.proofs.runs.Reach.{last_of, follows-then}
 use Rattle.source_core.proofs.runs.Steps.{Same, work_over, over-nodes}
 use Rattle.source_core.proofs.runs.Simulated.{simulated}
+use Rattle.base_integers.specs.declared.integers.Integers.{Integers}
 
 -- a configuration is one of a list, or the one before it
 abbrev pub Among : {C : Type 0} → C → List C → C → Type 0
@@ -24,13 +25,13 @@ Among c [] d = d ≡ c
 Among c (e ∷ es) d = (d ≡ c) ⊎ Among e es d
 
 -- a run of the core that is at each configuration of this one
-pub record Kept (n exit : ℕ) (s : Configuration) (ss : List Configuration) (c : core.Configuration) : Type 0 where
+pub record Kept (integers : Integers) (n exit : ℕ) (s : Configuration) (ss : List Configuration) (c : core.Configuration) : Type 0 where
   -- the configurations of the core behind its first
   pub path : List core.Configuration
   -- each is a step from the one before it
   pub follows : core.Follows n exit c path
   -- for each configuration of the source there is one of the core that stands for it
-  pub each : (t : Configuration) → Among s ss t → (d : core.Configuration) × Among c path d × Same n t d
+  pub each : (t : Configuration) → Among s ss t → (d : core.Configuration) × Among c path d × Same integers n t d
 
 -- the one before a list is among both
 pub among-first : {C : Type 0} (c : C) (cs : List C) → Among c cs c
@@ -43,24 +44,25 @@ among-later c [] ds d h = h
 among-later c (e ∷ cs) ds d h = inr (among-later e cs ds d h)
 
 -- steps of the source are kept from a configuration of the core that stands for the first
-pub keep : (n exit : ℕ) (s : Configuration) (ss : List Configuration) (c : core.Configuration) → Same n s c → Follows n exit s ss
-    → Kept n exit s ss c
-keep n exit s [] c same f = record {
+pub keep : (integers : Integers) (n exit : ℕ) (s : Configuration) (ss : List Configuration) (c : core.Configuration)
+    → Same integers n s c → Follows integers n exit s ss
+    → Kept integers n exit s ss c
+keep integers n exit s [] c same f = record {
   path = [];
   follows = tt;
-  each = λ t h. (c, refl, subst (λ v. Same n v c) (sym h) same);
+  each = λ t h. (c, refl, subst (λ v. Same integers n v c) (sym h) same);
 }
-keep n exit s (t ∷ ts) c same f =
+keep integers n exit s (t ∷ ts) c same f =
     let st = f.0 in
-    let at : Same n record { work = st.item ∷ st.rest; state = s.state } c =
-    subst (λ w. Same n record { work = w; state = s.state } c) st.first same in
-    let r = simulated n exit st.item st.rest t.work s.state t.state c at st.does in
-    let k = keep n exit t ts r.0 r.2 f.1 in
+    let at : Same integers n record { work = st.item ∷ st.rest; state = s.state } c =
+    subst (λ w. Same integers n record { work = w; state = s.state } c) st.first same in
+    let r = simulated integers n exit st.item st.rest t.work s.state t.state c at st.does in
+    let k = keep integers n exit t ts r.0 r.2 f.1 in
     record {
       path = r.1.path ++ k.path;
       follows = follows-then n exit c r.1.path k.path r.1.follows (subst (λ v. core.Follows n exit v k.path) (sym r.1.ends) k.follows);
       each = λ u h. ⊎_elim
-          (λ e. (c, among-first c (r.1.path ++ k.path), subst (λ v. Same n v c) (sym e) same))
+          (λ e. (c, among-first c (r.1.path ++ k.path), subst (λ v. Same integers n v c) (sym e) same))
           (λ m. let g = k.each u m in
           (g.0, among-later c r.1.path k.path g.0 (subst (λ v. Among v k.path g.0) (sym r.1.ends) g.1), g.2)) h;
     }
@@ -71,15 +73,17 @@ pub take-all : (n : ℕ) (x : State) → length x ≡ n → take n x ≡ x
 take-all n x e = ap (λ k. take k x) (sym e) ∙ take-length x
 
 -- where the core starts stands for where the source starts, in the same state
-pub starts : (n : ℕ) (body : Statements) (s : Configuration) → IsTrue (are_statements_over n body) → s.work ≡ start_work n body
-    → length s.state ≡ n → Same n s record { work = core.start_work (core_in n body); state = s.state }
-starts n body s o w l = record {
-  work = sym (ap (image n) w ∙ ap (λ r. core.mark 0 ∷ r) (image-nodes_then n body 1 (mark (exit_of n body) ∷ [])));
+pub starts : (integers : Integers) (n : ℕ) (body : Statements) (s : Configuration) → IsTrue (are_statements_over n body)
+    → s.work ≡ start_work integers n body
+    → length s.state ≡ n → Same integers n s record { work = core.start_work (core_in integers n body); state = s.state }
+starts integers n body s o w l = record {
+  work = sym (ap (image integers n) w ∙ ap (λ r. core.mark 0 ∷ r) (image-nodes_then integers n body 1 (mark
+      (exit_of integers n body) ∷ [])));
   agree = agree_refl n s.state;
   size = l;
   enough = omega (arith, l);
   left = take-all n s.state l;
-  over = subst (work_over n) (sym w) (tt, over-nodes n body 1 (mark (exit_of n body) ∷ []) o (tt, tt));
+  over = subst (work_over n) (sym w) (tt, over-nodes integers n body 1 (mark (exit_of integers n body) ∷ []) o (tt, tt));
 }
 
 -- ---- elements of lists
@@ -114,19 +118,19 @@ taken_ends n x e = let k = length-take n x in let t = ap (λ (s : State). length
 -- ---- the law
 -- for each run of the source there is one of its core
 pub runs-kept : RunsAreKept
-runs-kept n body o [] r = absurd r
-runs-kept n body o (s ∷ ss) r =
-    let c : core.Configuration = record { work = core.start_work (core_in n body); state = s.state } in
-    let k = keep n (exit_of n body) s ss c (starts n body s o r.0 r.1) r.2 in (
+runs-kept integers n body o [] r = absurd r
+runs-kept integers n body o (s ∷ ss) r =
+    let c : core.Configuration = record { work = core.start_work (core_in integers n body); state = s.state } in
+    let k = keep integers n (exit_of integers n body) s ss c (starts integers n body s o r.0 r.1) r.3 in (
       c ∷ k.path,
       (refl, r.1, k.follows),
       λ t h p at.
           let d = k.each t (contains-among s ss t h) in
-          let w = d.2.work ∙ ap (image n) at.1 in
+          let w = d.2.work ∙ ap (image integers n) at.1 in
           let short = taken_ends n d.0.state (ap (λ v. left_at n v d.0.state) (sym w) ∙ d.2.left) in (
             d.0,
             among-contains c k.path d.0 d.1,
-            (image n at.0, w),
+            (image integers n at.0, w),
             same_state n d.0.state t.state (omega (arith, short, d.2.enough)) d.2.size (agree_sym n t.state d.0.state d.2.agree),
           ),
     )

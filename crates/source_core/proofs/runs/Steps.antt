@@ -16,20 +16,23 @@ use Rattle.source_tree.specs.Values.{Tells, May}
 use Rattle.source_tree.specs.Statements.{Change, sets, evaluates}
 use Rattle.source_tree.specs.Statements.{Statements, loop, nil, cons}
 use Rattle.source_core.specs.Preludes.{AllLeave}
-use Rattle.source_core.specs.Laws.{is_over, Agree}
+use Rattle.source_core.specs.Laws.{is_over, Agree, MayResult}
 use Rattle.source_core.specs.RunLaws.{is_change_over, is_statement_over, are_statements_over}
 use Rattle.source_core.specs.Elaborated.{Result, a_form, a_truth, any, Elaborated, elaborated, evaluated, numbered}
-use Rattle.source_core.specs.Core.{behind, taken, change_deeds, condition_of}
+use Rattle.source_core.specs.Core.{behind, taken, change_deeds, condition_of, taken_any}
 use Rattle.source_core.specs.SourceRuns.{Item, node, change, mark, turn, end, Changes, Configuration, nodes, past_loop, end_of_body}
 use Rattle.source_core.specs.SourceRuns.{changes_work}
 use Rattle.source_core.proofs.forms.Tests.{both_of}
 use Rattle.source_core.proofs.forms.Over.{agree_trans}
 use Rattle.source_core.proofs.preludes.Preludes.{leave-then, leave-agrees}
-use Rattle.source_core.proofs.preludes.Parts.{Keeps, keeps-number, keeps-truth}
+use Rattle.source_core.proofs.preludes.Parts.{Keeps}
+use Rattle.source_core.proofs.preludes.Held.{take-any}
+use Rattle.source_core.proofs.preludes.Results.{keeps-number, keeps-truth}
 use Rattle.source_core.proofs.expressions.Values.{may-agrees, all_may-agrees}
 use Rattle.source_core.proofs.expressions.Kept.{kept, all_kept}
 use Rattle.source_core.proofs.runs.Work.{deed_items, deed_items-onto, nodes-behind, image}
 use Rattle.source_core.proofs.runs.Reach.{Reaches, reaches-same, reaches-step, reaches-then, step, do-deeds}
+use Rattle.base_integers.specs.declared.integers.Integers.{Integers}
 
 -- ---- states that are left
 take-take : (n : ℕ) (x : State) → take n (take n x) ≡ take n x
@@ -112,11 +115,12 @@ work_over n [] = Unit {0}
 work_over n (i ∷ is) = item_over n i × work_over n is
 
 -- the nodes of statements over the first n variables are so, and with such work behind them
-pub over-nodes : (n : ℕ) (ss : Statements) (m : ℕ) (is : List Item) → IsTrue (are_statements_over n ss) → work_over n is
-    → work_over n (nodes n ss m ++ is)
-over-nodes n nil m is o w = w
-over-nodes n (cons s ss) m is o w =
-    let p = both_of (is_statement_over n s) (are_statements_over n ss) o in (p.0, over-nodes n ss _ is p.1 w)
+pub over-nodes : (integers : Integers) (n : ℕ) (ss : Statements) (m : ℕ) (is : List Item) → IsTrue (are_statements_over n ss)
+    → work_over n is
+    → work_over n (nodes integers n ss m ++ is)
+over-nodes integers n nil m is o w = w
+over-nodes integers n (cons s ss) m is o w =
+    let p = both_of (is_statement_over n s) (are_statements_over n ss) o in (p.0, over-nodes integers n ss _ is p.1 w)
 
 -- past the innermost loop work is over the same variables
 pub over-past : (n : ℕ) (is : List Item) → work_over n is → work_over n (past_loop is)
@@ -145,9 +149,9 @@ over-changes n (g ∷ gs) is o w =
 
 -- ---- a source configuration and one of the core
 -- a configuration of the core stands for one of the source
-pub record Same (n : ℕ) (s : Configuration) (c : core.Configuration) : Type 0 where
+pub record Same (integers : Integers) (n : ℕ) (s : Configuration) (c : core.Configuration) : Type 0 where
   -- its work is that for the items of the source
-  pub work : c.work ≡ image n s.work
+  pub work : c.work ≡ image integers n s.work
   -- the states have the same values of the variables
   pub agree : Agree n s.state c.state
   -- the source's state has a value for each variable, and no more
@@ -160,13 +164,14 @@ pub record Same (n : ℕ) (s : Configuration) (c : core.Configuration) : Type 0 
   pub over : work_over n s.work
 
 -- what a step of the source is done by
-abbrev pub Done : (n exit : ℕ) → core.Configuration → Configuration → Type 0
-Done n exit c t = (d : core.Configuration) × Reaches n exit c d × Same n t d
+abbrev pub Done : (integers : Integers) (n exit : ℕ) → core.Configuration → Configuration → Type 0
+Done integers n exit c t = (d : core.Configuration) × Reaches n exit c d × Same integers n t d
 
 -- a state that is reached before its hidden values are forgotten
-pub arrives : (n : ℕ) (work : List Item) (w : List core.Item) (y z : State) → w ≡ image n work → Agree n y z → length y ≡ n → n ≤ length z
-    → work_over n work → Same n record { work = work; state = y } record { work = w; state = left_at n w z }
-arrives n work w y z e a s l o = record {
+pub arrives : (integers : Integers) (n : ℕ) (work : List Item) (w : List core.Item) (y z : State) → w ≡ image integers n work
+    → Agree n y z → length y ≡ n → n ≤ length z
+    → work_over n work → Same integers n record { work = work; state = y } record { work = w; state = left_at n w z }
+arrives integers n work w y z e a s l o = record {
   work = e;
   agree = left-agrees n w y z a;
   size = s;
@@ -177,69 +182,79 @@ arrives n work w y z e a s l o = record {
 
 -- ---- changes
 -- a variable takes a value that an expression may have
-taken-kept : (n line var : ℕ) (P : State → ℤ → Type 0) (e : Elaborated) → Keeps n P e → (x : State) (z : ℤ) → P x z
-    → (y : State) × AllLeave (taken var line e e.result) x y × Agree n (put (pos 0) x var z) y
-taken-kept n line var P e k x z m = by e.result refl
+taken-kept : (integers : Integers) (n line var : ℕ) (P : State → ℤ → Type 0) (e : Elaborated) → Keeps integers n P e
+    → (x : State) (z : ℤ) → P x z
+    → (y : State) × AllLeave (taken integers var line e e.result) x y × Agree n (put (pos 0) x var z) y
+taken-kept integers n line var P e k x z m = by e.result refl
   where
-    number : (y : State) × AllLeave ((numbered line e).prelude ++ (tree.sets var (numbered line e).form line ∷ [])) x y
+    number : (y : State) × AllLeave ((numbered integers line e).prelude ++ (tree.sets var (numbered integers line e).form line ∷ [])) x y
         × Agree n (put (pos 0) x var z) y
     number =
-        let f = (numbered line e).form in
-        let c = keeps-number line n P e k in
+        let f = (numbered integers line e).form in
+        let c = keeps-number integers line n P e k in
         let r = c.keeps x z m in
-        let a = leave-agrees n (numbered line e).prelude x r.0 c.fits.writes r.1 in
+        let a = leave-agrees n (numbered integers line e).prelude x r.0 c.fits.writes r.1 in
         let y = put (pos 0) r.0 var (value f r.0) in (
           y,
-          leave-then (numbered line e).prelude (tree.sets var f line ∷ []) x r.0 y r.1 (y, refl, refl),
+          leave-then (numbered integers line e).prelude (tree.sets var f line ∷ []) x r.0 y r.1 (y, refl, refl),
           subst (λ v. Agree n (put (pos 0) x var z) (put (pos 0) r.0 var v)) r.2 (put-agree n var x r.0 z a),
         )
 
-    by : (r : Result) → e.result ≡ r → (y : State) × AllLeave (taken var line e r) x y × Agree n (put (pos 0) x var z) y
+    by : (r : Result) → e.result ≡ r → (y : State) × AllLeave (taken integers var line e r) x y × Agree n (put (pos 0) x var z) y
     by (a_form f) s = number
     by (a_truth c) s = number
     by any s =
         let r = k.keeps x z m in
         let a = leave-agrees n e.prelude x r.0 k.fits.writes r.1 in
-        let y = put (pos 0) r.0 var z in
-        (y, leave-then e.prelude (tree.havocs var line ∷ []) x r.0 y r.1 (y, (z, refl), refl), put-agree n var x r.0 z a)
+        let y = put (pos 0) r.0 var z in (
+          y,
+          leave-then e.prelude (taken_any integers var line) x r.0 y r.1
+              (take-any integers line var r.0 z (subst (λ q. MayResult integers q r.0 z) s r.2)),
+          put-agree n var x r.0 z a,
+        )
 
 -- each state that a change may leave agrees on the variables with one that its deeds may leave
-pub change-kept : (n : ℕ) (g : Change) (x y s : State) → IsTrue (is_change_over n g) → Agree n x s → Changes g x y
-    → (t : State) × AllLeave (change_deeds n g) s t × Agree n y t
-change-kept n (sets var e line) x y s o a m =
+pub change-kept : (integers : Integers) (n : ℕ) (g : Change) (x y s : State) → IsTrue (is_change_over n g) → Agree n x s
+    → Changes integers g x y
+    → (t : State) × AllLeave (change_deeds integers n g) s t × Agree n y t
+change-kept integers n (sets var e line) x y s o a m =
     let p = both_of (nat_lt var n) (is_over n e) o in
-    let k = kept line e n n (omega arith) p.1 in
-    let r = taken-kept n line var (May e) (elaborated line e n) k s m.0 (may-agrees e n x s m.0 p.1 a m.1) in (
+    let k = kept integers line e n n (omega arith) p.1 in
+    let r = taken-kept integers n line var (May integers e) (elaborated integers line e n) k s m.0
+    (may-agrees integers e n x s m.0 p.1 a m.1) in (
       r.0,
       r.1,
       agree_trans n y (put (pos 0) s var m.0) r.0
           (subst (λ w. Agree n w (put (pos 0) s var m.0)) (sym m.2) (put-agree n var x s m.0 a)) r.2,
     )
-change-kept n (evaluates es line) x y s o a m =
-    let k = all_kept line es n n (omega arith) o in
-    let r = k.keeps s (all_may-agrees es n x s o a m.0) in (
+change-kept integers n (evaluates es line) x y s o a m =
+    let k = all_kept integers line es n n (omega arith) o in
+    let r = k.keeps s (all_may-agrees integers es n x s o a m.0) in (
       r.0,
       r.1,
       agree_trans n y s r.0 (subst (λ w. Agree n w s) (sym m.1) a)
-          (leave-agrees n (evaluated line es n).prelude s r.0 k.fits.writes r.1),
+          (leave-agrees n (evaluated integers line es n).prelude s r.0 k.fits.writes r.1),
     )
 
 -- a change keeps the number of values
-pub change-size : (n : ℕ) (g : Change) (x y : State) → IsTrue (is_change_over n g) → length x ≡ n → Changes g x y → length y ≡ n
-change-size n (sets var e line) x y o l m =
+pub change-size : (integers : Integers) (n : ℕ) (g : Change) (x y : State) → IsTrue (is_change_over n g) → length x ≡ n
+    → Changes integers g x y → length y ≡ n
+change-size integers n (sets var e line) x y o l m =
     let v = ltb-true var n (both_of (nat_lt var n) (is_over n e) o).0 in
     ap (λ (s : State). length s) m.2 ∙ put_size (pos 0) x var m.0 (omega (arith, v, l)) ∙ l
-change-size n (evaluates es line) x y o l m = ap (λ (s : State). length s) m.1 ∙ l
+change-size integers n (evaluates es line) x y o l m = ap (λ (s : State). length s) m.1 ∙ l
 
 -- ---- conditions
 -- behind the prelude of a condition it may be true, or false, as the value of its expression says
-pub condition-kept : (n line : ℕ) (e : Expression) (x s : State) (z : ℤ) → IsTrue (is_over n e) → Agree n x s → May e x z
-    → (t : State) × AllLeave (condition_of n line e).prelude s t × ((b : Bool) → Tells b z → MayBe b (condition_of n line e).condition t)
+pub condition-kept : (integers : Integers) (n line : ℕ) (e : Expression) (x s : State) (z : ℤ) → IsTrue (is_over n e) → Agree n x s
+    → May integers e x z
+    → (t : State) × AllLeave (condition_of integers n line e).prelude s t × ((b : Bool) → Tells b z
+    → MayBe b (condition_of integers n line e).condition t)
     × Agree n x t
-condition-kept n line e x s z o a m =
-    let k = keeps-truth n (May e) (elaborated line e n) (kept line e n n (omega arith) o) in
-    let r = k.keeps s z (may-agrees e n x s z o a m) in
-    (r.0, r.1, r.2, agree_trans n x s r.0 a (leave-agrees n (condition_of n line e).prelude s r.0 k.fits.writes r.1))
+condition-kept integers n line e x s z o a m =
+    let k = keeps-truth integers n (May integers e) (elaborated integers line e n) (kept integers line e n n (omega arith) o) in
+    let r = k.keeps s z (may-agrees integers e n x s z o a m) in
+    (r.0, r.1, r.2, agree_trans n x s r.0 a (leave-agrees n (condition_of integers n line e).prelude s r.0 k.fits.writes r.1))
 
 -- ---- a step behind a prelude
 -- the work of a statement that is a prelude and a last part

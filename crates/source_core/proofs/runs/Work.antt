@@ -12,6 +12,7 @@ use Rattle.source_core.specs.Core.{followed_by, behind, change_deeds, changes_de
 use Rattle.source_core.specs.Core.{points_in}
 use Rattle.source_core.specs.SourceRuns.{Item, node, change, mark, turn, end, nodes, branch_work, head_work, turn_work, end_work, past_loop}
 use Rattle.source_core.specs.SourceRuns.{end_of_body, changes_work}
+use Rattle.base_integers.specs.declared.integers.Integers.{Integers}
 
 -- ---- deeds with a number
 -- the nodes of deeds, all with one number, and other work behind them
@@ -49,7 +50,8 @@ deeds_work-then [] es rest = refl
 deeds_work-then (d ∷ ds) es rest = ap (λ r. core.node (statement_by d) 0 ∷ r) (deeds_work-then ds es rest)
 
 -- ---- one list of statements and then another
-points-followed : (a b : tree.Statements) → points.points_in (followed_by a b) ≡ points.points_in a + points.points_in b
+-- the points of one list and then another
+pub points-followed : (a b : tree.Statements) → points.points_in (followed_by a b) ≡ points.points_in a + points.points_in b
 points-followed tree.nil b = omega arith
 points-followed (tree.cons s ss) b = let e = points-followed ss b in omega (arith, e)
 
@@ -61,91 +63,101 @@ nodes-followed (tree.cons s ss) b m =
 
 -- ---- images
 -- the work of the core for an item
-abbrev pub item_core : ℕ → Item → List core.Item → List core.Item
-item_core n (node s m) rest = core.nodes (core_of n s) m ++ rest
-item_core n (change g) rest = core.deeds_work (change_deeds n g) rest
-item_core n (mark p) rest = core.mark p ∷ rest
-item_core n (turn kind e body line m) rest = core.deeds_work (condition_of n line e).prelude
-    (core.turn (kind_of n kind (condition_of n line e).prelude) (condition_of n line e).condition (core_in n body) line m ∷ rest)
-item_core n (end kind e body line m) rest =
-    core.end (kind_of n kind (condition_of n line e).prelude) (condition_of n line e).condition (core_in n body) line m ∷ rest
+abbrev pub item_core : (integers : Integers) → ℕ → Item → List core.Item → List core.Item
+item_core integers n (node s m) rest = core.nodes (core_of integers n s) m ++ rest
+item_core integers n (change g) rest = core.deeds_work (change_deeds integers n g) rest
+item_core integers n (mark p) rest = core.mark p ∷ rest
+item_core integers n (turn kind e body line m) rest = core.deeds_work (condition_of integers n line e).prelude
+    (core.turn (kind_of integers n kind (condition_of integers n line e).prelude) (condition_of integers n line e).condition
+    (core_in integers n body) line m ∷ rest)
+item_core integers n (end kind e body line m) rest =
+    core.end (kind_of integers n kind (condition_of integers n line e).prelude) (condition_of integers n line e).condition
+    (core_in integers n body) line m ∷ rest
 
 -- the work of the core for a list of items, onto other work
-abbrev pub image_onto : ℕ → List Item → List core.Item → List core.Item
-image_onto n [] rest = rest
-image_onto n (i ∷ is) rest = item_core n i (image_onto n is rest)
+abbrev pub image_onto : (integers : Integers) → ℕ → List Item → List core.Item → List core.Item
+image_onto integers n [] rest = rest
+image_onto integers n (i ∷ is) rest = item_core integers n i (image_onto integers n is rest)
 
 -- the work of the core for a list of items
-abbrev pub image : ℕ → List Item → List core.Item
-image n is = image_onto n is []
+abbrev pub image : (integers : Integers) → ℕ → List Item → List core.Item
+image integers n is = image_onto integers n is []
 
 -- the core's work for one list of items and then another is that of the first onto that of the second
-pub image-then : (n : ℕ) (us bs : List Item) (rest : List core.Item) → image_onto n (us ++ bs) rest ≡ image_onto n us (image_onto n bs rest)
-image-then n [] bs rest = refl
-image-then n (a ∷ us) bs rest = ap (λ r. item_core n a r) (image-then n us bs rest)
+pub image-then : (integers : Integers) (n : ℕ) (us bs : List Item) (rest : List core.Item)
+    → image_onto integers n (us ++ bs) rest ≡ image_onto integers n us (image_onto integers n bs rest)
+image-then integers n [] bs rest = refl
+image-then integers n (a ∷ us) bs rest = ap (λ r. item_core integers n a r) (image-then integers n us bs rest)
 
 -- the core's work for the nodes of statements is the nodes of their core
-pub image-nodes : (n : ℕ) (ss : Statements) (m : ℕ) (rest : List core.Item)
-    → image_onto n (nodes n ss m) rest ≡ core.nodes (core_in n ss) m ++ rest
-image-nodes n nil m rest = refl
-image-nodes n (cons s ss) m rest =
-    ap (λ r. core.nodes (core_of n s) m ++ r) (image-nodes n ss (m + points_of n s) rest)
-    ∙ sym (append_assoc (core.nodes (core_of n s) m) (core.nodes (core_in n ss) (m + points_of n s)) rest)
-    ∙ ap (λ r. r ++ rest) (sym (nodes-followed (core_of n s) (core_in n ss) m))
+pub image-nodes : (integers : Integers) (n : ℕ) (ss : Statements) (m : ℕ) (rest : List core.Item)
+    → image_onto integers n (nodes integers n ss m) rest ≡ core.nodes (core_in integers n ss) m ++ rest
+image-nodes integers n nil m rest = refl
+image-nodes integers n (cons s ss) m rest =
+    ap (λ r. core.nodes (core_of integers n s) m ++ r) (image-nodes integers n ss (m + points_of integers n s) rest)
+    ∙ sym (append_assoc (core.nodes (core_of integers n s) m) (core.nodes (core_in integers n ss) (m + points_of integers n s)) rest)
+    ∙ ap (λ r. r ++ rest) (sym (nodes-followed (core_of integers n s) (core_in integers n ss) m))
 
 -- the nodes of statements, and other work behind them
-pub image-nodes_then : (n : ℕ) (ss : Statements) (m : ℕ) (is : List Item)
-    → image n (nodes n ss m ++ is) ≡ core.nodes (core_in n ss) m ++ image n is
-image-nodes_then n ss m is = image-then n (nodes n ss m) is [] ∙ image-nodes n ss m (image n is)
+pub image-nodes_then : (integers : Integers) (n : ℕ) (ss : Statements) (m : ℕ) (is : List Item)
+    → image integers n (nodes integers n ss m ++ is) ≡ core.nodes (core_in integers n ss) m ++ image integers n is
+image-nodes_then integers n ss m is = image-then integers n (nodes integers n ss m) is []
+    ∙ image-nodes integers n ss m (image integers n is)
 
 -- behind an `if` the core's work is that for the source's
-pub image-branch : (n : ℕ) (t : Bool) (first second : Statements) (m : ℕ) (is : List Item)
-    → core.branch_work t (core_in n first) (core_in n second) m (image n is) ≡ image n (branch_work n t first second m is)
-image-branch n true first second m is = sym (image-nodes_then n first m (mark _ ∷ is))
-image-branch n false first second m is = sym (image-nodes_then n second (m + points_in n first) (mark _ ∷ is))
+pub image-branch : (integers : Integers) (n : ℕ) (t : Bool) (first second : Statements) (m : ℕ) (is : List Item)
+    → core.branch_work t (core_in integers n first) (core_in integers n second) m (image integers n is) ≡ image integers n
+    (branch_work integers n t first second m is)
+image-branch integers n true first second m is = sym (image-nodes_then integers n first m (mark _ ∷ is))
+image-branch integers n false first second m is = sym (image-nodes_then integers n second (m + points_in integers n first) (mark _ ∷ is))
 
-image-body : (n : ℕ) (kind : LoopKind) (e : Expression) (body : Statements) (line m : ℕ) (is : List Item)
-    → core.body_work (kind_of n kind (condition_of n line e).prelude) (condition_of n line e).condition (core_in n body) line m (image n is)
-    ≡ image n (nodes n body (m + 1) ++ (end kind e body line m ∷ is))
-image-body n kind e body line m is = sym (image-nodes_then n body (m + 1) (end kind e body line m ∷ is))
+image-body : (integers : Integers) (n : ℕ) (kind : LoopKind) (e : Expression) (body : Statements) (line m : ℕ) (is : List Item)
+    → core.body_work (kind_of integers n kind (condition_of integers n line e).prelude) (condition_of integers n line e).condition
+    (core_in integers n body) line m (image integers n is)
+    ≡ image integers n (nodes integers n body (m + 1) ++ (end kind e body line m ∷ is))
+image-body integers n kind e body line m is = sym (image-nodes_then integers n body (m + 1) (end kind e body line m ∷ is))
 
 -- behind the head of a loop the core's work is that for the source's
-pub image-head : (n : ℕ) (kind : LoopKind) (e : Expression) (body : Statements) (line m : ℕ) (is : List Item)
-    → core.head_work (kind_of n kind (condition_of n line e).prelude) (condition_of n line e).condition (core_in n body) line m (image n is)
-    ≡ image n (head_work n kind e body line m is)
-image-head n while_loop e body line m is = refl
-image-head n (for_loop gs) e body line m is = refl
-image-head n do_loop e body line m is = image-body n do_loop e body line m is
+pub image-head : (integers : Integers) (n : ℕ) (kind : LoopKind) (e : Expression) (body : Statements) (line m : ℕ) (is : List Item)
+    → core.head_work (kind_of integers n kind (condition_of integers n line e).prelude) (condition_of integers n line e).condition
+    (core_in integers n body) line m (image integers n is)
+    ≡ image integers n (head_work integers n kind e body line m is)
+image-head integers n while_loop e body line m is = refl
+image-head integers n (for_loop gs) e body line m is = refl
+image-head integers n do_loop e body line m is = image-body integers n do_loop e body line m is
 
 -- behind the turn of a loop the core's work is that for the source's
-pub image-turn : (n : ℕ) (t : Bool) (kind : LoopKind) (e : Expression) (body : Statements) (line m : ℕ) (is : List Item)
-    → core.turn_work t (kind_of n kind (condition_of n line e).prelude) (condition_of n line e).condition (core_in n body) line m
-    (image n is)
-    ≡ image n (turn_work n t kind e body line m is)
-image-turn n true while_loop e body line m is = image-body n while_loop e body line m is
-image-turn n true (for_loop gs) e body line m is = image-body n (for_loop gs) e body line m is
-image-turn n true do_loop e body line m is = refl
-image-turn n false kind e body line m is = refl
+pub image-turn : (integers : Integers) (n : ℕ) (t : Bool) (kind : LoopKind) (e : Expression) (body : Statements) (line m : ℕ)
+    (is : List Item)
+    → core.turn_work t (kind_of integers n kind (condition_of integers n line e).prelude) (condition_of integers n line e).condition
+    (core_in integers n body) line m
+    (image integers n is)
+    ≡ image integers n (turn_work integers n t kind e body line m is)
+image-turn integers n true while_loop e body line m is = image-body integers n while_loop e body line m is
+image-turn integers n true (for_loop gs) e body line m is = image-body integers n (for_loop gs) e body line m is
+image-turn integers n true do_loop e body line m is = refl
+image-turn integers n false kind e body line m is = refl
 
-image-changes : (n : ℕ) (gs : List Change) (is : List Item)
-    → core.deeds_work (changes_deeds n gs) (image n is) ≡ image n (changes_work gs is)
-image-changes n [] is = refl
-image-changes n (g ∷ gs) is = deeds_work-then (change_deeds n g) (changes_deeds n gs) (image n is)
-    ∙ ap (λ r. core.deeds_work (change_deeds n g) r) (image-changes n gs is)
+image-changes : (integers : Integers) (n : ℕ) (gs : List Change) (is : List Item)
+    → core.deeds_work (changes_deeds integers n gs) (image integers n is) ≡ image integers n (changes_work gs is)
+image-changes integers n [] is = refl
+image-changes integers n (g ∷ gs) is = deeds_work-then (change_deeds integers n g) (changes_deeds integers n gs) (image integers n is)
+    ∙ ap (λ r. core.deeds_work (change_deeds integers n g) r) (image-changes integers n gs is)
 
 -- behind the end of a loop's body the core's work is that for the source's
-pub image-end : (n : ℕ) (kind : LoopKind) (e : Expression) (body : Statements) (line m : ℕ) (is : List Item)
-    → core.end_work (kind_of n kind (condition_of n line e).prelude) (condition_of n line e).condition (core_in n body) line m (image n is)
-    ≡ image n (end_work n kind e body line m is)
-image-end n while_loop e body line m is = refl
-image-end n (for_loop gs) e body line m is = image-changes n gs (node (loop (for_loop gs) e body line) m ∷ is)
-image-end n do_loop e body line m is = refl
+pub image-end : (integers : Integers) (n : ℕ) (kind : LoopKind) (e : Expression) (body : Statements) (line m : ℕ) (is : List Item)
+    → core.end_work (kind_of integers n kind (condition_of integers n line e).prelude) (condition_of integers n line e).condition
+    (core_in integers n body) line m (image integers n is)
+    ≡ image integers n (end_work integers n kind e body line m is)
+image-end integers n while_loop e body line m is = refl
+image-end integers n (for_loop gs) e body line m is = image-changes integers n gs (node (loop (for_loop gs) e body line) m ∷ is)
+image-end integers n do_loop e body line m is = refl
 
 -- behind an assumption the core's work is that for the source's
-pub image-split : (n : ℕ) (t : Bool) (m : ℕ) (is : List Item)
-    → (if t then core.mark m ∷ image n is else image n is) ≡ image n (if t then mark m ∷ is else is)
-image-split n true m is = refl
-image-split n false m is = refl
+pub image-split : (integers : Integers) (n : ℕ) (t : Bool) (m : ℕ) (is : List Item)
+    → (if t then core.mark m ∷ image integers n is else image integers n is) ≡ image integers n (if t then mark m ∷ is else is)
+image-split integers n true m is = refl
+image-split integers n false m is = refl
 
 -- ---- jumps
 past-deeds : (ds : List Deed) (rest : List core.Item) → core.past_loop (core.deeds_work ds rest) ≡ core.past_loop rest
@@ -157,13 +169,13 @@ past-nodes tree.nil m rest = refl
 past-nodes (tree.cons s ss) m rest = past-nodes ss (m + points.points_of s) rest
 
 -- past the innermost loop the core's work is that for the source's
-pub image-past : (n : ℕ) (is : List Item) → core.past_loop (image n is) ≡ image n (past_loop is)
-image-past n [] = refl
-image-past n (node s m ∷ is) = past-nodes (core_of n s) m (image n is) ∙ image-past n is
-image-past n (change g ∷ is) = past-deeds (change_deeds n g) (image n is) ∙ image-past n is
-image-past n (mark p ∷ is) = image-past n is
-image-past n (turn kind e body line m ∷ is) = past-deeds (condition_of n line e).prelude _ ∙ image-past n is
-image-past n (end kind e body line m ∷ is) = refl
+pub image-past : (integers : Integers) (n : ℕ) (is : List Item) → core.past_loop (image integers n is) ≡ image integers n (past_loop is)
+image-past integers n [] = refl
+image-past integers n (node s m ∷ is) = past-nodes (core_of integers n s) m (image integers n is) ∙ image-past integers n is
+image-past integers n (change g ∷ is) = past-deeds (change_deeds integers n g) (image integers n is) ∙ image-past integers n is
+image-past integers n (mark p ∷ is) = image-past integers n is
+image-past integers n (turn kind e body line m ∷ is) = past-deeds (condition_of integers n line e).prelude _ ∙ image-past integers n is
+image-past integers n (end kind e body line m ∷ is) = refl
 
 ending-deeds : (ds : List Deed) (rest : List core.Item) → core.end_of_body (core.deeds_work ds rest) ≡ core.end_of_body rest
 ending-deeds [] rest = refl
@@ -174,10 +186,12 @@ ending-nodes tree.nil m rest = refl
 ending-nodes (tree.cons s ss) m rest = ending-nodes ss (m + points.points_of s) rest
 
 -- from the end of the innermost loop's body on the core's work is that for the source's
-pub image-ending : (n : ℕ) (is : List Item) → core.end_of_body (image n is) ≡ image n (end_of_body is)
-image-ending n [] = refl
-image-ending n (node s m ∷ is) = ending-nodes (core_of n s) m (image n is) ∙ image-ending n is
-image-ending n (change g ∷ is) = ending-deeds (change_deeds n g) (image n is) ∙ image-ending n is
-image-ending n (mark p ∷ is) = image-ending n is
-image-ending n (turn kind e body line m ∷ is) = ending-deeds (condition_of n line e).prelude _ ∙ image-ending n is
-image-ending n (end kind e body line m ∷ is) = refl
+pub image-ending : (integers : Integers) (n : ℕ) (is : List Item)
+    → core.end_of_body (image integers n is) ≡ image integers n (end_of_body is)
+image-ending integers n [] = refl
+image-ending integers n (node s m ∷ is) = ending-nodes (core_of integers n s) m (image integers n is) ∙ image-ending integers n is
+image-ending integers n (change g ∷ is) = ending-deeds (change_deeds integers n g) (image integers n is) ∙ image-ending integers n is
+image-ending integers n (mark p ∷ is) = image-ending integers n is
+image-ending integers n (turn kind e body line m ∷ is) = ending-deeds (condition_of integers n line e).prelude _
+    ∙ image-ending integers n is
+image-ending integers n (end kind e body line m ∷ is) = refl

@@ -1,15 +1,14 @@
 -- Each function of the cycle answers what is wanted of what it reads, behind what it calls.
-use Rattle.std.proofs.Common.{◌≡◌, ◌∙◌, ◌≤◌, ◌+◌, ◌++◌, ◌∷◌, ℕ, suc, List, [], Bool, true, false, Option, Some, None, Ok, Err, refl, sym}
+use Rattle.std.proofs.Common.{◌≡◌, ◌∙◌, ◌+◌, ◌++◌, ◌∷◌, suc, [], Some, Ok, Err, refl, sym}
 use Rattle.std.proofs.Common.{ap, subst, arith, append_assoc}
 use Rattle.std.specs.Option.{option_map}
 use Rattle.source_tree.specs.Expressions as made
 use Rattle.source_tree.specs.Expressions.{Expression}
 use Rattle.source_core.specs.Elaborated.{elaborated}
-use Rattle.source_grammar.specs.Tokens.{Token, token, infix_sign, question, colon, left_paren, right_paren, left_bracket, right_bracket}
+use Rattle.source_grammar.specs.Tokens.{token, infix_sign, question, colon, left_paren, right_paren, left_bracket, right_bracket}
 use Rattle.source_grammar.specs.Tokens.{a_name, level, sign_of}
 use Rattle.source_grammar.specs.Symbols.{op_of, symbol_kind}
 use Rattle.source_grammar.specs.View.{plain_kind}
-use Rattle.source_grammar.specs.Grammar as tree
 use Rattle.source_grammar.specs.Grammar.{Expr, Groups, spell_expr, spell_arguments}
 use Rattle.source_meaning.specs.Results.{◌>>=◌}
 use Rattle.source_meaning.specs.Names.{array_of, as_called, known}
@@ -22,7 +21,7 @@ use Rattle.source_reader.proofs.Going.{goes_then, passed_goes, same_goes}
 use Rattle.source_reader.specs.Placed.{placed}
 use Rattle.source_expression.specs.Signs.{is_closing, is_comma, is_question, opening_in, prefix_of, sign_in, work_in}
 use Rattle.source_expression.specs.declared.signs.Opening.TheVariants as opening
-use Rattle.source_expression.specs.Sides.{IsRead, IsEvaluatedOf}
+use Rattle.source_expression.specs.Sides.{IsRead}
 use Rattle.source_expression.specs.Readings.{Reads}
 use Rattle.source_expression.specs.Joins.{Stops}
 use Rattle.source_expression.proofs.Answering.{beside, handed, ok_then}
@@ -66,7 +65,7 @@ expressions::choice-returns-in_err-no-clause-reads t c = λ x h sign between e f
     let ra = c.in_ok-yes.ensures.reads e behind ge tt
     (passed_to c.args.reader.now question sign (spell_expr e ++ behind) q c.take.new.self c.in_ok-sign.ensures.2) in
     let hc = half site st h c.args.first x e (c.expression.new.reader.ahead ≡ behind) c.into_condition.result c.in_ok-condition.condition
-    c.in_ok-yes.yes c.in_ok-yes-2.yes c.in_ok-condition.ensures (c.into_condition.ensures (elaborated site.line x h) i) ra
+    c.in_ok-yes.yes c.in_ok-yes-2.yes c.in_ok-condition.ensures (c.into_condition.ensures (elaborated site.integers site.line x h) i) ra
     c.in_ok-yes-2.ensures in
     half_fault site st h c.args.first x e (c.expression-2.new.reader.ahead ≡ rest) (c.expression-2.new.reader.ahead ≡ rest)
     c.in_ok-condition.condition c.in_ok-yes-2.yes sign f c.from_residual-in_err-no.result c.in_err-no.field-0.0 hc
@@ -81,7 +80,7 @@ expressions::choice-returns-clause-reads t c = λ x h sign between e f rest i ge
     let ra = c.in_ok-yes.ensures.reads e behind ge tt
     (passed_to c.args.reader.now question sign (spell_expr e ++ behind) q c.take.new.self c.in_ok-sign.ensures.2) in
     let hc = half site st h c.args.first x e (c.expression.new.reader.ahead ≡ behind) c.into_condition.result c.in_ok-condition.condition
-    c.in_ok-yes.yes c.in_ok-yes-2.yes c.in_ok-condition.ensures (c.into_condition.ensures (elaborated site.line x h) i) ra
+    c.in_ok-yes.yes c.in_ok-yes-2.yes c.in_ok-condition.ensures (c.into_condition.ensures (elaborated site.integers site.line x h) i) ra
     c.in_ok-yes-2.ensures in
     let rb = c.in_ok-no.ensures.reads f rest gf a
     (passed_to c.expression.new.reader colon between (spell_expr f ++ rest) ra.2.1 c.take-2.new.self c.in_ok-_between.ensures.2) in
@@ -173,7 +172,7 @@ expressions::joins-returns-in_err-value-2-clause-reads t c = λ e rest l g s q.
     ∙ sign_plain c.args.least (first_kind c.signs.reader.ahead)) in
     handed (λ v x. IsRead site c.args.next v x × (c.join.new.reader.ahead ≡ rest))
     (λ v x. IsRead site c.args.next v x × (c.join.new.reader.ahead ≡ rest)) c.from_residual-in_err-value-2.result
-    c.in_err-value-2.field-0.0 (read site.line st e c.args.next) c.from_residual-in_err-value-2.ensures.1
+    c.in_err-value-2.field-0.0 (read site.integers site.line st e c.args.next) c.from_residual-in_err-value-2.ensures.1
     (goes_next site st c.args.next c.args.least c.at-first.result e rest s c.signs.value c.signs.reader.ahead (op_of c.in-Some.op)
     (Err c.in_err-value-2.field-0.0) c.join.new.reader (c.signs.invariant.reads e rest l g s q) n c.in_err-value-2.ensures.reads)
 
@@ -204,7 +203,7 @@ operands::operand-returns-in-Some-Number-clause-reads t c = λ e rest g s q.
     let o = opening.Number in
     let i = c.in-Some-Number in
     let M : Expr → Type 0 = λ e. c.args.reader.now.ahead ≡ spell_expr e ++ rest
-    → Reads site c.args.next (read site.line st e c.args.next) rest c.number.result c.number.new.reader in
+    → Reads site c.args.next (read site.integers site.line st e c.args.next) rest c.number.result c.number.new.reader in
     let r : Some o ≡ opening_in (symbol_kind c.symbol.result) (symbol_kind c.second.result) = ap Some (sym i.field-0-is) ∙ sym i.is
     ∙ c.opening_in.ensures in
     operand_by M e rest (symbol_kind c.symbol.result) (symbol_kind c.second.result) o g s
@@ -219,7 +218,7 @@ operands::operand-returns-in-Some-Variable-clause-reads t c = λ e rest g s q.
     let o = opening.Variable in
     let i = c.in-Some-Variable in
     let M : Expr → Type 0 = λ e. c.args.reader.now.ahead ≡ spell_expr e ++ rest
-    → Reads site c.args.next (read site.line st e c.args.next) rest c.variable.result c.variable.new.reader in
+    → Reads site c.args.next (read site.integers site.line st e c.args.next) rest c.variable.result c.variable.new.reader in
     let r : Some o ≡ opening_in (symbol_kind c.symbol.result) (symbol_kind c.second.result) = ap Some (sym i.field-0-is) ∙ sym i.is
     ∙ c.opening_in.ensures in
     operand_by M e rest (symbol_kind c.symbol.result) (symbol_kind c.second.result) o g s
@@ -234,7 +233,7 @@ operands::operand-returns-in-Some-Element-clause-reads t c = λ e rest g s q.
     let o = opening.Element in
     let i = c.in-Some-Element in
     let M : Expr → Type 0 = λ e. c.args.reader.now.ahead ≡ spell_expr e ++ rest
-    → Reads site c.args.next (read site.line st e c.args.next) rest c.element.result c.element.new.reader in
+    → Reads site c.args.next (read site.integers site.line st e c.args.next) rest c.element.result c.element.new.reader in
     let r : Some o ≡ opening_in (symbol_kind c.symbol.result) (symbol_kind c.second.result) = ap Some (sym i.field-0-is) ∙ sym i.is
     ∙ c.opening_in.ensures in
     operand_by M e rest (symbol_kind c.symbol.result) (symbol_kind c.second.result) o g s
@@ -250,7 +249,7 @@ operands::operand-returns-in-Some-Call-clause-reads t c = λ e rest g s q.
     let o = opening.Call in
     let i = c.in-Some-Call in
     let M : Expr → Type 0 = λ e. c.args.reader.now.ahead ≡ spell_expr e ++ rest
-    → Reads site c.args.next (read site.line st e c.args.next) rest c.call.result c.call.new.reader in
+    → Reads site c.args.next (read site.integers site.line st e c.args.next) rest c.call.result c.call.new.reader in
     let r : Some o ≡ opening_in (symbol_kind c.symbol.result) (symbol_kind c.second.result) = ap Some (sym i.field-0-is) ∙ sym i.is
     ∙ c.opening_in.ensures in
     operand_by M e rest (symbol_kind c.symbol.result) (symbol_kind c.second.result) o g s
@@ -266,7 +265,7 @@ operands::operand-returns-in-Some-Unknown-clause-reads t c = λ e rest g s q.
     let o = opening.Unknown in
     let i = c.in-Some-Unknown in
     let M : Expr → Type 0 = λ e. c.args.reader.now.ahead ≡ spell_expr e ++ rest
-    → Reads site c.args.next (read site.line st e c.args.next) rest c.unknown.result c.unknown.new.reader in
+    → Reads site c.args.next (read site.integers site.line st e c.args.next) rest c.unknown.result c.unknown.new.reader in
     let r : Some o ≡ opening_in (symbol_kind c.symbol.result) (symbol_kind c.second.result) = ap Some (sym i.field-0-is) ∙ sym i.is
     ∙ c.opening_in.ensures in
     operand_by M e rest (symbol_kind c.symbol.result) (symbol_kind c.second.result) o g s
@@ -281,7 +280,7 @@ operands::operand-returns-in-Some-Grouped-clause-reads t c = λ e rest g s q.
     let o = opening.Grouped in
     let i = c.in-Some-Grouped in
     let M : Expr → Type 0 = λ e. c.args.reader.now.ahead ≡ spell_expr e ++ rest
-    → Reads site c.args.next (read site.line st e c.args.next) rest c.grouped.result c.grouped.new.reader in
+    → Reads site c.args.next (read site.integers site.line st e c.args.next) rest c.grouped.result c.grouped.new.reader in
     let r : Some o ≡ opening_in (symbol_kind c.symbol.result) (symbol_kind c.second.result) = ap Some (sym i.field-0-is) ∙ sym i.is
     ∙ c.opening_in.ensures in
     operand_by M e rest (symbol_kind c.symbol.result) (symbol_kind c.second.result) o g s
@@ -297,7 +296,7 @@ operands::operand-returns-in-Some-Prefixed-clause-reads t c = λ e rest g s q.
     let o = opening.Prefixed c.in-Some-Prefixed.prefix in
     let i = c.in-Some-Prefixed in
     let M : Expr → Type 0 = λ e. c.args.reader.now.ahead ≡ spell_expr e ++ rest
-    → Reads site c.args.next (read site.line st e c.args.next) rest c.prefixed.result c.prefixed.new.reader in
+    → Reads site c.args.next (read site.integers site.line st e c.args.next) rest c.prefixed.result c.prefixed.new.reader in
     let r : Some o ≡ opening_in (symbol_kind c.symbol.result) (symbol_kind c.second.result) = ap Some (sym i.field-0-is) ∙ sym i.is
     ∙ c.opening_in.ensures in
     operand_by M e rest (symbol_kind c.symbol.result) (symbol_kind c.second.result) o g s
@@ -321,11 +320,12 @@ operands::prefixed-returns-clause-reads t c = λ a e rest g s q.
     let r = c.in_ok-value.ensures.reads e rest g s w in
     let i = place_is c.args.reader.now (sign_of p) a (spell_expr e ++ rest) q c.at-sign.result c.at-sign.ensures in
     let j : c.at-first.result ≡ first_of e = c.at-first.ensures ∙ ap first_place w ∙ first_place_of e rest in
-    ok_then (λ v x. IsRead site h v x × (c.operand.new.reader.ahead ≡ rest)) out (read site.line c.args.known.now e h) r.0
-    (λ x. meaning.prefixed site.line p a (first_of e) h x) r.1
-    (beside (IsRead site h) (c.operand.new.reader.ahead ≡ rest) out (meaning.prefixed site.line p a (first_of e) h r.0) r.2.1
-    (subst (λ n. Answers (IsRead site h) out (meaning.prefixed site.line p a n h r.0)) j
-    (subst (λ n. Answers (IsRead site h) out (meaning.prefixed site.line p n c.at-first.result h r.0)) i (c.signed.ensures r.0 h r.2.0))))
+    ok_then (λ v x. IsRead site h v x × (c.operand.new.reader.ahead ≡ rest)) out (read site.integers site.line c.args.known.now e h) r.0
+    (λ x. meaning.prefixed site.integers site.line p a (first_of e) h x) r.1
+    (beside (IsRead site h) (c.operand.new.reader.ahead ≡ rest) out (meaning.prefixed site.integers site.line p a (first_of e) h r.0) r.2.1
+    (subst (λ n. Answers (IsRead site h) out (meaning.prefixed site.integers site.line p a n h r.0)) j
+    (subst (λ n. Answers (IsRead site h) out (meaning.prefixed site.integers site.line p n c.at-first.result h r.0)) i
+    (c.signed.ensures r.0 h r.2.0))))
 
 pub operands::grouped-returns-clause-reads : goal.operands::grouped-returns-clause-reads
 operands::grouped-returns-clause-reads t c = λ a b e rest g q.
@@ -353,9 +353,10 @@ operands::element-returns-clause-reads t c = λ x a b d e rest g q.
     (λ y n. array_of y n st) (Ok size) c.in_ok-size.ensures in
     let As : Value → Expression → Type 0 = λ v x. IsRead site h v x × (c.element_behind.new.reader.ahead ≡ rest) in
     let m = place_is c.skip.new.self left_bracket b (spell_expr e ++ close) p c.in_ok-bracket.bracket c.in_ok-bracket.ensures.1 in
-    ok_then As out (array_of x a st) size (λ size. read site.line st e h >>= λ i. ranged site.line b h (made.element size b i a)) (sym f)
-    (ok_then As out (read site.line st e h) r.0 (λ i. ranged site.line b h (made.element size b i a)) r.1
-    (subst (λ n. Answers As out (ranged site.line n h (made.element size n r.0 a))) m
+    ok_then As out (array_of x a st) size (λ size. read site.integers site.line st e h >>= λ i. ranged site.integers site.line b h
+    (made.element size b i a)) (sym f)
+    (ok_then As out (read site.integers site.line st e h) r.0 (λ i. ranged site.integers site.line b h (made.element size b i a)) r.1
+    (subst (λ n. Answers As out (ranged site.integers site.line n h (made.element size n r.0 a))) m
     (c.element_behind.ensures.reads r.0 h a d rest r.2.0 r.2.1)))
 
 pub operands::call-returns-clause-reads : goal.operands::call-returns-clause-reads
@@ -373,9 +374,9 @@ operands::call-returns-clause-reads t c = λ x a b d es rest g q.
     let f = found_is st c.args.reader.now c.name.result.now c.at.result c.name.ensures.bytes c.at.ensures x a all q
     (λ y n. as_called n (known y st.names) u) (Ok u) c.in_ok-called.ensures in
     let As : Value → Expression → Type 0 = λ v x. IsRead site h v x × (c.call_behind.new.reader.ahead ≡ rest) in
-    ok_then As out (as_called a (known x st.names) a) a (λ a. read_arguments site.line st es h >>= λ es. Ok (made.call es a))
+    ok_then As out (as_called a (known x st.names) a) a (λ a. read_arguments site.integers site.line st es h >>= λ es. Ok (made.call es a))
     (called_ok a (known x st.names) a u f)
-    (ok_then As out (read_arguments site.line st es h) r.0 (λ es. Ok (made.call es a)) r.1
+    (ok_then As out (read_arguments site.integers site.line st es h) r.0 (λ es. Ok (made.call es a)) r.1
     (c.call_behind.ensures.reads r.0 h a d rest r.2.0 r.2.1))
 
 -- ---- arguments

@@ -2,6 +2,7 @@
 use Rattle.std.proofs.Common.{◌≡◌, ◌∙◌, inr, ◌≤◌, ℕ, List, [], Option, Some, None, length, sym, ap}
 use Rattle.std.proofs.Common.{subst}
 use Rattle.std.specs.Prelude.{slice_range}
+use Rattle.base_integers.specs.declared.integers.Integers.{Integers}
 use Rattle.lang_tokens.specs.declared.token.Token.{Token}
 use Rattle.source_grammar.specs.Faults as grammar
 use Rattle.source_tokens.specs.View.{tokens_of}
@@ -17,13 +18,14 @@ module _ (text : List ℕ) (ts : List Token) where
     none = sym h.apart ∙ ap (λ (x : List Defined). repeated [] x) h.are
 
     -- what the chosen function means is meant
-    pub chosen_means : (asked : Option (List ℕ)) (o : Option Defined) (r : Answer) → o ≡ chosen asked ds → ChosenMeans text ts o r
-        → Means text asked ts r
-    chosen_means asked o r e m =
+    pub chosen_means : (integers : Integers) (asked : Option (List ℕ)) (o : Option Defined) (r : Answer) → o ≡ chosen asked ds
+        → ChosenMeans integers text ts o r
+        → Means integers text asked ts r
+    chosen_means integers asked o r e m =
         let same : o ≡ chosen asked (functions_of text ts h.items) = e ∙ ap (λ (x : List Defined). chosen asked x) h.are in
-        let here : FunctionsMean text asked ts (functions_of text ts h.items) None r =
-        subst (λ (x : Option Defined). ChosenMeans text ts x r) same m in
-        inr (h.items, h.found, subst (λ (x : Option ℕ). FunctionsMean text asked ts (functions_of text ts h.items) x r) none here)
+        let here : FunctionsMean integers text asked ts (functions_of text ts h.items) None r =
+        subst (λ (x : Option Defined). ChosenMeans integers text ts x r) same m in
+        inr (h.items, h.found, subst (λ (x : Option ℕ). FunctionsMean integers text asked ts (functions_of text ts h.items) x r) none here)
 
     -- it is whole
     pub chosen_is_whole : (asked : Option (List ℕ)) (d : Defined) → Some d ≡ chosen asked ds → IsWhole ts d

@@ -17,6 +17,7 @@ use Rattle.source_file.specs.Choice.{repeated}
 use Rattle.source_file.specs.Meaning.{Answer, ChosenMeans, FunctionMeans, FunctionsMean, IsChosen, Means, item_of}
 use Rattle.source_file.proofs.file.Chosen.{chosen_end, chosen_first}
 use Rattle.source_file.proofs.file.Fronts.{front_is, some_token}
+use Rattle.base_integers.specs.declared.integers.Integers.{Integers}
 
 -- one division is not the other
 no_fault : (i : ℕ) (items : List Item) → file.unexpected i ≡ file.divided items → ⊥
@@ -35,17 +36,18 @@ module _ (text : List ℕ) (asked : Option (List ℕ)) (ts : List Token) (d : De
   end_is = chosen_end text ts h.functions h.are asked d h.picked
 
   -- what the file means is what they do
-  chosen_only : (wanted : Answer) → Means text asked ts wanted → FunctionMeans text (item_of text ts d) wanted
-  chosen_only wanted (inl (i, f, e)) =
+  chosen_only : (integers : Integers) (wanted : Answer) → Means integers text asked ts wanted
+      → FunctionMeans integers text (item_of text ts d) wanted
+  chosen_only integers wanted (inl (i, f, e)) =
       absurd (no_fault i h.are.items (one_outcome (marks_of ts) (file.unexpected i) (file.divided h.are.items) f h.are.found))
-  chosen_only wanted (inr (items, f, m)) =
+  chosen_only integers wanted (inr (items, f, m)) =
       let same = one_list items h.are.items (one_outcome (marks_of ts) (file.divided items) (file.divided h.are.items) f h.are.found) in
-      let F : List Defined → Type 0 = λ l. FunctionsMean text asked ts l (repeated [] l) wanted in
+      let F : List Defined → Type 0 = λ l. FunctionsMean integers text asked ts l (repeated [] l) wanted in
       let G : List Item → Type 0 = λ l. F (functions_of text ts l) in
       let there : F h.functions = subst F (sym h.are.are) (subst G same m) in
-      let apart : FunctionsMean text asked ts h.functions None wanted =
-      subst (λ (o : Option ℕ). FunctionsMean text asked ts h.functions o wanted) h.are.apart there in
-      subst (λ (o : Option Defined). ChosenMeans text ts o wanted) (sym h.picked) apart
+      let apart : FunctionsMean integers text asked ts h.functions None wanted =
+      subst (λ (o : Option ℕ). FunctionsMean integers text asked ts h.functions o wanted) h.are.apart there in
+      subst (λ (o : Option Defined). ChosenMeans integers text ts o wanted) (sym h.picked) apart
 
 module _ (text : List ℕ) (asked : Option (List ℕ)) (ts : List Token) where
   -- a function is in order
@@ -69,17 +71,18 @@ module _ (text : List ℕ) (asked : Option (List ℕ)) (ts : List Token) where
 
   -- and means what the file does
   pub found_means : (r : Result Defined SourceFault) → IfOk r (λ d. IsChosen text asked (take (length ts - 1) ts) d)
-      → IfOk r (λ d. (front : List Token) → front ++ end_at (length text) ∷ [] ≡ ts → (wanted : Answer) → Means text asked front wanted
-      → FunctionMeans text (item_of text front d) wanted)
-  found_means (Ok d) h = λ front e wanted m.
+      → IfOk r (λ d. (front : List Token) → front ++ end_at (length text) ∷ [] ≡ ts → (integers : Integers) (wanted : Answer)
+      → Means integers text asked front wanted → FunctionMeans integers text (item_of text front d) wanted)
+  found_means (Ok d) h = λ front e integers wanted m.
       chosen_only text asked front d
-      (subst (λ (x : List Token). IsChosen text asked x d) (front_is ts front (end_at (length text)) e) h) wanted m
+      (subst (λ (x : List Token). IsChosen text asked x d) (front_is ts front (end_at (length text)) e) h) integers wanted m
   found_means (Err e) h = tt
 
   -- a fault is the file's
   pub found_fault : (r : Result Defined SourceFault)
-      → IfErr r (λ e. (e ≡ NoMemory → ⊥) → Means text asked (take (length ts - 1) ts) (Err e))
-      → IfErr r (λ e. (e ≡ NoMemory → ⊥) → (front : List Token) → front ++ end_at (length text) ∷ [] ≡ ts → Means text asked front (Err e))
+      → IfErr r (λ e. (e ≡ NoMemory → ⊥) → (integers : Integers) → Means integers text asked (take (length ts - 1) ts) (Err e))
+      → IfErr r (λ e. (e ≡ NoMemory → ⊥) → (front : List Token) → front ++ end_at (length text) ∷ [] ≡ ts → (integers : Integers)
+      → Means integers text asked front (Err e))
   found_fault (Ok d) h = tt
-  found_fault (Err e) h = λ n front i.
-      subst (λ (x : List Token). Means text asked x (Err e)) (front_is ts front (end_at (length text)) i) (h n)
+  found_fault (Err e) h = λ n front i integers.
+      subst (λ (x : List Token). Means integers text asked x (Err e)) (front_is ts front (end_at (length text)) i) (h n integers)

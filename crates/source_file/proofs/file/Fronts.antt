@@ -15,6 +15,7 @@ use Rattle.source_file.specs.declared.fault.SourceFault.{SourceFault}
 use Rattle.source_file.proofs.meaning.Every.{each_means, each_names}
 use Rattle.source_file.proofs.meaning.Once.{means_once, names_once}
 use Rattle.source_file.proofs.file.Told.{tells_gives}
+use Rattle.base_integers.specs.declared.integers.Integers.{Integers}
 
 -- the end is a token
 pub some_token : (text : List ℕ) (ts : List Token) → AreTokensOf text ts → 0 < length ts
@@ -36,18 +37,18 @@ pub taken_in : (text : List ℕ) (ts : List Token) → AreTokensOf text ts → A
 taken_in text ts h =
     subst (AreTokensIn text) (sym (front_is ts h.front (end_at (length text)) h.ended)) (front_in text ts h.front h h.ended)
 
-module _ (text : List ℕ) (asked : Option (List ℕ)) (ts front : List Token) (end : Token) (e : front ++ end ∷ [] ≡ ts)
-    (r : Result Program SourceFault) (told : Tells r (Means text asked (take (length ts - 1) ts))) where
+module _ (integers : Integers) (text : List ℕ) (asked : Option (List ℕ)) (ts front : List Token) (end : Token) (e : front ++ end ∷ [] ≡ ts)
+    (r : Result Program SourceFault) (told : Tells integers r (Means integers text asked (take (length ts - 1) ts))) where
   -- what is meant is answered
-  pub front_exact : (wanted : Answer) → Means text asked front wanted → Gives r wanted
+  pub front_exact : (wanted : Answer) → Means integers text asked front wanted → Gives integers r wanted
   front_exact wanted m =
-      tells_gives r (Means text asked (take (length ts - 1) ts)) wanted
-      (λ one n. means_once text asked front one wanted
-      (subst (λ (x : List Token). Means text asked x one) (front_is ts front end e) n) m) told
+      tells_gives integers r (Means integers text asked (take (length ts - 1) ts)) wanted
+      (λ one n. means_once integers text asked front one wanted
+      (subst (λ (x : List Token). Means integers text asked x one) (front_is ts front end e) n) m) told
 
   -- what is answered is meant
-  pub front_found : (wanted : Answer) × Means text asked front wanted × Gives r wanted
-  front_found = let w = each_means text asked front in (w.0, w.1, front_exact w.0 w.1)
+  pub front_found : (wanted : Answer) × Means integers text asked front wanted × Gives integers r wanted
+  front_found = let w = each_means integers text asked front in (w.0, w.1, front_exact w.0 w.1)
 
 names_give : (text : List ℕ) (ts : List Token) (r wanted : Result (List (List ℕ)) SourceFault) → NamesTell r (NamesAre text ts)
     → NamesAre text ts wanted

@@ -19,38 +19,44 @@ use Rattle.source_file.specs.Meaning.{Answer, place_of, item_of, walked, Functio
 use Rattle.source_file.specs.Meaning.{NamesAre}
 use Rattle.source_file.proofs.wholes.Functions.{AllWhole, all_whole, chosen_whole, whole_never_short}
 use Rattle.source_items.proofs.files.Every.{each_division}
+use Rattle.base_integers.specs.declared.integers.Integers.{Integers}
 
-by_scan : (text : List ℕ) (ts : List g.Token) (s : grammar.Scan) → grammar.Finds s ts → (grammar.Finds grammar.short ts → ⊥)
-    → (r : Answer) × FunctionMeans text ts r
-by_scan text ts grammar.whole ((f, reads), fine) n = (walked (walk (line_at text) f), inr (inr (f, reads, fine, refl)))
-by_scan text ts grammar.short f n = absurd (n f)
-by_scan text ts (grammar.unexpected a) f n = (Err (fault.Unexpected a), inl (a, f, refl))
-by_scan text ts (grammar.nested a) f n = (Err (fault.Nesting a), inr (inl (a, f, refl)))
+by_scan : (integers : Integers) (text : List ℕ) (ts : List g.Token) (s : grammar.Scan) → grammar.Finds s ts
+    → (grammar.Finds grammar.short ts → ⊥)
+    → (r : Answer) × FunctionMeans integers text ts r
+by_scan integers text ts grammar.whole ((f, reads), fine) n = (walked (walk integers (line_at text) f), inr (inr (f, reads, fine, refl)))
+by_scan integers text ts grammar.short f n = absurd (n f)
+by_scan integers text ts (grammar.unexpected a) f n = (Err (fault.Unexpected a), inl (a, f, refl))
+by_scan integers text ts (grammar.nested a) f n = (Err (fault.Nesting a), inr (inl (a, f, refl)))
 
-each_chosen : (text : List ℕ) (asked : Option (List ℕ)) (ts : List Token) (ds : List Defined) → AllWhole ts ds → (o : Option Defined)
-    → chosen asked ds ≡ o → (r : Answer) × ChosenMeans text ts o r
-each_chosen text asked ts ds h None e = (Err fault.WhichFunction, refl)
-each_chosen text asked ts ds h (Some d) e =
+each_chosen : (integers : Integers) (text : List ℕ) (asked : Option (List ℕ)) (ts : List Token) (ds : List Defined) → AllWhole ts ds
+    → (o : Option Defined)
+    → chosen asked ds ≡ o → (r : Answer) × ChosenMeans integers text ts o r
+each_chosen integers text asked ts ds h None e = (Err fault.WhichFunction, refl)
+each_chosen integers text asked ts ds h (Some d) e =
     let tokens = item_of text ts d in
-    by_scan text tokens (scan start tokens) (found_by (scan start tokens) tokens refl)
+    by_scan integers text tokens (scan start tokens) (found_by (scan start tokens) tokens refl)
     (λ f. whole_never_short text ts d (chosen_whole ts asked ds d h e) f)
 
-each_functions : (text : List ℕ) (asked : Option (List ℕ)) (ts : List Token) (ds : List Defined) → AllWhole ts ds → (o : Option ℕ)
-    → (r : Answer) × FunctionsMean text asked ts ds o r
-each_functions text asked ts ds h (Some at) = (Err (fault.NameTwice at), refl)
-each_functions text asked ts ds h None = each_chosen text asked ts ds h (chosen asked ds) refl
+each_functions : (integers : Integers) (text : List ℕ) (asked : Option (List ℕ)) (ts : List Token) (ds : List Defined) → AllWhole ts ds
+    → (o : Option ℕ)
+    → (r : Answer) × FunctionsMean integers text asked ts ds o r
+each_functions integers text asked ts ds h (Some at) = (Err (fault.NameTwice at), refl)
+each_functions integers text asked ts ds h None = each_chosen integers text asked ts ds h (chosen asked ds) refl
 
-by_outcome : (text : List ℕ) (asked : Option (List ℕ)) (ts : List Token) (o : file.Outcome) → file.Finds o (marks_of ts)
-    → (r : Answer) × Means text asked ts r
-by_outcome text asked ts (file.unexpected i) f = (Err (fault.Unexpected (place_of text ts i)), inl (i, f, refl))
-by_outcome text asked ts (file.divided items) f =
+by_outcome : (integers : Integers) (text : List ℕ) (asked : Option (List ℕ)) (ts : List Token) (o : file.Outcome)
+    → file.Finds o (marks_of ts)
+    → (r : Answer) × Means integers text asked ts r
+by_outcome integers text asked ts (file.unexpected i) f = (Err (fault.Unexpected (place_of text ts i)), inl (i, f, refl))
+by_outcome integers text asked ts (file.divided items) f =
     let ds = functions_of text ts items in
-    let r = each_functions text asked ts ds (all_whole text ts items f) (repeated [] ds) in
+    let r = each_functions integers text asked ts ds (all_whole text ts items f) (repeated [] ds) in
     (r.0, inr (items, f, r.1))
 
 -- whatever is asked
-pub each_means : (text : List ℕ) (asked : Option (List ℕ)) (ts : List Token) → (r : Answer) × Means text asked ts r
-each_means text asked ts = let o = each_division (marks_of ts) in by_outcome text asked ts o.0 o.1
+pub each_means : (integers : Integers) (text : List ℕ) (asked : Option (List ℕ)) (ts : List Token)
+    → (r : Answer) × Means integers text asked ts r
+each_means integers text asked ts = let o = each_division (marks_of ts) in by_outcome integers text asked ts o.0 o.1
 
 names_by : (text : List ℕ) (ts : List Token) (o : file.Outcome) → file.Finds o (marks_of ts)
     → (r : Result (List (List ℕ)) SourceFault) × NamesAre text ts r

@@ -1,5 +1,5 @@
 -- Each variable of a function that is meant is a name of the language.
-use Rattle.std.proofs.Common.{◌≡◌, ◌++◌, ◌-◌, ◌+◌, ℕ, zero, suc, Bool, true, false, cond, List, [], ◌∷◌, length, Option, Result, Ok, Err}
+use Rattle.std.proofs.Common.{◌≡◌, ◌++◌, ◌-◌, ◌+◌, ℕ, zero, suc, Bool, true, false, cond, List, [], ◌∷◌, length, Result, Ok, Err}
 use Rattle.std.proofs.Common.{sym, subst, reverse, nat_le, nat_lt}
 use Rattle.std.specs.Prelude.{◌&&◌}
 use Rattle.std.specs.List.{All, list_any, list_all}
@@ -15,8 +15,8 @@ use Rattle.lang_tokens.specs.declared.token.Kind as lex_kind
 use Rattle.lang_tokens.specs.declared.token.Kind.TheVariants as kind
 use Rattle.lang_tokens.specs.declared.token.Token as lex_token
 use Rattle.lang_tokens.specs.Lexemes.{IsName, IsToken}
-use Rattle.source_grammar.specs.Tokens.{Kind, a_name, Token, token, comma, semicolon, left_paren, right_paren, left_brace, right_brace}
-use Rattle.source_grammar.specs.Tokens.{int_word, while_word, else_word, colon}
+use Rattle.source_grammar.specs.Tokens.{Kind, a_name, Token, token, semicolon, left_paren, right_paren, left_brace, right_brace}
+use Rattle.source_grammar.specs.Tokens.{else_word}
 use Rattle.source_grammar.specs.Grammar.{spell_expr, Optional, absent, present, Update, update, step_before, steps, MoreUpdates}
 use Rattle.source_grammar.specs.Grammar.{last_update}
 use Rattle.source_grammar.specs.Grammar.{next_update, Updates, no_updates, some_updates, bare, given, sized, Declarator, declarator}
@@ -32,7 +32,7 @@ use Rattle.source_tree.specs.Expressions.{Expression}
 use Rattle.source_tree.specs.Expressions as operand
 use Rattle.source_tree.specs.Statements.{Change, sets, evaluates, Statements}
 use Rattle.lang_tree.specs.Tree.{nodes_in}
-use Rattle.source_core.specs.Core.{change_deeds, core_in, core_of}
+use Rattle.source_core.specs.Core.{change_deeds, core_in, core_of, taken_any}
 use Rattle.source_tokens.specs.Texts.{AreTokensIn}
 use Rattle.source_tokens.specs.View.{bytes_of, kind_of, tokens_of, word_kind, sign_kind}
 use Rattle.source_meaning.specs.declared.fault.FunctionFault.{FunctionFault}
@@ -55,6 +55,7 @@ use Rattle.source_meaning.specs.Walk.{variables_of, read_parameter, read_more_pa
 use Rattle.source_meaning.proofs.results.Values.{OnValue, on_bind, on_provided}
 use Rattle.source_meaning.proofs.names.Sound.{fresh_apart}
 use Rattle.source_meaning.specs.Laws.{IsNoneOf}
+use Rattle.base_integers.specs.declared.integers.Integers.{Integers}
 
 -- ---- names among tokens
 -- a token that is a name is one of the language
@@ -150,7 +151,7 @@ closed_kept : (before : ℕ) (st : State) → Kept st → Kept (closed before st
 closed_kept before st h = forgotten_kept (length st.names - before) st.names h
 
 -- ---- walks
-module _ (line : ℕ → ℕ) (n : ℕ) where
+module _ (integers : Integers) (line : ℕ → ℕ) (n : ℕ) where
   abbrev Walks : Result (State × Statements) FunctionFault → Type 0
   Walks r = OnValue (KeptWith {A = Statements}) r
 
@@ -168,35 +169,39 @@ module _ (line : ℕ → ℕ) (n : ℕ) where
       → ((x : A) → Walks (f x)) → Walks (r >>= f)
   some_kept {A} r f g = on_bind (Anything {A = A}) (KeptWith {A = Statements}) r f (anything r) (λ x i. g x)
 
-  few_kept : {A : Type 0} (P : A → Type 0) (l at : ℕ) (g : Change) (x : A) → P x → OnValue P (few n l at g x)
-  few_kept P l at g x h = provided_twice P (nat_le (behind_change n l g) (n + MOST_HIDDEN))
-      (list_all is_small_deed (change_deeds n g) && list_all is_small []) (fault.Limit at limit.Hidden) (fault.Limit at limit.Leaves) x h
+  few_kept : {A : Type 0} (P : A → Type 0) (l at : ℕ) (g : Change) (x : A) → P x → OnValue P (few integers n l at g x)
+  few_kept P l at g x h = provided_twice P (nat_le (behind_change integers n l g) (n + MOST_HIDDEN))
+      (list_all is_small_deed (change_deeds integers n g) && list_all is_small []) (fault.Limit at limit.Hidden)
+      (fault.Limit at limit.Leaves) x h
 
-  declarator_kept : (d : Declarator) (st : State) → AllNamed (spell_declarator d) → Kept st → Walks (read_declarator line n st d)
+  declarator_kept : (d : Declarator) (st : State) → AllNamed (spell_declarator d) → Kept st → Walks (read_declarator integers line n st d)
   declarator_kept (declarator x at bare) st m h = now_kept (with_variable x at st) _ (variable_kept x at st m.0 h)
-      (λ now k. now_kept (counted at 1 now) _ (count_kept at 1 now k) (λ more l. l))
-  declarator_kept (declarator x at (given b e)) st m h = some_kept (read (line at) st e n) _
+      (λ now k. let size = length (taken_any integers st.variables (line at)) in
+      now_kept (counted at size now) _ (count_kept at size now k) (λ more l. l))
+  declarator_kept (declarator x at (given b e)) st m h = some_kept (read integers (line at) st e n) _
       (λ v. now_kept (with_variable x at st) _ (variable_kept x at st m.0 h)
       (λ now k. let g : Change = sets st.variables v (line at) in
-      now_kept (few n (line at) at g now) _ (few_kept Kept (line at) at g now k)
-      (λ then l. now_kept (counted at (length (change_deeds n g)) then) _ (count_kept at (length (change_deeds n g)) then l)
+      now_kept (few integers n (line at) at g now) _ (few_kept Kept (line at) at g now k)
+      (λ then l. now_kept (counted at (length (change_deeds integers n g)) then) _
+      (count_kept at (length (change_deeds integers n g)) then l)
       (λ more i. i))))
   declarator_kept (declarator x at (sized b size c d)) st m h =
       now_kept (with_array x at size c st) _ (array_kept x at size c st m.0 h) (λ now k. k)
 
   more_declarators_kept : (xs : MoreDeclarators) (st : State) → AllNamed (spell_more_declarators xs) → Kept st
-      → Walks (read_more_declarators line n st xs)
+      → Walks (read_more_declarators integers line n st xs)
   more_declarators_kept last_declarator st m h = h
   more_declarators_kept (next_declarator a x xs) st m h =
       let both = split (spell_declarator x) (spell_more_declarators xs) m.1 in
-      then_kept (read_declarator line n st x) _ (declarator_kept x st both.0 h)
-      (λ r k. then_kept (read_more_declarators line n r.0 xs) _ (more_declarators_kept xs r.0 both.1 k) (λ q l. l))
+      then_kept (read_declarator integers line n st x) _ (declarator_kept x st both.0 h)
+      (λ r k. then_kept (read_more_declarators integers line n r.0 xs) _ (more_declarators_kept xs r.0 both.1 k) (λ q l. l))
 
-  declarators_kept : (xs : Declarators) (st : State) → AllNamed (spell_declarators xs) → Kept st → Walks (read_declarators line n st xs)
+  declarators_kept : (xs : Declarators) (st : State) → AllNamed (spell_declarators xs) → Kept st
+      → Walks (read_declarators integers line n st xs)
   declarators_kept (tree.declares x xs) st m h =
       let both = split (spell_declarator x) (spell_more_declarators xs) m in
-      then_kept (read_declarator line n st x) _ (declarator_kept x st both.0 h)
-      (λ r k. then_kept (read_more_declarators line n r.0 xs) _ (more_declarators_kept xs r.0 both.1 k) (λ q l. l))
+      then_kept (read_declarator integers line n st x) _ (declarator_kept x st both.0 h)
+      (λ r k. then_kept (read_more_declarators integers line n r.0 xs) _ (more_declarators_kept xs r.0 both.1 k) (λ q l. l))
 
   -- a change that is counted
   change_kept : (r : Result Change FunctionFault) (q : Change → Result Change FunctionFault) (at : ℕ) (more : Change → ℕ) (st : State)
@@ -205,136 +210,144 @@ module _ (line : ℕ → ℕ) (n : ℕ) where
       (λ g i. on_bind (Anything {A = Change}) (KeptWith {A = Change}) (q g) _ (anything (q g))
       (λ g j. on_bind Kept (KeptWith {A = Change}) (counted at (more g) st) _ (count_kept at (more g) st h) (λ now k. k)))
 
-  update_kept : (u : Update) (st : State) → Kept st → OnValue (KeptWith {A = Change}) (read_update line n st u)
+  update_kept : (u : Update) (st : State) → Kept st → OnValue (KeptWith {A = Change}) (read_update integers line n st u)
   update_kept (update p f) st h = let at = first_place p in
-      change_kept (changed n (line at) st p f) (λ g. few n (line at) at g g) at (λ g. length (change_deeds n g)) st h
+      change_kept (changed integers n (line at) st p f) (λ g. few integers n (line at) at g g) at
+      (λ g. length (change_deeds integers n g)) st h
   update_kept (step_before d at p) st h =
-      change_kept (changed n (line at) st p (steps d at)) (λ g. few n (line at) at g g) at (λ g. length (change_deeds n g)) st h
+      change_kept (changed integers n (line at) st p (steps d at)) (λ g. few integers n (line at) at g g) at
+      (λ g. length (change_deeds integers n g)) st h
 
-  more_updates_kept : (us : MoreUpdates) (st : State) → Kept st → OnValue (KeptWith {A = List Change}) (read_more_updates line n st us)
+  more_updates_kept : (us : MoreUpdates) (st : State) → Kept st
+      → OnValue (KeptWith {A = List Change}) (read_more_updates integers line n st us)
   more_updates_kept last_update st h = h
   more_updates_kept (next_update a u us) st h =
-      on_bind (KeptWith {A = Change}) (KeptWith {A = List Change}) (read_update line n st u) _ (update_kept u st h)
-      (λ r k. on_bind (KeptWith {A = List Change}) (KeptWith {A = List Change}) (read_more_updates line n r.0 us) _
+      on_bind (KeptWith {A = Change}) (KeptWith {A = List Change}) (read_update integers line n st u) _ (update_kept u st h)
+      (λ r k. on_bind (KeptWith {A = List Change}) (KeptWith {A = List Change}) (read_more_updates integers line n r.0 us) _
       (more_updates_kept us r.0 k) (λ q l. l))
 
-  updates_kept : (us : Updates) (st : State) → Kept st → OnValue (KeptWith {A = List Change}) (read_updates line n st us)
+  updates_kept : (us : Updates) (st : State) → Kept st → OnValue (KeptWith {A = List Change}) (read_updates integers line n st us)
   updates_kept no_updates st h = h
   updates_kept (some_updates u us) st h =
-      on_bind (KeptWith {A = Change}) (KeptWith {A = List Change}) (read_update line n st u) _ (update_kept u st h)
-      (λ r k. on_bind (KeptWith {A = List Change}) (KeptWith {A = List Change}) (read_more_updates line n r.0 us) _
+      on_bind (KeptWith {A = Change}) (KeptWith {A = List Change}) (read_update integers line n st u) _ (update_kept u st h)
+      (λ r k. on_bind (KeptWith {A = List Change}) (KeptWith {A = List Change}) (read_more_updates integers line n r.0 us) _
       (more_updates_kept us r.0 k) (λ q l. l))
 
-  first_kept : (f : ForFirst) (st : State) → AllNamed (spell_first f) → Kept st → Walks (read_first line n st f)
+  first_kept : (f : ForFirst) (st : State) → AllNamed (spell_first f) → Kept st → Walks (read_first integers line n st f)
   first_kept (declared_first a xs) st m h = declarators_kept xs st m.1 h
   first_kept (updated_first us) st m h =
-      on_bind (KeptWith {A = List Change}) (KeptWith {A = Statements}) (read_updates line n st us) _ (updates_kept us st h) (λ r k. k)
+      on_bind (KeptWith {A = List Change}) (KeptWith {A = Statements}) (read_updates integers line n st us) _ (updates_kept us st h)
+      (λ r k. k)
 
-  evaluated_kept : (at : ℕ) (g : Change) (st : State) → Kept st → Walks (read_evaluated line n st at g)
-  evaluated_kept at g st h = now_kept (few n (line at) at g st) _ (few_kept Kept (line at) at g st h)
-      (λ now k. now_kept (counted at (length (change_deeds n g)) now) _ (count_kept at (length (change_deeds n g)) now k) (λ more l. l))
+  evaluated_kept : (at : ℕ) (g : Change) (st : State) → Kept st → Walks (read_evaluated integers line n st at g)
+  evaluated_kept at g st h = now_kept (few integers n (line at) at g st) _ (few_kept Kept (line at) at g st h)
+      (λ now k. now_kept (counted at (length (change_deeds integers n g)) now) _
+      (count_kept at (length (change_deeds integers n g)) now k) (λ more l. l))
 
-  returned_kept : (at : ℕ) (t : Optional) (st : State) → Kept st → Walks (read_returned line n st at t)
+  returned_kept : (at : ℕ) (t : Optional) (st : State) → Kept st → Walks (read_returned integers line n st at t)
   returned_kept at absent st h = h
-  returned_kept at (present e) st h = some_kept (read (line at) st e n) _
+  returned_kept at (present e) st h = some_kept (read integers (line at) st e n) _
       (λ x. evaluated_kept at (evaluates (operand.more x operand.none) (line at)) st h)
 
   -- a statement under a condition that stands before it
   test_kept : (at : ℕ) (e : tree.Expr) (st : State) (size : Expression → ℕ)
       (f : Expression → State → Result (State × Statements) FunctionFault) → Kept st
       → ((x : Expression) (now : State) → Kept now → Walks (f x now))
-      → Walks (read_condition line n st at e >>= λ x. counted at (size x) st >>= λ now. f x now)
+      → Walks (read_condition integers line n st at e >>= λ x. counted at (size x) st >>= λ now. f x now)
   test_kept at e st size f h g =
-      some_kept (read_condition line n st at e) _ (λ x. now_kept (counted at (size x) st) _ (count_kept at (size x) st h) (g x))
+      some_kept (read_condition integers line n st at e) _ (λ x. now_kept (counted at (size x) st) _ (count_kept at (size x) st h) (g x))
 
   mutual
-    core_kept : (inside : Bool) (c : Core) (st : State) → AllNamed (spell_core c) → Kept st → Walks (read_core line n inside st c)
+    core_kept : (inside : Bool) (c : Core) (st : State) → AllNamed (spell_core c) → Kept st → Walks (read_core integers line n inside st c)
     core_kept inside (empty a) st m h = h
-    core_kept inside (block a is b) st m h = then_kept (read_items line n inside st is) _
+    core_kept inside (block a is b) st m h = then_kept (read_items integers line n inside st is) _
         (items_kept inside is st (split (spell_items is) (token right_brace b ∷ []) m.1).0 h)
         (λ r k. closed_kept (length st.names) r.0 k)
     core_kept inside (if_alone a b e c s) st m h =
         let part = split (spell_expr e) (token right_paren c ∷ spell_sub s) m.1.1 in
-        test_kept a e st (λ x. prelude_of line n a x + 1) _ h
-        (λ x now k. then_kept (read_sub line n inside now s) _ (sub_kept inside s now part.1.1 k) (λ r l. l))
+        test_kept a e st (λ x. prelude_of integers line n a x + 1) _ h
+        (λ x now k. then_kept (read_sub integers line n inside now s) _ (sub_kept inside s now part.1.1 k) (λ r l. l))
     core_kept inside (if_else a b e c s d t) st m h =
         let part = split (spell_expr e) (token right_paren c ∷ (spell_sub s ++ token else_word d ∷ spell_sub t)) m.1.1 in
         let both = split (spell_sub s) (token else_word d ∷ spell_sub t) part.1.1 in
-        test_kept a e st (λ x. prelude_of line n a x + 1) _ h
-        (λ x now k. then_kept (read_sub line n inside now s) _ (sub_kept inside s now both.0 k)
-        (λ r l. then_kept (read_sub line n inside r.0 t) _ (sub_kept inside t r.0 both.1.1 l) (λ q i. i)))
+        test_kept a e st (λ x. prelude_of integers line n a x + 1) _ h
+        (λ x now k. then_kept (read_sub integers line n inside now s) _ (sub_kept inside s now both.0 k)
+        (λ r l. then_kept (read_sub integers line n inside r.0 t) _ (sub_kept inside t r.0 both.1.1 l) (λ q i. i)))
     core_kept inside (repeat a b e c s) st m h =
         let part = split (spell_expr e) (token right_paren c ∷ spell_sub s) m.1.1 in
-        test_kept a e st (λ x. prelude_of line n a x + 1) _ h
-        (λ x now k. then_kept (read_sub line n true now s) _ (sub_kept true s now part.1.1 k) (λ r l. l))
+        test_kept a e st (λ x. prelude_of integers line n a x + 1) _ h
+        (λ x now k. then_kept (read_sub integers line n true now s) _ (sub_kept true s now part.1.1 k) (λ r l. l))
     core_kept inside (repeat_after a s b c e d i) st m h =
         now_kept (counted a 1 st) _ (count_kept a 1 st h)
-        (λ now k. then_kept (read_sub line n true now s) _ (sub_kept true s now (split (spell_sub s) _ m.1).0 k)
-        (λ r l. some_kept (read_condition line n r.0 a e) _ (λ x. now_kept (counted a (prelude_of line n a x) r.0) _
-        (count_kept a (prelude_of line n a x) r.0 l) (λ then j. j))))
+        (λ now k. then_kept (read_sub integers line n true now s) _ (sub_kept true s now (split (spell_sub s) _ m.1).0 k)
+        (λ r l. some_kept (read_condition integers line n r.0 a e) _ (λ x. now_kept (counted a (prelude_of integers line n a x) r.0) _
+        (count_kept a (prelude_of integers line n a x) r.0 l) (λ then j. j))))
     core_kept inside (repeat_for a b f c t d us i s) st m h =
         let one = split (spell_first f) (token semicolon c ∷ (spell_optional t ++ token semicolon d
         ∷ (spell_updates us ++ token right_paren i ∷ spell_sub s))) m.1.1 in
         let two = split (spell_optional t) (token semicolon d ∷ (spell_updates us ++ token right_paren i ∷ spell_sub s)) one.1.1 in
         let three = split (spell_updates us) (token right_paren i ∷ spell_sub s) two.1.1 in
-        then_kept (read_first line n st f) _ (first_kept f st one.0 h)
-        (λ r k. some_kept (read_test line n r.0 a t) _
-        (λ x. now_kept (counted a (prelude_of line n a x + 1) r.0) _ (count_kept a (prelude_of line n a x + 1) r.0 k)
-        (λ now l. on_bind (KeptWith {A = List Change}) (KeptWith {A = Statements}) (read_updates line n now us) _ (updates_kept us now l)
-        (λ u j. then_kept (read_sub line n true u.0 s) _ (sub_kept true s u.0 three.1.1 j)
+        then_kept (read_first integers line n st f) _ (first_kept f st one.0 h)
+        (λ r k. some_kept (read_test integers line n r.0 a t) _
+        (λ x. now_kept (counted a (prelude_of integers line n a x + 1) r.0) _ (count_kept a (prelude_of integers line n a x + 1) r.0 k)
+        (λ now l. on_bind (KeptWith {A = List Change}) (KeptWith {A = Statements}) (read_updates integers line n now us) _
+        (updates_kept us now l)
+        (λ u j. then_kept (read_sub integers line n true u.0 s) _ (sub_kept true s u.0 three.1.1 j)
         (λ q o. closed_kept (length st.names) q.0 o)))))
     core_kept inside (jumps j a b) st m h = now_kept (jumped inside a st) _ (jump_kept inside a st h) (λ now k. k)
-    core_kept inside (tree.returns a t b) st m h = then_kept (read_returned line n st a t) _ (returned_kept a t st h)
+    core_kept inside (tree.returns a t b) st m h = then_kept (read_returned integers line n st a t) _ (returned_kept a t st h)
         (λ r k. now_kept (counted a 1 r.0) _ (count_kept a 1 r.0 k) (λ now l. l))
     core_kept inside (demands k a b e c d) st m h =
-        some_kept (read_condition line n st a e) _ (λ x. let size = nodes_in (core_of n (demand_of k x a (line a))) in
+        some_kept (read_condition integers line n st a e) _ (λ x. let size = nodes_in (core_of integers n (demand_of k x a (line a))) in
         now_kept (counted a size st) _ (count_kept a size st h) (λ now l. l))
     core_kept inside (calls x a b es c d) st m h =
-        let size = nodes_in (core_in n (call_of x a (line a))) in
+        let size = nodes_in (core_in integers n (call_of x a (line a))) in
         some_kept (as_called a (known x st.names) es) _
-        (λ es. some_kept (read_arguments (line a) st es n) _
-        (λ es. then_kept (read_evaluated line n st a (evaluates es (line a))) _ (evaluated_kept a (evaluates es (line a)) st h)
+        (λ es. some_kept (read_arguments integers (line a) st es n) _
+        (λ es. then_kept (read_evaluated integers line n st a (evaluates es (line a))) _ (evaluated_kept a (evaluates es (line a)) st h)
         (λ r k. now_kept (counted a size r.0) _ (count_kept a size r.0 k) (λ now l. l))))
     core_kept inside (updates u c) st m h =
-        on_bind (KeptWith {A = Change}) (KeptWith {A = Statements}) (read_update line n st u) _ (update_kept u st h) (λ r k. k)
+        on_bind (KeptWith {A = Change}) (KeptWith {A = Statements}) (read_update integers line n st u) _ (update_kept u st h) (λ r k. k)
 
-    sub_kept : (inside : Bool) (s : Sub) (st : State) → AllNamed (spell_sub s) → Kept st → Walks (read_sub line n inside st s)
+    sub_kept : (inside : Bool) (s : Sub) (st : State) → AllNamed (spell_sub s) → Kept st → Walks (read_sub integers line n inside st s)
     sub_kept inside (labelled x a b s) st m h = now_kept (new_label x a st) _ (label_kept x a st h)
-        (λ now k. then_kept (read_sub line n inside now s) _ (sub_kept inside s now m.1.1 k) (λ r l. l))
+        (λ now k. then_kept (read_sub integers line n inside now s) _ (sub_kept inside s now m.1.1 k) (λ r l. l))
     sub_kept inside (plain c) st m h = core_kept inside c st m h
 
-    items_kept : (inside : Bool) (is : Items) (st : State) → AllNamed (spell_items is) → Kept st → Walks (read_items line n inside st is)
+    items_kept : (inside : Bool) (is : Items) (st : State) → AllNamed (spell_items is) → Kept st
+        → Walks (read_items integers line n inside st is)
     items_kept inside no_items st m h = h
     items_kept inside (tree.label x a b is) st m h = now_kept (new_label x a st) _ (label_kept x a st h)
-        (λ now k. then_kept (read_items line n inside now is) _ (items_kept inside is now m.1.1 k) (λ r l. l))
+        (λ now k. then_kept (read_items integers line n inside now is) _ (items_kept inside is now m.1.1 k) (λ r l. l))
     items_kept inside (tree.declaration a xs b is) st m h =
         let both = split (spell_declarators xs) (token semicolon b ∷ spell_items is) m.1 in
-        then_kept (read_declarators line n st xs) _ (declarators_kept xs st both.0 h)
-        (λ r k. then_kept (read_items line n inside r.0 is) _ (items_kept inside is r.0 both.1.1 k) (λ q l. l))
+        then_kept (read_declarators integers line n st xs) _ (declarators_kept xs st both.0 h)
+        (λ r k. then_kept (read_items integers line n inside r.0 is) _ (items_kept inside is r.0 both.1.1 k) (λ q l. l))
     items_kept inside (item c is) st m h =
         let both = split (spell_core c) (spell_items is) m in
-        then_kept (read_core line n inside st c) _ (core_kept inside c st both.0 h)
-        (λ r k. then_kept (read_items line n inside r.0 is) _ (items_kept inside is r.0 both.1 k) (λ q l. l))
+        then_kept (read_core integers line n inside st c) _ (core_kept inside c st both.0 h)
+        (λ r k. then_kept (read_items integers line n inside r.0 is) _ (items_kept inside is r.0 both.1 k) (λ q l. l))
 
-module _ (line : ℕ → ℕ) where
-  parameter_kept : (x : List ℕ) (at : ℕ) (st : State) → IsName x → Kept st → Walks line 0 (read_parameter line st x at)
-  parameter_kept x at st m h = now_kept line 0 (with_variable x at st) _ (variable_kept x at st m h)
-      (λ now k. now_kept line 0 (counted at 1 now) _ (count_kept at 1 now k) (λ more l. l))
+module _ (integers : Integers) (line : ℕ → ℕ) where
+  parameter_kept : (x : List ℕ) (at : ℕ) (st : State) → IsName x → Kept st → Walks integers line 0 (read_parameter integers line st x at)
+  parameter_kept x at st m h = now_kept integers line 0 (with_variable x at st) _ (variable_kept x at st m h)
+      (λ now k. let size = length (taken_any integers st.variables (line at)) in
+      now_kept integers line 0 (counted at size now) _ (count_kept at size now k) (λ more l. l))
 
   more_parameters_kept : (ps : MoreParameters) (st : State) → AllNamed (spell_more_parameters ps) → Kept st
-      → Walks line 0 (read_more_parameters line st ps)
+      → Walks integers line 0 (read_more_parameters integers line st ps)
   more_parameters_kept last_parameter st m h = h
   more_parameters_kept (next_parameter a b x at ps) st m h =
-      then_kept line 0 (read_parameter line st x at) _ (parameter_kept x at st m.1.1.0 h)
-      (λ r k. then_kept line 0 (read_more_parameters line r.0 ps) _ (more_parameters_kept ps r.0 m.1.1.1 k) (λ q l. l))
+      then_kept integers line 0 (read_parameter integers line st x at) _ (parameter_kept x at st m.1.1.0 h)
+      (λ r k. then_kept integers line 0 (read_more_parameters integers line r.0 ps) _ (more_parameters_kept ps r.0 m.1.1.1 k) (λ q l. l))
 
   parameters_kept : (ps : Parameters) (st : State) → AllNamed (spell_parameters ps) → Kept st
-      → Walks line 0 (read_parameters line st ps)
+      → Walks integers line 0 (read_parameters integers line st ps)
   parameters_kept no_parameters st m h = h
   parameters_kept (void_parameters a) st m h = h
   parameters_kept (int_parameters a x at ps) st m h =
-      then_kept line 0 (read_parameter line st x at) _ (parameter_kept x at st m.1.0 h)
-      (λ r k. then_kept line 0 (read_more_parameters line r.0 ps) _ (more_parameters_kept ps r.0 m.1.1 k) (λ q l. l))
+      then_kept integers line 0 (read_parameter integers line st x at) _ (parameter_kept x at st m.1.0 h)
+      (λ r k. then_kept integers line 0 (read_more_parameters integers line r.0 ps) _ (more_parameters_kept ps r.0 m.1.1 k) (λ q l. l))
 
 -- ---- functions
 -- the variables among names, in order of declaration
@@ -354,22 +367,25 @@ variables_named (m ∷ ms) h = by (variables_named ms h.1) m.thing where
 abbrev pub AreNamed : List (List ℕ) × Statements → Type 0
 AreNamed r = All IsName r.0
 
-function_named : (line : ℕ → ℕ) (st : State) (body : Statements) → Kept st → OnValue AreNamed (function_of line st body)
-function_named line st body h = by (reverse (variables_of st.names)) (variables_named st.names h) where
+function_named : (integers : Integers) (line : ℕ → ℕ) (st : State) (body : Statements) → Kept st
+    → OnValue AreNamed (function_of integers line st body)
+function_named integers line st body h = by (reverse (variables_of st.names)) (variables_named st.names h) where
   by : (xs : List (List ℕ)) → All IsName xs → OnValue AreNamed (elim xs as (λ z. Result (List (List ℕ) × Statements) FunctionFault)
       [ [] ↦ Err NoVariables | x ∷ xs ↦ Ok (x ∷ xs, body) ])
   by [] k = tt
   by (x ∷ xs) k = k
 
 -- each variable of a function is a name of the language, where each name among its tokens is
-pub walk_named : (line : ℕ → ℕ) (f : Function) → AllNamed (spell f) → OnValue AreNamed (walk line f)
-walk_named line (function ss f a ps b c is d) m =
+pub walk_named : (integers : Integers) (line : ℕ → ℕ) (f : Function) → AllNamed (spell f) → OnValue AreNamed (walk integers line f)
+walk_named integers line (function ss f a ps b c is d) m =
     let n = width_of (function ss f a ps b c is d) in
     let rest = token right_paren b ∷ token left_brace c ∷ (spell_items is ++ token right_brace d ∷ []) in
     let head = split (spell_specifiers ss) (spell_function_name f ++ token left_paren a ∷ (spell_parameters ps ++ rest)) m in
     let behind = split (spell_function_name f) (token left_paren a ∷ (spell_parameters ps ++ rest)) head.1 in
     let front = split (spell_parameters ps) rest behind.1.1 in
     let body = split (spell_items is) (token right_brace d ∷ []) front.1.1.1 in
-    on_bind (KeptWith {A = Statements}) AreNamed (read_parameters line start_state ps) _ (parameters_kept line ps start_state front.0 tt)
-    (λ p h. on_bind (KeptWith {A = Statements}) AreNamed (read_items line n false p.0 is) _ (items_kept line n false is p.0 body.0 h)
-    (λ r k. function_named line r.0 _ k))
+    on_bind (KeptWith {A = Statements}) AreNamed (read_parameters integers line start_state ps) _
+    (parameters_kept integers line ps start_state front.0 tt)
+    (λ p h. on_bind (KeptWith {A = Statements}) AreNamed (read_items integers line n false p.0 is) _
+    (items_kept integers line n false is p.0 body.0 h)
+    (λ r k. function_named integers line r.0 _ k))

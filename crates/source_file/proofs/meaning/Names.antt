@@ -1,10 +1,7 @@
 -- The variables of a function that is meant are names of the language, no two of which are one.
-use Rattle.std.proofs.Common.{◌≡◌, ℕ, List, Result, sym, subst}
+use Rattle.std.proofs.Common.{sym, subst}
 use Rattle.std.specs.Prelude.{slice_range}
-use Rattle.std.specs.List.{All}
-use Rattle.lang_tokens.specs.Lexemes.{IsName}
 use Rattle.lang_tokens.specs.Lines.{line_at}
-use Rattle.source_tree.specs.Statements.{Statements}
 use Rattle.source_meaning.specs.Walk.{walk}
 use Rattle.source_meaning.proofs.results.Values.{value_of}
 use Rattle.source_meaning.proofs.walk.Reads.{Reads, walk_reads}
@@ -15,10 +12,10 @@ use Rattle.source_file.proofs.meaning.Walked.{means_walked}
 
 -- they are names of the language, and stand once
 pub program_names : ProgramNamesAreNames
-program_names text asked ts names body placed m =
-    let (d, (f, reads, e)) = means_walked text (names, body) asked ts m in (
-      value_of AreNamed (walk (line_at text) f) (names, body)
-          (walk_named (line_at text) f (subst AllNamed (sym reads.spelled)
+program_names integers text asked ts names body placed m =
+    let (d, (f, reads, e)) = means_walked integers text (names, body) asked ts m in (
+      value_of AreNamed (walk integers (line_at text) f) (names, body)
+          (walk_named integers (line_at text) f (subst AllNamed (sym reads.spelled)
           (tokens_named text (slice_range ts d.first d.end) (range_in text ts d.first d.end placed)))) e,
-      (value_of (Reads f) (walk (line_at text) f) (names, body) (walk_reads (line_at text) f) e).apart,
+      (value_of (Reads integers f) (walk integers (line_at text) f) (names, body) (walk_reads integers (line_at text) f) e).apart,
     )

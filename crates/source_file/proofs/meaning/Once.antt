@@ -21,47 +21,52 @@ use Rattle.source_file.specs.Functions.{functions_of}
 use Rattle.source_file.specs.Choice.{repeated, chosen}
 use Rattle.source_file.specs.Meaning.{Answer, place_of, item_of, walked, FunctionMeans, ChosenMeans, FunctionsMean, Means, named_in}
 use Rattle.source_file.specs.Meaning.{NamesAre}
+use Rattle.base_integers.specs.declared.integers.Integers.{Integers}
 
 one_scan : (ts : List g.Token) (s t : grammar.Scan) → grammar.Finds s ts → grammar.Finds t ts → s ≡ t
 one_scan ts s t a b = sym (exact_by (scan start ts) s ts refl a) ∙ exact_by (scan start ts) t ts refl b
 
 -- what is answered where this is found
-abbrev Answers : (text : List ℕ) → List g.Token → grammar.Scan → Answer → Type 0
-Answers text ts grammar.whole r = (f : Function) × Reads ts f × (r ≡ walked (walk (line_at text) f))
-Answers text ts grammar.short r = ⊥
-Answers text ts (grammar.unexpected a) r = r ≡ Err (fault.Unexpected a)
-Answers text ts (grammar.nested a) r = r ≡ Err (fault.Nesting a)
+abbrev Answers : (integers : Integers) (text : List ℕ) → List g.Token → grammar.Scan → Answer → Type 0
+Answers integers text ts grammar.whole r = (f : Function) × Reads ts f × (r ≡ walked (walk integers (line_at text) f))
+Answers integers text ts grammar.short r = ⊥
+Answers integers text ts (grammar.unexpected a) r = r ≡ Err (fault.Unexpected a)
+Answers integers text ts (grammar.nested a) r = r ≡ Err (fault.Nesting a)
 
-told : (text : List ℕ) (ts : List g.Token) (r : Answer) → FunctionMeans text ts r
-    → (s : grammar.Scan) × grammar.Finds s ts × Answers text ts s r
-told text ts r (inl (a, f, e)) = (grammar.unexpected a, f, e)
-told text ts r (inr (inl (a, f, e))) = (grammar.nested a, f, e)
-told text ts r (inr (inr (f, reads, fine, e))) = (grammar.whole, ((f, reads), fine), (f, reads, e))
+told : (integers : Integers) (text : List ℕ) (ts : List g.Token) (r : Answer) → FunctionMeans integers text ts r
+    → (s : grammar.Scan) × grammar.Finds s ts × Answers integers text ts s r
+told integers text ts r (inl (a, f, e)) = (grammar.unexpected a, f, e)
+told integers text ts r (inr (inl (a, f, e))) = (grammar.nested a, f, e)
+told integers text ts r (inr (inr (f, reads, fine, e))) = (grammar.whole, ((f, reads), fine), (f, reads, e))
 
-one_answer : (text : List ℕ) (ts : List g.Token) (s : grammar.Scan) (r q : Answer) → Answers text ts s r → Answers text ts s q → r ≡ q
-one_answer text ts grammar.whole r q (f, a, e) (h, b, i) =
-    e ∙ ap (λ (x : Function). walked (walk (line_at text) x)) (reads_once ts f h a b) ∙ sym i
-one_answer text ts grammar.short r q a b = absurd a
-one_answer text ts (grammar.unexpected a) r q e i = e ∙ sym i
-one_answer text ts (grammar.nested a) r q e i = e ∙ sym i
+one_answer : (integers : Integers) (text : List ℕ) (ts : List g.Token) (s : grammar.Scan) (r q : Answer) → Answers integers text ts s r
+    → Answers integers text ts s q → r ≡ q
+one_answer integers text ts grammar.whole r q (f, a, e) (h, b, i) =
+    e ∙ ap (λ (x : Function). walked (walk integers (line_at text) x)) (reads_once ts f h a b) ∙ sym i
+one_answer integers text ts grammar.short r q a b = absurd a
+one_answer integers text ts (grammar.unexpected a) r q e i = e ∙ sym i
+one_answer integers text ts (grammar.nested a) r q e i = e ∙ sym i
 
 -- what a function means
-pub function_once : (text : List ℕ) (ts : List g.Token) (r q : Answer) → FunctionMeans text ts r → FunctionMeans text ts q → r ≡ q
-function_once text ts r q a b =
-    let x = told text ts r a in
-    let y = told text ts q b in
+pub function_once : (integers : Integers) (text : List ℕ) (ts : List g.Token) (r q : Answer) → FunctionMeans integers text ts r
+    → FunctionMeans integers text ts q → r ≡ q
+function_once integers text ts r q a b =
+    let x = told integers text ts r a in
+    let y = told integers text ts q b in
     let same : y.0 ≡ x.0 = one_scan ts y.0 x.0 y.1 x.1 in
-    one_answer text ts x.0 r q x.2 (subst (λ (s : grammar.Scan). Answers text ts s q) same y.2)
+    one_answer integers text ts x.0 r q x.2 (subst (λ (s : grammar.Scan). Answers integers text ts s q) same y.2)
 
-chosen_once : (text : List ℕ) (ts : List Token) (o : Option Defined) (r q : Answer) → ChosenMeans text ts o r → ChosenMeans text ts o q
+chosen_once : (integers : Integers) (text : List ℕ) (ts : List Token) (o : Option Defined) (r q : Answer)
+    → ChosenMeans integers text ts o r → ChosenMeans integers text ts o q
     → r ≡ q
-chosen_once text ts None r q a b = a ∙ sym b
-chosen_once text ts (Some d) r q a b = function_once text (item_of text ts d) r q a b
+chosen_once integers text ts None r q a b = a ∙ sym b
+chosen_once integers text ts (Some d) r q a b = function_once integers text (item_of text ts d) r q a b
 
-functions_once : (text : List ℕ) (asked : Option (List ℕ)) (ts : List Token) (ds : List Defined) (o : Option ℕ) (r q : Answer)
-    → FunctionsMean text asked ts ds o r → FunctionsMean text asked ts ds o q → r ≡ q
-functions_once text asked ts ds (Some at) r q a b = a ∙ sym b
-functions_once text asked ts ds None r q a b = chosen_once text ts (chosen asked ds) r q a b
+functions_once : (integers : Integers) (text : List ℕ) (asked : Option (List ℕ)) (ts : List Token) (ds : List Defined) (o : Option ℕ)
+    (r q : Answer)
+    → FunctionsMean integers text asked ts ds o r → FunctionsMean integers text asked ts ds o q → r ≡ q
+functions_once integers text asked ts ds (Some at) r q a b = a ∙ sym b
+functions_once integers text asked ts ds None r q a b = chosen_once integers text ts (chosen asked ds) r q a b
 
 items_same : (items others : List Item) → file.divided items ≡ file.divided others → items ≡ others
 items_same items others e = cc
@@ -73,19 +78,21 @@ unlike : {A : Type 0} (i : ℕ) (items : List Item) → file.unexpected i ≡ fi
 unlike i items e = cc
 
 -- what tokens mean
-pub means_once : (text : List ℕ) (asked : Option (List ℕ)) (ts : List Token) (r q : Answer) → Means text asked ts r → Means text asked ts q
+pub means_once : (integers : Integers) (text : List ℕ) (asked : Option (List ℕ)) (ts : List Token) (r q : Answer)
+    → Means integers text asked ts r → Means integers text asked ts q
     → r ≡ q
-means_once text asked ts r q (inl (i, f, e)) (inl (j, h, k)) =
+means_once integers text asked ts r q (inl (i, f, e)) (inl (j, h, k)) =
     let same = index_same i j (one_outcome (marks_of ts) (file.unexpected i) (file.unexpected j) f h) in
     e ∙ ap (λ (n : ℕ). let a : Answer = Err (fault.Unexpected (place_of text ts n)) in a) same ∙ sym k
-means_once text asked ts r q (inl (i, f, e)) (inr (items, h, b)) =
+means_once integers text asked ts r q (inl (i, f, e)) (inr (items, h, b)) =
     unlike i items (one_outcome (marks_of ts) (file.unexpected i) (file.divided items) f h)
-means_once text asked ts r q (inr (items, h, b)) (inl (i, f, e)) =
+means_once integers text asked ts r q (inr (items, h, b)) (inl (i, f, e)) =
     unlike i items (one_outcome (marks_of ts) (file.unexpected i) (file.divided items) f h)
-means_once text asked ts r q (inr (items, h, b)) (inr (others, k, c)) =
+means_once integers text asked ts r q (inr (items, h, b)) (inr (others, k, c)) =
     let same = items_same others items (one_outcome (marks_of ts) (file.divided others) (file.divided items) k h) in
-    functions_once text asked ts (functions_of text ts items) (repeated [] (functions_of text ts items)) r q b
-    (subst (λ (xs : List Item). FunctionsMean text asked ts (functions_of text ts xs) (repeated [] (functions_of text ts xs)) q) same c)
+    functions_once integers text asked ts (functions_of text ts items) (repeated [] (functions_of text ts items)) r q b
+    (subst (λ (xs : List Item). FunctionsMean integers text asked ts (functions_of text ts xs)
+    (repeated [] (functions_of text ts xs)) q) same c)
 
 -- what its functions are
 pub names_once : (text : List ℕ) (ts : List Token) (r q : Result (List (List ℕ)) SourceFault) → NamesAre text ts r → NamesAre text ts q

@@ -16,8 +16,9 @@ use Rattle.source_meaning.specs.Changes.{stepped, right_side, written, affected,
 use Rattle.source_meaning.proofs.results.Values.{OnValue, on_bind}
 use Rattle.source_meaning.proofs.names.Sound.{Sound, variable_below}
 use Rattle.source_meaning.proofs.expressions.Over.{anything, ranged_has, read_over}
+use Rattle.base_integers.specs.declared.integers.Integers.{Integers}
 
-module _ (n line : ℕ) (st : State) (s : Sound st) (few : st.variables ≤ n) where
+module _ (integers : Integers) (n line : ℕ) (st : State) (s : Sound st) (few : st.variables ≤ n) where
   abbrev Over : Expression → Type 0
   Over e = IsTrue (is_over n e)
 
@@ -27,22 +28,23 @@ module _ (n line : ℕ) (st : State) (s : Sound st) (few : st.variables ≤ n) w
   abbrev ChangeOver : Change → Type 0
   ChangeOver g = IsTrue (is_change_over n g)
 
-  expression_over : (e : Expr) (h : ℕ) → OnValue Over (read line st e h)
-  expression_over e h = read_over n line st s few e h
+  expression_over : (e : Expr) (h : ℕ) → OnValue Over (read integers line st e h)
+  expression_over e h = read_over integers n line st s few e h
 
   one_over : (x : Expression) → Over x → AllOver (more x none)
   one_over x o = and_from (is_over n x) true o refl
 
   -- an operation on the old value and the right side
   operation : (old : Expression) (e : Expr) (h : ℕ) (sign : ℕ) (make : Expression → Expression)
-      → ((x : Expression) → Over x → Over (make x)) → OnValue Over (read line st e h >>= λ x. ranged line sign n (make x))
-  operation old e h sign make f = on_bind Over Over (read line st e h) _ (expression_over e h)
-      (λ x o. ranged_has line Over sign n (make x) (f x o))
+      → ((x : Expression) → Over x → Over (make x)) → OnValue Over (read integers line st e h >>= λ x. ranged integers line sign n (make x))
+  operation old e h sign make f = on_bind Over Over (read integers line st e h) _ (expression_over e h)
+      (λ x o. ranged_has integers line Over sign n (make x) (f x o))
 
-  right_over : (c : g.Change) (sign : ℕ) (old : Expression) (e : Expr) → Over old → OnValue Over (right_side n line st c sign old e)
+  right_over : (c : g.Change) (sign : ℕ) (old : Expression) (e : Expr) → Over old
+      → OnValue Over (right_side integers n line st c sign old e)
   right_over c sign old e o = by c (λ x p. and_from (is_over n old) (is_over n x) o p) where
     by : (c : g.Change) → ((x : Expression) → Over x → IsTrue (is_over n old && is_over n x))
-        → OnValue Over (right_side n line st c sign old e)
+        → OnValue Over (right_side integers n line st c sign old e)
     by g.replaces f = expression_over e n
     by g.adds f = operation old e n sign (λ x. joined plus sign old x) f
     by g.subtracts f = operation old e n sign (λ x. joined minus sign old x) f
@@ -50,17 +52,21 @@ module _ (n line : ℕ) (st : State) (s : Sound st) (few : st.variables ≤ n) w
     by g.divides f = operation old e n sign (λ x. joined over sign old x) f
     by g.remains f = operation old e n sign (λ x. joined remainder sign old x) f
 
-  written_over : (c : g.Change) (sign : ℕ) (old : Expression) (e : Expr) → Over old → OnValue AllOver (written n line st c sign old e)
+  written_over : (c : g.Change) (sign : ℕ) (old : Expression) (e : Expr) → Over old
+      → OnValue AllOver (written integers n line st c sign old e)
   written_over c sign old e o = by c (λ x p. and_from (is_over n old) (is_over n x) o p) where
     with : (make : Expression → Expression) → ((x : Expression) → Over x → Over (make x))
-        → OnValue AllOver (read line st e (behind_number line old n) >>= λ x. ranged line sign n (make x) >>= λ y. Ok (more y none))
-    with make f = on_bind Over AllOver (read line st e (behind_number line old n)) _ (expression_over e (behind_number line old n))
-        (λ x p. on_bind Over AllOver (ranged line sign n (make x)) _ (ranged_has line Over sign n (make x) (f x p))
+        → OnValue AllOver (read integers line st e (behind_number integers line old n) >>= λ x. ranged integers line sign n (make x)
+        >>= λ y. Ok (more y none))
+    with make f = on_bind Over AllOver (read integers line st e (behind_number integers line old n)) _
+        (expression_over e (behind_number integers line old n))
+        (λ x p. on_bind Over AllOver (ranged integers line sign n (make x)) _ (ranged_has integers line Over sign n (make x) (f x p))
         (λ y q. one_over y q))
 
     by : (c : g.Change) → ((x : Expression) → Over x → IsTrue (is_over n old && is_over n x))
-        → OnValue AllOver (written n line st c sign old e)
-    by g.replaces f = on_bind Over AllOver (read line st e (behind line old n)) _ (expression_over e (behind line old n))
+        → OnValue AllOver (written integers n line st c sign old e)
+    by g.replaces f = on_bind Over AllOver (read integers line st e (behind integers line old n)) _
+        (expression_over e (behind integers line old n))
         (λ x p. and_from (is_over n old) (is_over n x && true) o (and_from (is_over n x) true p refl))
     by g.adds f = with (λ x. joined plus sign old x) f
     by g.subtracts f = with (λ x. joined minus sign old x) f
@@ -72,27 +78,28 @@ module _ (n line : ℕ) (st : State) (s : Sound st) (few : st.variables ≤ n) w
   stepped_over g.up sign old o = and_from (is_over n old) true o refl
   stepped_over g.down sign old o = and_from (is_over n old) true o refl
 
-  affected_over : (i at : ℕ) (f : Effect) → IsTrue (nat_lt i n) → OnValue ChangeOver (affected n line st i at f)
-  affected_over i at (assigns c sign e) l = on_bind Over ChangeOver (right_side n line st c sign (variable i at) e) _
+  affected_over : (i at : ℕ) (f : Effect) → IsTrue (nat_lt i n) → OnValue ChangeOver (affected integers n line st i at f)
+  affected_over i at (assigns c sign e) l = on_bind Over ChangeOver (right_side integers n line st c sign (variable i at) e) _
       (right_over c sign (variable i at) e l) (λ x o. and_from (nat_lt i n) (is_over n x) l o)
-  affected_over i at (steps d sign) l = on_bind Over ChangeOver (ranged line sign n (stepped d sign (variable i at))) _
-      (ranged_has line Over sign n (stepped d sign (variable i at)) (stepped_over d sign (variable i at) l))
+  affected_over i at (steps d sign) l = on_bind Over ChangeOver (ranged integers line sign n (stepped d sign (variable i at))) _
+      (ranged_has integers line Over sign n (stepped d sign (variable i at)) (stepped_over d sign (variable i at) l))
       (λ x o. and_from (nat_lt i n) (is_over n x) l o)
 
-  evaluated_over : (old : Expression) (f : Effect) → Over old → OnValue ChangeOver (evaluated_by n line st old f)
-  evaluated_over old (assigns c sign e) o = on_bind AllOver ChangeOver (written n line st c sign old e) _ (written_over c sign old e o)
+  evaluated_over : (old : Expression) (f : Effect) → Over old → OnValue ChangeOver (evaluated_by integers n line st old f)
+  evaluated_over old (assigns c sign e) o =
+      on_bind AllOver ChangeOver (written integers n line st c sign old e) _ (written_over c sign old e o)
       (λ xs p. p)
-  evaluated_over old (steps d sign) o = on_bind Over ChangeOver (ranged line sign n (stepped d sign old)) _
-      (ranged_has line Over sign n (stepped d sign old) (stepped_over d sign old o)) (λ x p. one_over x p)
+  evaluated_over old (steps d sign) o = on_bind Over ChangeOver (ranged integers line sign n (stepped d sign old)) _
+      (ranged_has integers line Over sign n (stepped d sign old) (stepped_over d sign old o)) (λ x p. one_over x p)
 
-  element_over : (x : List ℕ) (at bracket : ℕ) (e : Expr) → OnValue Over (read_element n line st x at bracket e)
+  element_over : (x : List ℕ) (at bracket : ℕ) (e : Expr) → OnValue Over (read_element integers n line st x at bracket e)
   element_over x at bracket e = on_bind (λ size. Unit {0}) Over (array_of x at st) _ (anything (array_of x at st))
-      (λ size u. on_bind Over Over (read line st e n) _ (expression_over e n)
-      (λ i o. ranged_has line Over bracket n (element size bracket i at) o))
+      (λ size u. on_bind Over Over (read integers line st e n) _ (expression_over e n)
+      (λ i o. ranged_has integers line Over bracket n (element size bracket i at) o))
 
   -- the change of a place
-  pub changed_over : (p : Place) (f : Effect) → OnValue (λ g. IsTrue (is_change_over n g)) (changed n line st p f)
+  pub changed_over : (p : Place) (f : Effect) → OnValue (λ g. IsTrue (is_change_over n g)) (changed integers n line st p f)
   changed_over (place x a no_index) f = on_bind (λ i. i < st.variables) ChangeOver (variable_of x a st) _ (variable_below x a st s)
       (λ i l. affected_over i a f (lt-ltb i n (omega (arith, l, few))))
-  changed_over (place x a (index b e c)) f = on_bind Over ChangeOver (read_element n line st x a b e) _ (element_over x a b e)
+  changed_over (place x a (index b e c)) f = on_bind Over ChangeOver (read_element integers n line st x a b e) _ (element_over x a b e)
       (λ old o. evaluated_over old f o)

@@ -1,7 +1,7 @@
 -- All numbers of what is read are in their ranges.
 use Rattle.std.proofs.Common.{◌≡◌, ℕ, zero, suc, ℤ, pos, Bool, true, false, List, [], ◌∷◌, ◌++◌, IsTrue, refl, sym}
-use Rattle.std.proofs.Common.{subst, replicate}
-use Rattle.std.specs.Prelude.{◌&&◌}
+use Rattle.std.proofs.Common.{subst, replicate, map}
+use Rattle.std.specs.Prelude.{◌&&◌, ◌*ℤ◌, negsuc}
 use Rattle.std.specs.List.{list_all}
 use Rattle.std.proofs.lemmas.Bool.{and_from, and_parts}
 use Rattle.lang_tree.specs.Numbers.{are_numbers}
@@ -17,7 +17,7 @@ use Rattle.source_core.specs.Forms.{constant_form, variable_form, sums}
 use Rattle.source_core.specs.Forms as form
 use Rattle.source_core.specs.Preludes.{under, all_under}
 use Rattle.source_core.specs.Elaborated.{Result as Value, a_form, a_truth, any, Elaborated, selects, tested, as_number, numbered}
-use Rattle.source_core.specs.Elaborated.{elaborated, evaluated}
+use Rattle.source_core.specs.Elaborated.{held, elaborated, evaluated}
 use Rattle.source_core.specs.Fits.{is_comparable, condition_fits, deed_fits, deeds_fit, result_fits, fits, numbered_fits, tested_fits}
 use Rattle.source_meaning.specs.declared.fault.FunctionFault.TheVariants.{BigNumber}
 use Rattle.source_meaning.specs.Names.{State, known, variable_of, array_of, as_called}
@@ -26,6 +26,11 @@ use Rattle.source_meaning.specs.Expressions.{side}
 use Rattle.source_meaning.specs.Expressions.{behind_side, prefixed, read, read_arguments, read_more}
 use Rattle.source_meaning.proofs.results.Values.{OnValue, on_bind, on_provided}
 use Rattle.source_meaning.proofs.expressions.Over.{anything}
+use Rattle.base_integers.specs.declared.integers.Integers.{Integers}
+use Rattle.base_integers.specs.declared.integers.Integers.TheVariants.{Mathematical, Machine}
+use Rattle.base_integers.specs.declared.integers.Width.{Width}
+use Rattle.base_integers.specs.declared.integers.Width.TheVariants.{Bits8, Bits16, Bits32}
+use Rattle.base_integers.specs.Integers.{greatest}
 
 -- ---- deeds
 -- what each of two lists passes, both one behind the other pass
@@ -71,11 +76,44 @@ less_none : (i : ℕ) → IsTrue (is_comparable (form.minus (variable_form i) (c
 less_none i = and_from (has_numbers (form.minus (variable_form i) (constant_form (pos 0)))) true
     (and_from (are_numbers (sums (replicate i (pos 0) ++ (pos 1 ∷ [])) [])) true (less_numbers i) refl) refl
 
+opposite_numbers : (i : ℕ) → IsTrue (are_numbers (map (λ x. negsuc 0 *ℤ x) (replicate i (pos 0) ++ (pos 1 ∷ []))))
+opposite_numbers zero = refl
+opposite_numbers (suc i) = opposite_numbers i
+
+-- what a variable is compared with where it is one of the integers of a width
+least_fits : (width : Width) (i : ℕ) → IsTrue (is_comparable (form.minus (constant_form (negsuc (greatest width))) (variable_form i)))
+least_fits width i = by width where
+  all : List ℤ
+  all = map (λ x. negsuc 0 *ℤ x) (replicate i (pos 0) ++ (pos 1 ∷ []))
+
+  by : (width : Width) → IsTrue (is_comparable (form.minus (constant_form (negsuc (greatest width))) (variable_form i)))
+  by Bits8 = and_from (are_numbers all && true) true (and_from (are_numbers all) true (opposite_numbers i) refl) refl
+  by Bits16 = and_from (are_numbers all && true) true (and_from (are_numbers all) true (opposite_numbers i) refl) refl
+  by Bits32 = and_from (are_numbers all && true) true (and_from (are_numbers all) true (opposite_numbers i) refl) refl
+
+greatest_fits : (width : Width) (i : ℕ) → IsTrue (is_comparable (form.minus (variable_form i) (constant_form (pos (greatest width)))))
+greatest_fits width i = by width where
+  all : List ℤ
+  all = sums (replicate i (pos 0) ++ (pos 1 ∷ [])) []
+
+  by : (width : Width) → IsTrue (is_comparable (form.minus (variable_form i) (constant_form (pos (greatest width)))))
+  by Bits8 = and_from (are_numbers all && true) true (and_from (are_numbers all) true (less_numbers i) refl) refl
+  by Bits16 = and_from (are_numbers all && true) true (and_from (are_numbers all) true (less_numbers i) refl) refl
+  by Bits32 = and_from (are_numbers all && true) true (and_from (are_numbers all) true (less_numbers i) refl) refl
+
+-- a variable that took any of the integers has numbers in their ranges
+pub held_fits : (integers : Integers) (line i : ℕ) → IsTrue (deeds_fit (held integers line i))
+held_fits Mathematical line i = refl
+held_fits (Machine width) line i =
+    let low = is_comparable (form.minus (constant_form (negsuc (greatest width))) (variable_form i)) in
+    let high = is_comparable (form.minus (variable_form i) (constant_form (pos (greatest width)))) in
+    and_from (low && high) true (and_from low high (least_fits width i) (greatest_fits width i)) refl
+
 -- a result in range is one as a number
-number_fits : (line : ℕ) (ds : List Deed) (h : ℕ) (r : Value) → IsTrue (deeds_fit ds) → IsTrue (result_fits r)
-    → IsTrue (numbered_fits (as_number line ds h r))
-number_fits line ds h (a_form f) p q = and_from (deeds_fit ds) (has_numbers f) p q
-number_fits line ds h (a_truth c) p q =
+number_fits : (integers : Integers) (line : ℕ) (ds : List Deed) (h : ℕ) (r : Value) → IsTrue (deeds_fit ds) → IsTrue (result_fits r)
+    → IsTrue (numbered_fits (as_number integers line ds h r))
+number_fits integers line ds h (a_form f) p q = and_from (deeds_fit ds) (has_numbers f) p q
+number_fits integers line ds h (a_truth c) p q =
     let one = constant_form (pos 1) in
     let zero = constant_form (pos 0) in
     let last = havocs h line ∷ wheres (selects c h one zero) line ∷ [] in
@@ -86,40 +124,40 @@ number_fits line ds h (a_truth c) p q =
     (and_from (condition_fits c) v q (less_none h)) in
     and_from (deeds_fit (ds ++ last)) (has_numbers (variable_form h))
     (all_then deed_fits ds last p (and_from (condition_fits (selects c h one zero)) true w refl)) (variable_numbers h)
-number_fits line ds h any p q = and_from (deeds_fit (ds ++ havocs h line ∷ [])) (has_numbers (variable_form h))
-    (all_then deed_fits ds (havocs h line ∷ []) p refl) (variable_numbers h)
+number_fits integers line ds h any p q = and_from (deeds_fit (ds ++ havocs h line ∷ held integers line h)) (has_numbers (variable_form h))
+    (all_then deed_fits ds (havocs h line ∷ held integers line h) p (held_fits integers line h)) (variable_numbers h)
 
 -- so is the result of an expression
-pub numbered_fit : (line : ℕ) (e : Elaborated) → IsTrue (fits e) → IsTrue (numbered_fits (numbered line e))
-numbered_fit line e h = let p = and_parts (deeds_fit e.prelude) (result_fits e.result) h in
-    number_fits line e.prelude e.next e.result p.0 p.1
+pub numbered_fit : (integers : Integers) (line : ℕ) (e : Elaborated) → IsTrue (fits e) → IsTrue (numbered_fits (numbered integers line e))
+numbered_fit integers line e h = let p = and_parts (deeds_fit e.prelude) (result_fits e.result) h in
+    number_fits integers line e.prelude e.next e.result p.0 p.1
 
 -- the prelude of a result in range is in range
 pub prelude_fits : (e : Elaborated) → IsTrue (fits e) → IsTrue (deeds_fit e.prelude)
 prelude_fits e h = (and_parts (deeds_fit e.prelude) (result_fits e.result) h).0
 
 -- ---- expressions
-module _ (line : ℕ) where
+module _ (integers : Integers) (line : ℕ) where
   -- what an expression is in the core has numbers in their ranges
   abbrev pub InRange : (h : ℕ) → Expression → Type 0
-  InRange h e = IsTrue (fits (elaborated line e h))
+  InRange h e = IsTrue (fits (elaborated integers line e h))
 
   -- so has what it is as a condition, where it has to be one
   abbrev SideInRange : Bool → (h : ℕ) → Expression → Type 0
-  SideInRange true h e = IsTrue (tested_fits (tested (elaborated line e h)))
+  SideInRange true h e = IsTrue (tested_fits (tested (elaborated integers line e h)))
   SideInRange false h e = Unit {0}
 
   -- an expression whose numbers are asked for has them in their ranges
-  pub ranged_fits : (sign h : ℕ) (e : Expression) → OnValue (InRange h) (ranged line sign h e)
-  ranged_fits sign h e = on_provided (InRange h) (fits (elaborated line e h)) (BigNumber sign) e (λ t. t)
+  pub ranged_fits : (sign h : ℕ) (e : Expression) → OnValue (InRange h) (ranged integers line sign h e)
+  ranged_fits sign h e = on_provided (InRange h) (fits (elaborated integers line e h)) (BigNumber sign) e (λ t. t)
 
   -- so has one that is to be a condition
   pub condition_in_range : (first h : ℕ) (e : Expression)
-      → OnValue (λ x. IsTrue (tested_fits (tested (elaborated line x h)))) (as_condition line first h e)
-  condition_in_range first h e = on_provided (λ x. IsTrue (tested_fits (tested (elaborated line x h))))
-      (tested_fits (tested (elaborated line e h))) (BigNumber first) e (λ t. t)
+      → OnValue (λ x. IsTrue (tested_fits (tested (elaborated integers line x h)))) (as_condition integers line first h e)
+  condition_in_range first h e = on_provided (λ x. IsTrue (tested_fits (tested (elaborated integers line x h))))
+      (tested_fits (tested (elaborated integers line e h))) (BigNumber first) e (λ t. t)
 
-  side_in_range : (b : Bool) (first h : ℕ) (e : Expression) → OnValue (SideInRange b h) (side line b first h e)
+  side_in_range : (b : Bool) (first h : ℕ) (e : Expression) → OnValue (SideInRange b h) (side integers line b first h e)
   side_in_range true first h e = condition_in_range first h e
   side_in_range false first h e = tt
 
@@ -133,17 +171,17 @@ module _ (line : ℕ) where
       and_from (deeds_fit (ds ++ all_under u es)) (condition_fits c && condition_fits d)
       (all_then deed_fits ds (all_under u es) p.0 (all_under_fit u es l q.0)) (and_from (condition_fits c) (condition_fits d) p.1 q.1)
 
-  operated_fits : (o : g.Op) (sign h : ℕ) (x y : Expression) → SideInRange (joins_conditions line o) h x
-      → SideInRange (joins_conditions line o) (behind_side line (joins_conditions line o) x h) y
-      → OnValue (InRange h) (operated line o sign h x y)
+  operated_fits : (o : g.Op) (sign h : ℕ) (x y : Expression) → SideInRange (joins_conditions integers line o) h x
+      → SideInRange (joins_conditions integers line o) (behind_side integers line (joins_conditions integers line o) x h) y
+      → OnValue (InRange h) (operated integers line o sign h x y)
   operated_fits g.or_op sign h x y p q =
-      let a = tested (elaborated line x h) in
-      let b = tested (elaborated line y a.next) in
+      let a = tested (elaborated integers line x h) in
+      let b = tested (elaborated integers line y a.next) in
       conditions_fit a.prelude b.prelude a.condition b.condition (core.negation a.condition) p q
       (and_parts (deeds_fit a.prelude) (condition_fits a.condition) p).1
   operated_fits g.and_op sign h x y p q =
-      let a = tested (elaborated line x h) in
-      let b = tested (elaborated line y a.next) in
+      let a = tested (elaborated integers line x h) in
+      let b = tested (elaborated integers line y a.next) in
       conditions_fit a.prelude b.prelude a.condition b.condition a.condition p q
       (and_parts (deeds_fit a.prelude) (condition_fits a.condition) p).1
   operated_fits (g.compare_op r) sign h x y p q = ranged_fits sign h (compared (rel_of r) sign x y)
@@ -153,74 +191,87 @@ module _ (line : ℕ) where
   operated_fits g.over_op sign h x y p q = ranged_fits sign h (joined over sign x y)
   operated_fits g.remainder_op sign h x y p q = ranged_fits sign h (joined remainder sign x y)
 
-  prefixed_fits : (p : g.Prefix) (sign first h : ℕ) (x : Expression) → InRange h x → OnValue (InRange h) (prefixed line p sign first h x)
+  prefixed_fits : (p : g.Prefix) (sign first h : ℕ) (x : Expression) → InRange h x
+      → OnValue (InRange h) (prefixed integers line p sign first h x)
   prefixed_fits g.negative sign first h x k = ranged_fits sign h (negative sign x)
-  prefixed_fits g.positive sign first h x k = numbered_fit line (elaborated line x h) k
+  prefixed_fits g.positive sign first h x k = numbered_fit integers line (elaborated integers line x h) k
   prefixed_fits g.negation sign first h x k =
-      on_bind (λ x. IsTrue (tested_fits (tested (elaborated line x h)))) (InRange h) (as_condition line first h x) _
+      on_bind (λ x. IsTrue (tested_fits (tested (elaborated integers line x h)))) (InRange h) (as_condition integers line first h x) _
       (condition_in_range first h x) (λ x t. t)
 
   module _ (st : State) where
     mutual
       -- the expression that is read
-      pub read_fits : (e : Expr) (h : ℕ) → OnValue (λ x. IsTrue (fits (elaborated line x h))) (read line st e h)
+      pub read_fits : (e : Expr) (h : ℕ) → OnValue (λ x. IsTrue (fits (elaborated integers line x h))) (read integers line st e h)
       read_fits (tree.number v a) h = ranged_fits a h (number v a)
-      read_fits (tree.variable x a) h = on_bind (λ i. Unit {0}) (λ x. IsTrue (fits (elaborated line x h))) (variable_of x a st) _
+      read_fits (tree.variable x a) h = on_bind (λ i. Unit {0}) (λ x. IsTrue (fits (elaborated integers line x h))) (variable_of x a st) _
           (anything (variable_of x a st)) (λ i u. variable_numbers i)
-      read_fits (tree.element x a b e c) h = on_bind (λ size. Unit {0}) (λ x. IsTrue (fits (elaborated line x h))) (array_of x a st) _
+      read_fits (tree.element x a b e c) h =
+          on_bind (λ size. Unit {0}) (λ x. IsTrue (fits (elaborated integers line x h))) (array_of x a st) _
           (anything (array_of x a st))
-          (λ size u. on_bind (λ x. IsTrue (fits (elaborated line x h))) (λ x. IsTrue (fits (elaborated line x h))) (read line st e h) _
+          (λ size u. on_bind (λ x. IsTrue (fits (elaborated integers line x h))) (λ x. IsTrue (fits (elaborated integers line x h)))
+          (read integers line st e h) _
           (read_fits e h) (λ i k. ranged_fits b h (element size b i a)))
-      read_fits (tree.call x a b es c) h = on_bind (λ y. Unit {0}) (λ x. IsTrue (fits (elaborated line x h)))
+      read_fits (tree.call x a b es c) h = on_bind (λ y. Unit {0}) (λ x. IsTrue (fits (elaborated integers line x h)))
           (as_called a (known x st.names) a) _
           (anything (as_called a (known x st.names) a))
-          (λ y u. on_bind (λ xs. IsTrue (deeds_fit (evaluated line xs h).prelude)) (λ x. IsTrue (fits (elaborated line x h)))
-          (read_arguments line st es h) _ (arguments_fit es h) (λ xs k. and_from (deeds_fit (evaluated line xs h).prelude) true k refl))
+          (λ y u. on_bind (λ xs. IsTrue (deeds_fit (evaluated integers line xs h).prelude))
+          (λ x. IsTrue (fits (elaborated integers line x h)))
+          (read_arguments integers line st es h) _ (arguments_fit es h)
+          (λ xs k. and_from (deeds_fit (evaluated integers line xs h).prelude) true k refl))
       read_fits (tree.free a b c) h = refl
-      read_fits (tree.grouped a e b) h = on_bind (λ x. IsTrue (fits (elaborated line x h))) (λ x. IsTrue (fits (elaborated line x h)))
-          (read line st e h) _ (read_fits e h) (λ x k. k)
-      read_fits (tree.prefixed p a e) h = on_bind (λ x. IsTrue (fits (elaborated line x h))) (λ x. IsTrue (fits (elaborated line x h)))
-          (read line st e h) _ (read_fits e h) (λ x k. prefixed_fits p a (first_of e) h x k)
+      read_fits (tree.grouped a e b) h =
+          on_bind (λ x. IsTrue (fits (elaborated integers line x h))) (λ x. IsTrue (fits (elaborated integers line x h)))
+          (read integers line st e h) _ (read_fits e h) (λ x k. k)
+      read_fits (tree.prefixed p a e) h =
+          on_bind (λ x. IsTrue (fits (elaborated integers line x h))) (λ x. IsTrue (fits (elaborated integers line x h)))
+          (read integers line st e h) _ (read_fits e h) (λ x k. prefixed_fits p a (first_of e) h x k)
       read_fits (tree.joined e o a f) h =
-          let P : Expression → Type 0 = λ x. IsTrue (fits (elaborated line x h)) in
-          let b = joins_conditions line o in
-          on_bind (λ x. Unit {0}) P (read line st e h) _ (anything (read line st e h))
-          (λ x u. on_bind (SideInRange b h) P (side line b (first_of e) h x) _ (side_in_range b (first_of e) h x)
-          (λ x p. on_bind (λ y. Unit {0}) P (read line st f (behind_side line b x h)) _ (anything (read line st f (behind_side line b x h)))
-          (λ y u. on_bind (SideInRange b (behind_side line b x h)) P (side line b (first_of f) (behind_side line b x h) y) _
-          (side_in_range b (first_of f) (behind_side line b x h) y)
+          let P : Expression → Type 0 = λ x. IsTrue (fits (elaborated integers line x h)) in
+          let b = joins_conditions integers line o in
+          on_bind (λ x. Unit {0}) P (read integers line st e h) _ (anything (read integers line st e h))
+          (λ x u. on_bind (SideInRange b h) P (side integers line b (first_of e) h x) _ (side_in_range b (first_of e) h x)
+          (λ x p. on_bind (λ y. Unit {0}) P (read integers line st f (behind_side integers line b x h)) _
+          (anything (read integers line st f (behind_side integers line b x h)))
+          (λ y u. on_bind (SideInRange b (behind_side integers line b x h)) P
+          (side integers line b (first_of f) (behind_side integers line b x h) y) _
+          (side_in_range b (first_of f) (behind_side integers line b x h) y)
           (λ y q. operated_fits o a h x y p q))))
       read_fits (tree.chosen c a e b f) h =
-          let P : Expression → Type 0 = λ x. IsTrue (fits (elaborated line x h)) in
-          on_bind (λ x. Unit {0}) P (read line st c h) _ (anything (read line st c h))
-          (λ x u. on_bind (λ x. Unit {0}) P (as_condition line (first_of c) h x) _ (anything (as_condition line (first_of c) h x))
-          (λ x u. on_bind (λ y. Unit {0}) P (read line st e (behind line x h)) _ (anything (read line st e (behind line x h)))
-          (λ y u. on_bind (λ z. Unit {0}) P (read line st f (behind_number line y (behind line x h))) _
-          (anything (read line st f (behind_number line y (behind line x h))))
+          let P : Expression → Type 0 = λ x. IsTrue (fits (elaborated integers line x h)) in
+          on_bind (λ x. Unit {0}) P (read integers line st c h) _ (anything (read integers line st c h))
+          (λ x u. on_bind (λ x. Unit {0}) P (as_condition integers line (first_of c) h x) _
+          (anything (as_condition integers line (first_of c) h x))
+          (λ x u. on_bind (λ y. Unit {0}) P (read integers line st e (behind integers line x h)) _
+          (anything (read integers line st e (behind integers line x h)))
+          (λ y u. on_bind (λ z. Unit {0}) P (read integers line st f (behind_number integers line y (behind integers line x h))) _
+          (anything (read integers line st f (behind_number integers line y (behind integers line x h))))
           (λ z u. ranged_fits a h (chosen a x y z)))))
 
       -- the arguments that are read
       pub arguments_fit : (es : Arguments) (h : ℕ)
-          → OnValue (λ xs. IsTrue (deeds_fit (evaluated line xs h).prelude)) (read_arguments line st es h)
+          → OnValue (λ xs. IsTrue (deeds_fit (evaluated integers line xs h).prelude)) (read_arguments integers line st es h)
       arguments_fit no_arguments h = refl
       arguments_fit (arguments e es) h =
-          on_bind (λ x. IsTrue (fits (elaborated line x h))) (λ xs. IsTrue (deeds_fit (evaluated line xs h).prelude)) (read line st e h) _
+          on_bind (λ x. IsTrue (fits (elaborated integers line x h))) (λ xs. IsTrue (deeds_fit (evaluated integers line xs h).prelude))
+          (read integers line st e h) _
           (read_fits e h)
-          (λ x k. on_bind (λ xs. IsTrue (deeds_fit (evaluated line xs (behind line x h)).prelude))
-          (λ xs. IsTrue (deeds_fit (evaluated line xs h).prelude)) (read_more line st es (behind line x h)) _
-          (more_fit es (behind line x h))
-          (λ xs l. all_then deed_fits (elaborated line x h).prelude (evaluated line xs (behind line x h)).prelude
-          (prelude_fits (elaborated line x h) k) l))
+          (λ x k. on_bind (λ xs. IsTrue (deeds_fit (evaluated integers line xs (behind integers line x h)).prelude))
+          (λ xs. IsTrue (deeds_fit (evaluated integers line xs h).prelude)) (read_more integers line st es (behind integers line x h)) _
+          (more_fit es (behind integers line x h))
+          (λ xs l. all_then deed_fits (elaborated integers line x h).prelude (evaluated integers line xs (behind integers line x h)).prelude
+          (prelude_fits (elaborated integers line x h) k) l))
 
       -- and those behind the first
       pub more_fit : (es : MoreArguments) (h : ℕ)
-          → OnValue (λ xs. IsTrue (deeds_fit (evaluated line xs h).prelude)) (read_more line st es h)
+          → OnValue (λ xs. IsTrue (deeds_fit (evaluated integers line xs h).prelude)) (read_more integers line st es h)
       more_fit last_argument h = refl
       more_fit (next_argument a e es) h =
-          on_bind (λ x. IsTrue (fits (elaborated line x h))) (λ xs. IsTrue (deeds_fit (evaluated line xs h).prelude)) (read line st e h) _
+          on_bind (λ x. IsTrue (fits (elaborated integers line x h))) (λ xs. IsTrue (deeds_fit (evaluated integers line xs h).prelude))
+          (read integers line st e h) _
           (read_fits e h)
-          (λ x k. on_bind (λ xs. IsTrue (deeds_fit (evaluated line xs (behind line x h)).prelude))
-          (λ xs. IsTrue (deeds_fit (evaluated line xs h).prelude)) (read_more line st es (behind line x h)) _
-          (more_fit es (behind line x h))
-          (λ xs l. all_then deed_fits (elaborated line x h).prelude (evaluated line xs (behind line x h)).prelude
-          (prelude_fits (elaborated line x h) k) l))
+          (λ x k. on_bind (λ xs. IsTrue (deeds_fit (evaluated integers line xs (behind integers line x h)).prelude))
+          (λ xs. IsTrue (deeds_fit (evaluated integers line xs h).prelude)) (read_more integers line st es (behind integers line x h)) _
+          (more_fit es (behind integers line x h))
+          (λ xs l. all_then deed_fits (elaborated integers line x h).prelude (evaluated integers line xs (behind integers line x h)).prelude
+          (prelude_fits (elaborated integers line x h) k) l))

@@ -3,7 +3,7 @@ use Rattle.std.proofs.Common.{◌≡◌, ◌+◌, ℕ, Bool, true, IsTrue, List,
 use Rattle.std.proofs.Common.{arith}
 use Rattle.std.specs.Prelude.{◌&&◌, nat_lt, pos}
 use Rattle.std.specs.List.{list_all}
-use Rattle.std.proofs.lemmas.Bool.{and_from, and_parts, lt-ltb, ltb-true}
+use Rattle.std.proofs.lemmas.Bool.{and_from, and_parts, ltb-true}
 use Rattle.std.proofs.lemmas.List.{length-append}
 use Rattle.lang_tree.specs.declared.cond.Rel.TheVariants.{Ne, Le}
 use Rattle.lang_tree.specs.declared.check.Check.{Check}
@@ -19,11 +19,14 @@ use Rattle.source_tree.specs.Statements.{changes, assumes, asserts, never, branc
 use Rattle.source_core.specs.Forms.{constant_form}
 use Rattle.source_core.specs.Laws.{is_over}
 use Rattle.source_core.specs.RunLaws.{is_change_over, is_statement_over, are_statements_over}
-use Rattle.source_core.specs.Core.{change_deeds, changes_deeds, condition_of, kind_of, core_of, core_in, behind}
+use Rattle.source_core.specs.Core.{taken_any, change_deeds, changes_deeds, condition_of, kind_of, core_of, core_in, behind}
 use Rattle.source_core.specs.Core as kept
 use Rattle.source_meaning.specs.Statements.{followed_by, one, as_statements}
-use Rattle.source_meaning.proofs.limits.Deeds.{tested_good}
+use Rattle.source_meaning.proofs.limits.Deeds.{any_good, tested_good}
 use Rattle.source_meaning.proofs.expressions.Fits.{all_then}
+use Rattle.base_integers.specs.declared.integers.Integers.{Integers}
+use Rattle.base_integers.specs.declared.integers.Integers.TheVariants.{Mathematical, Machine}
+use Rattle.base_integers.specs.declared.integers.Width.TheVariants.{Bits8, Bits16, Bits32}
 
 -- ---- how many statements the core has
 -- statements one list behind the other add up
@@ -42,14 +45,14 @@ pub nodes_behind : (ds : List Deed) (rest : core.Statements) → nodes_in (behin
 nodes_behind [] rest = omega arith
 nodes_behind (d ∷ ds) rest = let e = nodes_behind ds rest in let k = one_deed d in omega (arith, e, k)
 
-module _ (n : ℕ) where
+module _ (integers : Integers) (n : ℕ) where
   -- how many statements of the core these are
   abbrev pub nodes : Statements → ℕ
-  nodes ss = nodes_in (core_in n ss)
+  nodes ss = nodes_in (core_in integers n ss)
 
   -- a statement and others are as many as both together
-  pub nodes_cons : (s : Statement) (ss : Statements) → nodes (cons s ss) ≡ nodes_in (core_of n s) + nodes ss
-  nodes_cons s ss = nodes_followed (core_of n s) (core_in n ss)
+  pub nodes_cons : (s : Statement) (ss : Statements) → nodes (cons s ss) ≡ nodes_in (core_of integers n s) + nodes ss
+  nodes_cons s ss = nodes_followed (core_of integers n s) (core_in integers n ss)
 
   -- so are statements and others behind them
   pub nodes_then : (a b : Statements) → nodes (followed_by a b) ≡ nodes a + nodes b
@@ -58,29 +61,33 @@ module _ (n : ℕ) where
       let e = nodes_then ss b in let f = nodes_cons s (followed_by ss b) in let g = nodes_cons s ss in omega (arith, e, f, g)
 
   -- one statement alone is as many as it is
-  pub nodes_one : (s : Statement) → nodes (one s) ≡ nodes_in (core_of n s)
+  pub nodes_one : (s : Statement) → nodes (one s) ≡ nodes_in (core_of integers n s)
   nodes_one s = let e = nodes_cons s nil in omega (arith, e)
 
   -- a change is as many as its deeds
-  pub nodes_change : (g : Change) → nodes_in (core_of n (changes g)) ≡ length (change_deeds n g)
-  nodes_change g = let e = nodes_behind (change_deeds n g) core.nil in omega (arith, e)
+  pub nodes_change : (g : Change) → nodes_in (core_of integers n (changes g)) ≡ length (change_deeds integers n g)
+  nodes_change g = let e = nodes_behind (change_deeds integers n g) core.nil in omega (arith, e)
+
+  -- so is a declaration
+  pub nodes_declares : (var line : ℕ) → nodes_in (core_of integers n (declares var line)) ≡ length (taken_any integers var line)
+  nodes_declares var line = let e = nodes_behind (taken_any integers var line) core.nil in omega (arith, e)
 
   -- so are changes in order
-  pub nodes_changes : (gs : List Change) → nodes (as_statements gs) ≡ length (changes_deeds n gs)
+  pub nodes_changes : (gs : List Change) → nodes (as_statements gs) ≡ length (changes_deeds integers n gs)
   nodes_changes [] = refl
   nodes_changes (g ∷ gs) =
       let e = nodes_changes gs in
       let f = nodes_cons (changes g) (as_statements gs) in
       let k = nodes_change g in
-      let l = length-append (change_deeds n g) (changes_deeds n gs) in
+      let l = length-append (change_deeds integers n g) (changes_deeds integers n gs) in
       omega (arith, e, f, k, l)
 
   -- an `if` is its prelude, itself and its two sides
   pub nodes_branch : (e : Expression) (a b : Statements) (line : ℕ)
-      → nodes_in (core_of n (branch e a b line)) ≡ length (condition_of n line e).prelude + 1 + nodes a + nodes b
+      → nodes_in (core_of integers n (branch e a b line)) ≡ length (condition_of integers n line e).prelude + 1 + nodes a + nodes b
   nodes_branch e a b line =
-      let k = nodes_behind (condition_of n line e).prelude
-      (kept.one (core.branch (condition_of n line e).condition (core_in n a) (core_in n b) line)) in
+      let k = nodes_behind (condition_of integers n line e).prelude
+      (kept.one (core.branch (condition_of integers n line e).condition (core_in integers n a) (core_in integers n b) line)) in
       omega (arith, k)
 
 -- ---- statements of the core
@@ -116,16 +123,34 @@ core_behind m inside (d ∷ ds) rest h k = let p = and_parts (is_deed m d) (list
 core_one : (m : ℕ) (inside : Bool) (s : core.Statement) → IsTrue (is_statement m inside s) → IsTrue (are_statements m inside (kept.one s))
 core_one m inside s h = and_from (is_statement m inside s) true h refl
 
+-- 0 is one of the integers, and it is compared with itself
+always_good : (integers : Integers) (m n line at : ℕ)
+    → IsTrue (list_all (is_deed m) (condition_of integers n line (compared Le at (number 0 at) (number 0 at))).prelude)
+    × IsTrue (is_tested m (condition_of integers n line (compared Le at (number 0 at) (number 0 at))).condition)
+always_good integers m n line at = by integers where
+  always : Expression
+  always = compared Le at (number 0 at) (number 0 at)
+
+  Limited : Integers → Type 0
+  Limited i = IsTrue (list_all (is_deed m) (condition_of i n line always).prelude)
+      × IsTrue (is_tested m (condition_of i n line always).condition)
+
+  by : (i : Integers) → Limited i
+  by Mathematical = (refl, tested_good m (condition_of Mathematical n line always).condition (omega arith) refl refl)
+  by (Machine Bits8) = (refl, tested_good m (condition_of (Machine Bits8) n line always).condition (omega arith) refl refl)
+  by (Machine Bits16) = (refl, tested_good m (condition_of (Machine Bits16) n line always).condition (omega arith) refl refl)
+  by (Machine Bits32) = (refl, tested_good m (condition_of (Machine Bits32) n line always).condition (omega arith) refl refl)
+
 -- ---- what is good
-module _ (n : ℕ) where
+module _ (integers : Integers) (n : ℕ) where
   -- a condition has the first n variables, and in the core it keeps to the limits
   abbrev pub GoodCondition : (line : ℕ) → Expression → Type 0
-  GoodCondition line e = IsTrue (is_over n e) × IsTrue (list_all (is_deed (n + MOST_HIDDEN)) (condition_of n line e).prelude)
-      × IsTrue (is_tested (n + MOST_HIDDEN) (condition_of n line e).condition)
+  GoodCondition line e = IsTrue (is_over n e) × IsTrue (list_all (is_deed (n + MOST_HIDDEN)) (condition_of integers n line e).prelude)
+      × IsTrue (is_tested (n + MOST_HIDDEN) (condition_of integers n line e).condition)
 
   -- so does a change
   abbrev pub GoodChange : Change → Type 0
-  GoodChange g = IsTrue (is_change_over n g) × IsTrue (list_all (is_deed (n + MOST_HIDDEN)) (change_deeds n g))
+  GoodChange g = IsTrue (is_change_over n g) × IsTrue (list_all (is_deed (n + MOST_HIDDEN)) (change_deeds integers n g))
 
   -- so do changes in order
   abbrev pub GoodChanges : List Change → Type 0
@@ -134,10 +159,10 @@ module _ (n : ℕ) where
 
   -- so do statements, a jump standing where it may
   abbrev pub GoodStatement : (inside : Bool) → Statement → Type 0
-  GoodStatement inside s = IsTrue (is_statement_over n s) × IsTrue (are_statements (n + MOST_HIDDEN) inside (core_of n s))
+  GoodStatement inside s = IsTrue (is_statement_over n s) × IsTrue (are_statements (n + MOST_HIDDEN) inside (core_of integers n s))
 
   abbrev pub Good : (inside : Bool) → Statements → Type 0
-  Good inside ss = IsTrue (are_statements_over n ss) × IsTrue (are_statements (n + MOST_HIDDEN) inside (core_in n ss))
+  Good inside ss = IsTrue (are_statements_over n ss) × IsTrue (are_statements (n + MOST_HIDDEN) inside (core_in integers n ss))
 
   -- no statements are good
   pub good_nil : (inside : Bool) → Good inside nil
@@ -147,7 +172,7 @@ module _ (n : ℕ) where
   pub good_cons : (inside : Bool) (s : Statement) (ss : Statements) → GoodStatement inside s → Good inside ss → Good inside (cons s ss)
   good_cons inside s ss g h = (
     and_from (is_statement_over n s) (are_statements_over n ss) g.0 h.0,
-    core_then (n + MOST_HIDDEN) inside (core_of n s) (core_in n ss) g.1 h.1,
+    core_then (n + MOST_HIDDEN) inside (core_of integers n s) (core_in integers n ss) g.1 h.1,
   )
 
   -- a good statement alone
@@ -157,7 +182,7 @@ module _ (n : ℕ) where
   good_parts : (inside : Bool) (s : Statement) (ss : Statements) → Good inside (cons s ss) → GoodStatement inside s × Good inside ss
   good_parts inside s ss g =
       let p = and_parts (is_statement_over n s) (are_statements_over n ss) g.0 in
-      let q = core_parts (n + MOST_HIDDEN) inside (core_of n s) (core_in n ss) g.1 in
+      let q = core_parts (n + MOST_HIDDEN) inside (core_of integers n s) (core_in integers n ss) g.1 in
       ((p.0, q.0), (p.1, q.1))
 
   -- good statements and others behind them
@@ -170,13 +195,13 @@ module _ (n : ℕ) where
   pub good_declares : (inside : Bool) (var line : ℕ) → IsTrue (nat_lt var n) → GoodStatement inside (declares var line)
   good_declares inside var line h = (
     h,
-    core_one (n + MOST_HIDDEN) inside (core.havoc var line)
-        (lt-ltb var (n + MOST_HIDDEN) (omega (arith, ltb-true var n h))),
+    core_behind (n + MOST_HIDDEN) inside (taken_any integers var line) core.nil
+        (any_good integers (n + MOST_HIDDEN) var line (omega (arith, ltb-true var n h))) refl,
   )
 
   -- a good change
   pub good_change : (inside : Bool) (g : Change) → GoodChange g → GoodStatement inside (changes g)
-  good_change inside g h = (h.0, core_behind (n + MOST_HIDDEN) inside (change_deeds n g) core.nil h.1 refl)
+  good_change inside g h = (h.0, core_behind (n + MOST_HIDDEN) inside (change_deeds integers n g) core.nil h.1 refl)
 
   -- no changes are good
   pub no_changes : GoodChanges []
@@ -190,9 +215,10 @@ module _ (n : ℕ) where
   changes_over [] h = refl
   changes_over (g ∷ gs) h = and_from (is_change_over n g) (list_all (is_change_over n) gs) h.0.0 (changes_over gs h.1)
 
-  changes_limited : (gs : List Change) → GoodChanges gs → IsTrue (list_all (is_deed (n + MOST_HIDDEN)) (changes_deeds n gs))
+  changes_limited : (gs : List Change) → GoodChanges gs → IsTrue (list_all (is_deed (n + MOST_HIDDEN)) (changes_deeds integers n gs))
   changes_limited [] h = refl
-  changes_limited (g ∷ gs) h = all_then (is_deed (n + MOST_HIDDEN)) (change_deeds n g) (changes_deeds n gs) h.0.1 (changes_limited gs h.1)
+  changes_limited (g ∷ gs) h =
+      all_then (is_deed (n + MOST_HIDDEN)) (change_deeds integers n g) (changes_deeds integers n gs) h.0.1 (changes_limited gs h.1)
 
   -- changes as statements
   pub good_changes : (inside : Bool) (gs : List Change) → GoodChanges gs → Good inside (as_statements gs)
@@ -205,31 +231,33 @@ module _ (n : ℕ) where
       → GoodStatement inside (branch e a b line)
   good_branch inside line e a b c g h =
       let m = n + MOST_HIDDEN in
-      let t = (condition_of n line e).condition in (
+      let t = (condition_of integers n line e).condition in (
         and_from (is_over n e) (are_statements_over n a && are_statements_over n b) c.0
             (and_from (are_statements_over n a) (are_statements_over n b) g.0 h.0),
-        core_behind m inside (condition_of n line e).prelude (kept.one (core.branch t (core_in n a) (core_in n b) line)) c.1
-            (core_one m inside (core.branch t (core_in n a) (core_in n b) line)
-            (and_from (is_tested m t) (are_statements m inside (core_in n a) && are_statements m inside (core_in n b)) c.2
-            (and_from (are_statements m inside (core_in n a)) (are_statements m inside (core_in n b)) g.1 h.1))),
+        core_behind m inside (condition_of integers n line e).prelude
+            (kept.one (core.branch t (core_in integers n a) (core_in integers n b) line)) c.1
+            (core_one m inside (core.branch t (core_in integers n a) (core_in integers n b) line)
+            (and_from (is_tested m t) (are_statements m inside (core_in integers n a) && are_statements m inside (core_in integers n b)) c.2
+            (and_from (are_statements m inside (core_in integers n a)) (are_statements m inside (core_in integers n b)) g.1 h.1))),
       )
 
   core_loop : (inside : Bool) (line : ℕ) (kind : core.LoopKind) (e : Expression) (body : Statements) → GoodCondition line e
       → IsTrue (is_kind (n + MOST_HIDDEN) kind) → Good true body
       → IsTrue (are_statements (n + MOST_HIDDEN) inside
-      (kept.one (core.loop kind (condition_of n line e).condition (core_in n body) line)))
+      (kept.one (core.loop kind (condition_of integers n line e).condition (core_in integers n body) line)))
   core_loop inside line kind e body c k g =
       let m = n + MOST_HIDDEN in
-      core_one m inside (core.loop kind (condition_of n line e).condition (core_in n body) line)
-      (and_from (is_tested m (condition_of n line e).condition) (is_kind m kind && are_statements m true (core_in n body)) c.2
-      (and_from (is_kind m kind) (are_statements m true (core_in n body)) k g.1))
+      core_one m inside (core.loop kind (condition_of integers n line e).condition (core_in integers n body) line)
+      (and_from (is_tested m (condition_of integers n line e).condition)
+      (is_kind m kind && are_statements m true (core_in integers n body)) c.2
+      (and_from (is_kind m kind) (are_statements m true (core_in integers n body)) k g.1))
 
   -- a `while` with a good condition and a good body
   pub good_while : (inside : Bool) (line : ℕ) (e : Expression) (body : Statements) → GoodCondition line e → Good true body
       → GoodStatement inside (loop while_loop e body line)
   good_while inside line e body c g = (
     and_from (is_over n e) (are_statements_over n body) c.0 g.0,
-    core_loop inside line (core.while_loop (condition_of n line e).prelude) e body c c.1 g,
+    core_loop inside line (core.while_loop (condition_of integers n line e).prelude) e body c c.1 g,
   )
 
   -- a `do` likewise
@@ -237,7 +265,7 @@ module _ (n : ℕ) where
       → GoodStatement inside (loop do_loop e body line)
   good_do inside line e body c g = (
     and_from (is_over n e) (are_statements_over n body) c.0 g.0,
-    core_loop inside line (core.do_loop (condition_of n line e).prelude) e body c c.1 g,
+    core_loop inside line (core.do_loop (condition_of integers n line e).prelude) e body c c.1 g,
   )
 
   -- a `for` with good changes, too
@@ -245,37 +273,35 @@ module _ (n : ℕ) where
       → Good true body → GoodStatement inside (loop (for_loop gs) e body line)
   good_for inside line gs e body k c g =
       let m = n + MOST_HIDDEN in
-      let p = (condition_of n line e).prelude in (
+      let p = (condition_of integers n line e).prelude in (
         and_from (list_all (is_change_over n) gs) (is_over n e && are_statements_over n body) (changes_over gs k)
             (and_from (is_over n e) (are_statements_over n body) c.0 g.0),
-        core_loop inside line (core.for_loop p (changes_deeds n gs)) e body c
-            (and_from (list_all (is_deed m) p) (list_all (is_deed m) (changes_deeds n gs)) c.1 (changes_limited gs k)) g,
+        core_loop inside line (core.for_loop p (changes_deeds integers n gs)) e body c
+            (and_from (list_all (is_deed m) p) (list_all (is_deed m) (changes_deeds integers n gs)) c.1 (changes_limited gs k)) g,
       )
 
   -- 0 is compared with 0
   pub good_always : (line at : ℕ) → GoodCondition line (compared Le at (number 0 at) (number 0 at))
-  good_always line at = (
-    refl,
-    refl,
-    tested_good (n + MOST_HIDDEN)
-        (condition_of n line (compared Le at (number 0 at) (number 0 at))).condition (omega arith) refl refl,
-  )
+  good_always line at = let g = always_good integers (n + MOST_HIDDEN) n line at in (refl, g.0, g.1)
 
   -- an assumption of a good condition
   pub good_assumes : (inside : Bool) (line : ℕ) (e : Expression) → GoodCondition line e → GoodStatement inside (assumes e line)
   good_assumes inside line e c =
-      let t = core.assume (condition_of n line e).condition line in
-      (c.0, core_behind (n + MOST_HIDDEN) inside (condition_of n line e).prelude (kept.one t) c.1 (core_one (n + MOST_HIDDEN) inside t c.2))
+      let t = core.assume (condition_of integers n line e).condition line in (
+        c.0,
+        core_behind (n + MOST_HIDDEN) inside (condition_of integers n line e).prelude (kept.one t) c.1
+            (core_one (n + MOST_HIDDEN) inside t c.2),
+      )
 
   -- an assertion of a good condition
   pub good_asserts : (inside : Bool) (line at : ℕ) (e : Expression) → GoodCondition line e → GoodStatement inside (asserts e at line)
   good_asserts inside line at e c =
       let m = n + MOST_HIDDEN in
-      let d = (condition_of n line e).condition in
+      let d = (condition_of integers n line e).condition in
       let about : Check = record { kind = Assert; at = at } in
       let last = kept.one (core.only_where d line) in (
         c.0,
-        core_behind m inside (condition_of n line e).prelude (core.cons (core.check about d line) last) c.1
+        core_behind m inside (condition_of integers n line e).prelude (core.cons (core.check about d line) last) c.1
             (and_from (is_tested m d) (are_statements m inside last) c.2 (core_one m inside (core.only_where d line) c.2)),
       )
 

@@ -22,7 +22,7 @@ use Rattle.source_core.specs.Elaborated.{elaborated, evaluated}
 use Rattle.source_core.specs.Fits.{deeds_fit, fits, tested_fits}
 use Rattle.source_core.specs.Laws.{is_over, are_over}
 use Rattle.source_core.specs.RunLaws.{is_change_over}
-use Rattle.source_core.specs.Core.{change_deeds, changes_deeds, condition_of, core_of, core_in}
+use Rattle.source_core.specs.Core.{taken_any, change_deeds, changes_deeds, condition_of, core_of, core_in}
 use Rattle.source_meaning.specs.Results.{◌>>=◌}
 use Rattle.source_meaning.specs.Names.{State, known, as_called, with_variable, with_array}
 use Rattle.source_meaning.specs.Limits.{is_small_deed, counted}
@@ -40,247 +40,269 @@ use Rattle.source_meaning.proofs.expressions.Fits.{condition_in_range, read_fits
 use Rattle.source_meaning.proofs.changes.Fits.{taken_fits, one_evaluated, changed_fits}
 use Rattle.source_meaning.proofs.expressions.Over.{anything, condition_has, read_over, arguments_over}
 use Rattle.source_meaning.proofs.changes.Over.{changed_over}
-use Rattle.source_meaning.proofs.statements.Good.{nodes, nodes_then, nodes_one, nodes_change, nodes_changes}
+use Rattle.source_meaning.proofs.statements.Good.{nodes, nodes_then, nodes_one, nodes_change, nodes_declares, nodes_changes}
 use Rattle.source_meaning.proofs.statements.Good.{GoodCondition, GoodChange, GoodChanges, GoodStatement, Good, good_nil}
 use Rattle.source_meaning.proofs.statements.Good.{good_cons, good_one, good_then, good_declares, good_change, no_changes, more_changes}
 use Rattle.source_meaning.proofs.statements.Good.{good_changes, good_always}
 use Rattle.source_meaning.proofs.statements.Good.{good_never, good_returns}
+use Rattle.base_integers.specs.declared.integers.Integers.{Integers}
 
 -- what comes of statements
-pub record Grows (n : ℕ) (inside : Bool) (before : State) (declared : ℕ) (r : State × Statements) : Type 0 where
+pub record Grows (integers : Integers) (n : ℕ) (inside : Bool) (before : State) (declared : ℕ) (r : State × Statements) : Type 0 where
   -- its names stand for variables
   pub sound : Sound r.0
   -- it has so many variables more
   pub variables : r.0.variables ≡ before.variables + declared
   -- it has as many statements more as these are in the core
-  pub count : r.0.count ≡ before.count + nodes n r.1
+  pub count : r.0.count ≡ before.count + nodes integers n r.1
   -- they are good where there are no more variables than n
-  pub good : r.0.variables ≤ n → Good n inside r.1
+  pub good : r.0.variables ≤ n → Good integers n inside r.1
 
 -- what comes of a change
-pub record Turns (n : ℕ) (before : State) (r : State × Change) : Type 0 where
+pub record Turns (integers : Integers) (n : ℕ) (before : State) (r : State × Change) : Type 0 where
   -- its names stand for variables
   pub sound : Sound r.0
   -- it has as many variables
   pub variables : r.0.variables ≡ before.variables
   -- it has as many statements more as these are in the core
-  pub count : r.0.count ≡ before.count + length (change_deeds n r.1)
+  pub count : r.0.count ≡ before.count + length (change_deeds integers n r.1)
   -- they are good where there are no more variables than n
-  pub good : before.variables ≤ n → GoodChange n r.1
+  pub good : before.variables ≤ n → GoodChange integers n r.1
 
 -- what comes of changes
-pub record AllTurn (n : ℕ) (before : State) (r : State × List Change) : Type 0 where
+pub record AllTurn (integers : Integers) (n : ℕ) (before : State) (r : State × List Change) : Type 0 where
   -- its names stand for variables
   pub sound : Sound r.0
   -- it has as many variables
   pub variables : r.0.variables ≡ before.variables
   -- it has as many statements more as these are in the core
-  pub count : r.0.count ≡ before.count + length (changes_deeds n r.1)
+  pub count : r.0.count ≡ before.count + length (changes_deeds integers n r.1)
   -- they are good where there are no more variables than n
-  pub good : before.variables ≤ n → GoodChanges n r.1
+  pub good : before.variables ≤ n → GoodChanges integers n r.1
 
-module _ (line : ℕ → ℕ) (n : ℕ) where
+module _ (integers : Integers) (line : ℕ → ℕ) (n : ℕ) where
   -- ---- changes
   -- a condition that is read is good
   abbrev pub Tests : State → (at : ℕ) → Expression → Type 0
-  Tests st at x = st.variables ≤ n → GoodCondition n (line at) x
+  Tests st at x = st.variables ≤ n → GoodCondition integers n (line at) x
 
   -- the condition that is read
-  pub condition_good : (st : State) → Sound st → (at : ℕ) (e : Expr) → OnValue (Tests st at) (read_condition line n st at e)
+  pub condition_good : (st : State) → Sound st → (at : ℕ) (e : Expr) → OnValue (Tests st at) (read_condition integers line n st at e)
   condition_good st s at e =
       let Over : Expression → Type 0 = λ x. IsTrue (is_over n x) in
-      let Fit : Expression → Type 0 = λ x. IsTrue (tested_fits (condition_of n (line at) x)) in
-      on_given (st.variables ≤ n) (GoodCondition n (line at)) (read_condition line n st at e) (λ l.
-      on_bind Over (GoodCondition n (line at)) (read (line at) st e n) _ (read_over n (line at) st s l e n)
-      (λ x o. on_bind (λ x. Over x × Fit x) (GoodCondition n (line at)) (as_condition (line at) (first_of e) n x) _
-      (on_both Over Fit (as_condition (line at) (first_of e) n x) (condition_has (line at) Over (first_of e) n x o)
-      (condition_in_range (line at) (first_of e) n x))
-      (λ x p. limited_has (GoodCondition n (line at)) n at (condition_of n (line at) x).next (condition_of n (line at) x).prelude
-      ((condition_of n (line at) x).condition ∷ []) x
-      (λ a b c. let q = condition_limited n (n + MOST_HIDDEN) (line at) x p.0 p.1 a b c in (p.0, q.0, q.1)))))
+      let Fit : Expression → Type 0 = λ x. IsTrue (tested_fits (condition_of integers n (line at) x)) in
+      on_given (st.variables ≤ n) (GoodCondition integers n (line at)) (read_condition integers line n st at e) (λ l.
+      on_bind Over (GoodCondition integers n (line at)) (read integers (line at) st e n) _ (read_over integers n (line at) st s l e n)
+      (λ x o. on_bind (λ x. Over x × Fit x) (GoodCondition integers n (line at)) (as_condition integers (line at) (first_of e) n x) _
+      (on_both Over Fit (as_condition integers (line at) (first_of e) n x) (condition_has integers (line at) Over (first_of e) n x o)
+      (condition_in_range integers (line at) (first_of e) n x))
+      (λ x p. limited_has (GoodCondition integers n (line at)) n at (condition_of integers n (line at) x).next
+      (condition_of integers n (line at) x).prelude
+      ((condition_of integers n (line at) x).condition ∷ []) x
+      (λ a b c. let q = condition_limited integers n (n + MOST_HIDDEN) (line at) x p.0 p.1 a b c in (p.0, q.0, q.1)))))
 
   -- the test of a `for`
-  pub test_good : (st : State) → Sound st → (at : ℕ) (t : Optional) → OnValue (Tests st at) (read_test line n st at t)
-  test_good st s at absent = λ few. good_always n (line at) at
+  pub test_good : (st : State) → Sound st → (at : ℕ) (t : Optional) → OnValue (Tests st at) (read_test integers line n st at t)
+  test_good st s at absent = λ few. good_always integers n (line at) at
   test_good st s at (present e) = condition_good st s at e
 
   -- what has the limits of a change
   few_has : {A : Type 0} (P : A → Type 0) (at : ℕ) (g : Change) (x : A)
-      → (behind_change n (line at) g ≤ n + MOST_HIDDEN → IsTrue (list_all is_small_deed (change_deeds n g)) → P x)
-      → OnValue P (few n (line at) at g x)
-  few_has P at g x f = limited_has P n at (behind_change n (line at) g) (change_deeds n g) [] x (λ a b c. f a b)
+      → (behind_change integers n (line at) g ≤ n + MOST_HIDDEN → IsTrue (list_all is_small_deed (change_deeds integers n g)) → P x)
+      → OnValue P (few integers n (line at) at g x)
+  few_has P at g x f = limited_has P n at (behind_change integers n (line at) g) (change_deeds integers n g) [] x (λ a b c. f a b)
 
   -- a change over the variables, with its numbers in range, is good within the limits
-  change_good : (at : ℕ) (g : Change) → IsTrue (deeds_fit (change_deeds n g)) → behind_change n (line at) g ≤ n + MOST_HIDDEN
-      → IsTrue (list_all is_small_deed (change_deeds n g)) → IsTrue (is_change_over n g) → GoodChange n g
-  change_good at g h a b o = (o, change_limited n (n + MOST_HIDDEN) (line at) g (omega arith) o h a b)
+  change_good : (at : ℕ) (g : Change) → IsTrue (deeds_fit (change_deeds integers n g))
+      → behind_change integers n (line at) g ≤ n + MOST_HIDDEN
+      → IsTrue (list_all is_small_deed (change_deeds integers n g)) → IsTrue (is_change_over n g) → GoodChange integers n g
+  change_good at g h a b o = (o, change_limited integers n (n + MOST_HIDDEN) (line at) g (omega arith) o h a b)
 
   -- a change that is counted
   counts_change : (at : ℕ) (st : State) → Sound st → (g : Change) → (st.variables ≤ n → IsTrue (is_change_over n g))
-      → IsTrue (deeds_fit (change_deeds n g))
-      → OnValue (Turns n st) (few n (line at) at g g >>= λ g. counted at (length (change_deeds n g)) st >>= λ st. Ok (st, g))
-  counts_change at st s g h k = on_bind (λ g. st.variables ≤ n → GoodChange n g) (Turns n st) (few n (line at) at g g) _
-      (few_has (λ g. st.variables ≤ n → GoodChange n g) at g g (λ a b l. change_good at g k a b (h l)))
-      (λ g h. on_bind (Counts (length (change_deeds n g)) st) (Turns n st) (counted at (length (change_deeds n g)) st) _
-      (counted_sound at (length (change_deeds n g)) st s)
+      → IsTrue (deeds_fit (change_deeds integers n g))
+      → OnValue (Turns integers n st)
+      (few integers n (line at) at g g >>= λ g. counted at (length (change_deeds integers n g)) st >>= λ st. Ok (st, g))
+  counts_change at st s g h k =
+      on_bind (λ g. st.variables ≤ n → GoodChange integers n g) (Turns integers n st) (few integers n (line at) at g g) _
+      (few_has (λ g. st.variables ≤ n → GoodChange integers n g) at g g (λ a b l. change_good at g k a b (h l)))
+      (λ g h. on_bind (Counts (length (change_deeds integers n g)) st) (Turns integers n st)
+      (counted at (length (change_deeds integers n g)) st) _
+      (counted_sound at (length (change_deeds integers n g)) st s)
       (λ now c. record { sound = c.sound; variables = c.variables; count = c.count; good = h }))
 
   place_turns : (at : ℕ) (st : State) → Sound st → (p : Place) (f : Effect)
-      → OnValue (Turns n st) (changed n (line at) st p f >>= λ g. few n (line at) at g g
-      >>= λ g. counted at (length (change_deeds n g)) st >>= λ st. Ok (st, g))
+      → OnValue (Turns integers n st) (changed integers n (line at) st p f >>= λ g. few integers n (line at) at g g
+      >>= λ g. counted at (length (change_deeds integers n g)) st >>= λ st. Ok (st, g))
   place_turns at st s p f =
       let Over : Change → Type 0 = λ g. st.variables ≤ n → IsTrue (is_change_over n g) in
-      let Fit : Change → Type 0 = λ g. IsTrue (deeds_fit (change_deeds n g)) in
-      on_bind (λ g. Over g × Fit g) (Turns n st) (changed n (line at) st p f) _
-      (on_both Over Fit (changed n (line at) st p f)
-      (on_given (st.variables ≤ n) (λ g. IsTrue (is_change_over n g)) (changed n (line at) st p f)
-      (λ l. changed_over n (line at) st s l p f))
-      (changed_fits n (line at) st p f))
+      let Fit : Change → Type 0 = λ g. IsTrue (deeds_fit (change_deeds integers n g)) in
+      on_bind (λ g. Over g × Fit g) (Turns integers n st) (changed integers n (line at) st p f) _
+      (on_both Over Fit (changed integers n (line at) st p f)
+      (on_given (st.variables ≤ n) (λ g. IsTrue (is_change_over n g)) (changed integers n (line at) st p f)
+      (λ l. changed_over integers n (line at) st s l p f))
+      (changed_fits integers n (line at) st p f))
       (λ g h. counts_change at st s g h.0 h.1)
 
   -- a change that is read
-  pub update_turns : (st : State) → Sound st → (u : Update) → OnValue (Turns n st) (read_update line n st u)
+  pub update_turns : (st : State) → Sound st → (u : Update) → OnValue (Turns integers n st) (read_update integers line n st u)
   update_turns st s (update p f) = place_turns (first_place p) st s p f
   update_turns st s (step_before d at p) = place_turns at st s p (steps d at)
 
-  all_none : (st : State) → Sound st → AllTurn n st (st, [])
-  all_none st s = record { sound = s; variables = refl; count = omega arith; good = λ l. no_changes n }
+  all_none : (st : State) → Sound st → AllTurn integers n st (st, [])
+  all_none st s = record { sound = s; variables = refl; count = omega arith; good = λ l. no_changes integers n }
 
-  all_more : (st : State) (r : State × Change) (q : State × List Change) → Turns n st r → AllTurn n r.0 q → AllTurn n st (q.0, r.1 ∷ q.1)
-  all_more st r q t u = let e = length-append (change_deeds n r.1) (changes_deeds n q.1) in record {
+  all_more : (st : State) (r : State × Change) (q : State × List Change) → Turns integers n st r → AllTurn integers n r.0 q
+      → AllTurn integers n st (q.0, r.1 ∷ q.1)
+  all_more st r q t u = let e = length-append (change_deeds integers n r.1) (changes_deeds integers n q.1) in record {
     sound = u.sound;
     variables = omega (arith, t.variables, u.variables);
     count = omega (arith, t.count, u.count, e);
-    good = λ l. more_changes n r.1 q.1 (t.good l) (u.good (omega (arith, l, t.variables)));
+    good = λ l. more_changes integers n r.1 q.1 (t.good l) (u.good (omega (arith, l, t.variables)));
   }
 
-  more_updates_turn : (st : State) → Sound st → (us : MoreUpdates) → OnValue (AllTurn n st) (read_more_updates line n st us)
+  more_updates_turn : (st : State) → Sound st → (us : MoreUpdates)
+      → OnValue (AllTurn integers n st) (read_more_updates integers line n st us)
   more_updates_turn st s last_update = all_none st s
-  more_updates_turn st s (next_update a u us) = on_bind (Turns n st) (AllTurn n st) (read_update line n st u) _ (update_turns st s u)
-      (λ r t. on_bind (AllTurn n r.0) (AllTurn n st) (read_more_updates line n r.0 us) _ (more_updates_turn r.0 t.sound us)
+  more_updates_turn st s (next_update a u us) =
+      on_bind (Turns integers n st) (AllTurn integers n st) (read_update integers line n st u) _ (update_turns st s u)
+      (λ r t. on_bind (AllTurn integers n r.0) (AllTurn integers n st) (read_more_updates integers line n r.0 us) _
+      (more_updates_turn r.0 t.sound us)
       (λ q v. all_more st r q t v))
 
   -- changes that are read
-  pub updates_turn : (st : State) → Sound st → (us : Updates) → OnValue (AllTurn n st) (read_updates line n st us)
+  pub updates_turn : (st : State) → Sound st → (us : Updates) → OnValue (AllTurn integers n st) (read_updates integers line n st us)
   updates_turn st s no_updates = all_none st s
-  updates_turn st s (some_updates u us) = on_bind (Turns n st) (AllTurn n st) (read_update line n st u) _ (update_turns st s u)
-      (λ r t. on_bind (AllTurn n r.0) (AllTurn n st) (read_more_updates line n r.0 us) _ (more_updates_turn r.0 t.sound us)
+  updates_turn st s (some_updates u us) =
+      on_bind (Turns integers n st) (AllTurn integers n st) (read_update integers line n st u) _ (update_turns st s u)
+      (λ r t. on_bind (AllTurn integers n r.0) (AllTurn integers n st) (read_more_updates integers line n r.0 us) _
+      (more_updates_turn r.0 t.sound us)
       (λ q v. all_more st r q t v))
 
   -- ---- lists of statements
   -- no statement
-  pub grows_none : (inside : Bool) (st : State) → Sound st → Grows n inside st 0 (st, nil)
-  grows_none inside st s = record { sound = s; variables = omega arith; count = omega arith; good = λ l. good_nil n inside }
+  pub grows_none : (inside : Bool) (st : State) → Sound st → Grows integers n inside st 0 (st, nil)
+  grows_none inside st s = record { sound = s; variables = omega arith; count = omega arith; good = λ l. good_nil integers n inside }
 
   -- statements and others behind them
-  pub grows_then : (inside : Bool) (st : State) (d e : ℕ) (r q : State × Statements) → Grows n inside st d r → Grows n inside r.0 e q
-      → Grows n inside st (d + e) (q.0, followed_by r.1 q.1)
-  grows_then inside st d e r q h i = let k = nodes_then n r.1 q.1 in record {
+  pub grows_then : (inside : Bool) (st : State) (d e : ℕ) (r q : State × Statements) → Grows integers n inside st d r
+      → Grows integers n inside r.0 e q
+      → Grows integers n inside st (d + e) (q.0, followed_by r.1 q.1)
+  grows_then inside st d e r q h i = let k = nodes_then integers n r.1 q.1 in record {
     sound = i.sound;
     variables = omega (arith, h.variables, i.variables);
     count = omega (arith, h.count, i.count, k);
-    good = λ l. good_then n inside r.1 q.1 (h.good (omega (arith, l, i.variables))) (i.good l);
+    good = λ l. good_then integers n inside r.1 q.1 (h.good (omega (arith, l, i.variables))) (i.good l);
   }
 
   -- one statement, which is so many in the core
   pub grows_one : (inside : Bool) (st now : State) (d k : ℕ) (s : Statement) → Sound now → now.variables ≡ st.variables + d
-      → now.count ≡ st.count + k → nodes_in (core_of n s) ≡ k → (now.variables ≤ n → GoodStatement n inside s)
-      → Grows n inside st d (now, one s)
-  grows_one inside st now d k s sound v c e g = let f = nodes_one n s in record {
+      → now.count ≡ st.count + k → nodes_in (core_of integers n s) ≡ k → (now.variables ≤ n → GoodStatement integers n inside s)
+      → Grows integers n inside st d (now, one s)
+  grows_one inside st now d k s sound v c e g = let f = nodes_one integers n s in record {
     sound = sound;
     variables = v;
     count = omega (arith, c, e, f);
-    good = λ l. good_one n inside s (g l);
+    good = λ l. good_one integers n inside s (g l);
   }
 
   -- a number of variables is said in another way
-  pub same_declared : (inside : Bool) (st : State) (d e : ℕ) (r : State × Statements) → d ≡ e → Grows n inside st d r
-      → Grows n inside st e r
+  pub same_declared : (inside : Bool) (st : State) (d e : ℕ) (r : State × Statements) → d ≡ e → Grows integers n inside st d r
+      → Grows integers n inside st e r
   same_declared inside st d e r k h = record { sound = h.sound; variables = omega (arith, h.variables, k); count = h.count; good = h.good }
 
   -- a change as a statement
-  pub grows_change : (inside : Bool) (st : State) (r : State × Change) → Turns n st r → Grows n inside st 0 (r.0, one (changes r.1))
-  grows_change inside st r t = grows_one inside st r.0 0 (length (change_deeds n r.1)) (changes r.1) t.sound (omega (arith, t.variables))
-      t.count (nodes_change n r.1) (λ l. good_change n inside r.1 (t.good (omega (arith, l, t.variables))))
+  pub grows_change : (inside : Bool) (st : State) (r : State × Change) → Turns integers n st r
+      → Grows integers n inside st 0 (r.0, one (changes r.1))
+  grows_change inside st r t =
+      grows_one inside st r.0 0 (length (change_deeds integers n r.1)) (changes r.1) t.sound (omega (arith, t.variables))
+      t.count (nodes_change integers n r.1) (λ l. good_change integers n inside r.1 (t.good (omega (arith, l, t.variables))))
 
-  grows_changes : (inside : Bool) (st : State) (r : State × List Change) → AllTurn n st r → Grows n inside st 0 (r.0, as_statements r.1)
-  grows_changes inside st r t = let e = nodes_changes n r.1 in record {
+  grows_changes : (inside : Bool) (st : State) (r : State × List Change) → AllTurn integers n st r
+      → Grows integers n inside st 0 (r.0, as_statements r.1)
+  grows_changes inside st r t = let e = nodes_changes integers n r.1 in record {
     sound = t.sound;
     variables = omega (arith, t.variables);
     count = omega (arith, t.count, e);
-    good = λ l. good_changes n inside r.1 (t.good (omega (arith, l, t.variables)));
+    good = λ l. good_changes integers n inside r.1 (t.good (omega (arith, l, t.variables)));
   }
 
   -- a value that is read: over the variables, and in range
   abbrev Value : State → (at : ℕ) → Expression → Type 0
-  Value st at x = (st.variables ≤ n → IsTrue (is_over n x)) × IsTrue (fits (elaborated (line at) x n))
+  Value st at x = (st.variables ≤ n → IsTrue (is_over n x)) × IsTrue (fits (elaborated integers (line at) x n))
 
-  value_good : (st : State) → Sound st → (at : ℕ) (e : Expr) → OnValue (Value st at) (read (line at) st e n)
-  value_good st s at e = on_both (λ x. st.variables ≤ n → IsTrue (is_over n x)) (λ x. IsTrue (fits (elaborated (line at) x n)))
-      (read (line at) st e n)
-      (on_given (st.variables ≤ n) (λ x. IsTrue (is_over n x)) (read (line at) st e n) (λ l. read_over n (line at) st s l e n))
-      (read_fits (line at) st e n)
+  value_good : (st : State) → Sound st → (at : ℕ) (e : Expr) → OnValue (Value st at) (read integers (line at) st e n)
+  value_good st s at e = on_both (λ x. st.variables ≤ n → IsTrue (is_over n x)) (λ x. IsTrue (fits (elaborated integers (line at) x n)))
+      (read integers (line at) st e n)
+      (on_given (st.variables ≤ n) (λ x. IsTrue (is_over n x)) (read integers (line at) st e n)
+      (λ l. read_over integers n (line at) st s l e n))
+      (read_fits integers (line at) st e n)
 
   -- ---- declarations
   declarator_grows : (inside : Bool) (st : State) → Sound st → (x : Declarator)
-      → OnValue (Grows n inside st (declared_one x)) (read_declarator line n st x)
-  declarator_grows inside st s (declarator x at bare) = on_bind (Declares st) (Grows n inside st 1) (with_variable x at st) _
+      → OnValue (Grows integers n inside st (declared_one x)) (read_declarator integers line n st x)
+  declarator_grows inside st s (declarator x at bare) = on_bind (Declares st) (Grows integers n inside st 1) (with_variable x at st) _
       (variable_sound x at st s)
-      (λ now d. on_bind (Counts 1 now) (Grows n inside st 1) (counted at 1 now) _ (counted_sound at 1 now d.sound)
-      (λ more c. grows_one inside st more 1 1 (declares st.variables (line at)) c.sound (omega (arith, c.variables, d.more))
-      (omega (arith, c.count, d.same)) refl
-      (λ l. good_declares n inside st.variables (line at) (lt-ltb st.variables n (omega (arith, l, c.variables, d.more))))))
+      (λ now d. let k = length (taken_any integers st.variables (line at)) in
+      on_bind (Counts k now) (Grows integers n inside st 1) (counted at k now) _ (counted_sound at k now d.sound)
+      (λ more c. grows_one inside st more 1 k (declares st.variables (line at)) c.sound (omega (arith, c.variables, d.more))
+      (omega (arith, c.count, d.same)) (nodes_declares integers n st.variables (line at))
+      (λ l. good_declares integers n inside st.variables (line at) (lt-ltb st.variables n (omega (arith, l, c.variables, d.more))))))
   declarator_grows inside st s (declarator x at (given b e)) =
-      on_bind (Value st at) (Grows n inside st 1) (read (line at) st e n) _ (value_good st s at e)
-      (λ e o. on_bind (Declares st) (Grows n inside st 1) (with_variable x at st) _ (variable_sound x at st s)
+      on_bind (Value st at) (Grows integers n inside st 1) (read integers (line at) st e n) _ (value_good st s at e)
+      (λ e o. on_bind (Declares st) (Grows integers n inside st 1) (with_variable x at st) _ (variable_sound x at st s)
       (λ now d. let g : Change = sets st.variables e (line at) in
-      let P : State → Type 0 = λ now. Declares st now × (suc st.variables ≤ n → GoodChange n g) in
-      on_bind P (Grows n inside st 1) (few n (line at) at g now) _
+      let P : State → Type 0 = λ now. Declares st now × (suc st.variables ≤ n → GoodChange integers n g) in
+      on_bind P (Grows integers n inside st 1) (few integers n (line at) at g now) _
       (few_has P at g now
       (λ a b. (
         d,
-        λ l. change_good at g (taken_fits st.variables (line at) (elaborated (line at) e n) o.1) a b
+        λ l. change_good at g (taken_fits integers st.variables (line at) (elaborated integers (line at) e n) o.1) a b
             (and_from (nat_lt st.variables n) (is_over n e) (lt-ltb st.variables n (omega (arith, l))) (o.0 (omega (arith, l)))),
       )))
-      (λ now d. on_bind (Counts (length (change_deeds n g)) now) (Grows n inside st 1) (counted at (length (change_deeds n g)) now) _
-      (counted_sound at (length (change_deeds n g)) now d.0.sound)
-      (λ more c. grows_one inside st more 1 (length (change_deeds n g)) (changes g) c.sound (omega (arith, c.variables, d.0.more))
-      (omega (arith, c.count, d.0.same)) (nodes_change n g)
-      (λ l. good_change n inside g (d.1 (omega (arith, l, c.variables, d.0.more))))))))
+      (λ now d. on_bind (Counts (length (change_deeds integers n g)) now) (Grows integers n inside st 1)
+      (counted at (length (change_deeds integers n g)) now) _
+      (counted_sound at (length (change_deeds integers n g)) now d.0.sound)
+      (λ more c. grows_one inside st more 1 (length (change_deeds integers n g)) (changes g) c.sound (omega (arith, c.variables, d.0.more))
+      (omega (arith, c.count, d.0.same)) (nodes_change integers n g)
+      (λ l. good_change integers n inside g (d.1 (omega (arith, l, c.variables, d.0.more))))))))
   declarator_grows inside st s (declarator x at (sized b size c d)) =
-      on_bind (Counts 0 st) (Grows n inside st 0) (with_array x at size c st) _ (array_sound x at size c st s)
+      on_bind (Counts 0 st) (Grows integers n inside st 0) (with_array x at size c st) _ (array_sound x at size c st s)
       (λ now k. record {
         sound = k.sound;
         variables = omega (arith, k.variables);
         count = omega (arith, k.count);
-        good = λ l. good_nil n inside;
+        good = λ l. good_nil integers n inside;
       })
 
   more_declarators_grow : (inside : Bool) (st : State) → Sound st → (xs : MoreDeclarators)
-      → OnValue (Grows n inside st (declared_more xs)) (read_more_declarators line n st xs)
+      → OnValue (Grows integers n inside st (declared_more xs)) (read_more_declarators integers line n st xs)
   more_declarators_grow inside st s last_declarator = grows_none inside st s
   more_declarators_grow inside st s (next_declarator a x xs) =
-      on_bind (Grows n inside st (declared_one x)) (Grows n inside st (declared_one x + declared_more xs)) (read_declarator line n st x) _
+      on_bind (Grows integers n inside st (declared_one x)) (Grows integers n inside st (declared_one x + declared_more xs))
+      (read_declarator integers line n st x) _
       (declarator_grows inside st s x)
-      (λ r h. on_bind (Grows n inside r.0 (declared_more xs)) (Grows n inside st (declared_one x + declared_more xs))
-      (read_more_declarators line n r.0 xs) _ (more_declarators_grow inside r.0 h.sound xs)
+      (λ r h. on_bind (Grows integers n inside r.0 (declared_more xs)) (Grows integers n inside st (declared_one x + declared_more xs))
+      (read_more_declarators integers line n r.0 xs) _ (more_declarators_grow inside r.0 h.sound xs)
       (λ q i. grows_then inside st (declared_one x) (declared_more xs) r q h i))
 
   -- a declaration
   pub declarators_grow : (inside : Bool) (st : State) → Sound st → (xs : Declarators)
-      → OnValue (Grows n inside st (declared_in xs)) (read_declarators line n st xs)
+      → OnValue (Grows integers n inside st (declared_in xs)) (read_declarators integers line n st xs)
   declarators_grow inside st s (tree.declares x xs) =
-      on_bind (Grows n inside st (declared_one x)) (Grows n inside st (declared_one x + declared_more xs)) (read_declarator line n st x) _
+      on_bind (Grows integers n inside st (declared_one x)) (Grows integers n inside st (declared_one x + declared_more xs))
+      (read_declarator integers line n st x) _
       (declarator_grows inside st s x)
-      (λ r h. on_bind (Grows n inside r.0 (declared_more xs)) (Grows n inside st (declared_one x + declared_more xs))
-      (read_more_declarators line n r.0 xs) _ (more_declarators_grow inside r.0 h.sound xs)
+      (λ r h. on_bind (Grows integers n inside r.0 (declared_more xs)) (Grows integers n inside st (declared_one x + declared_more xs))
+      (read_more_declarators integers line n r.0 xs) _ (more_declarators_grow inside r.0 h.sound xs)
       (λ q i. grows_then inside st (declared_one x) (declared_more xs) r q h i))
 
   -- the first part of a `for`'s head
   pub first_grows : (inside : Bool) (st : State) → Sound st → (f : ForFirst)
-      → OnValue (Grows n inside st (declared_before f)) (read_first line n st f)
+      → OnValue (Grows integers n inside st (declared_before f)) (read_first integers line n st f)
   first_grows inside st s (declared_first a xs) = declarators_grow inside st s xs
-  first_grows inside st s (updated_first us) = on_bind (AllTurn n st) (Grows n inside st 0) (read_updates line n st us) _
+  first_grows inside st s (updated_first us) =
+      on_bind (AllTurn integers n st) (Grows integers n inside st 0) (read_updates integers line n st us) _
       (updates_turn st s us) (λ r t. grows_changes inside st r t)
 
   -- ---- what is evaluated
@@ -289,54 +311,59 @@ module _ (line : ℕ → ℕ) (n : ℕ) where
   Still st now = Sound now × (now.variables ≡ st.variables) × (now.count ≡ st.count)
 
   evaluated_grows : (inside : Bool) (st : State) → Sound st → (at : ℕ) (g : Change) → (st.variables ≤ n → IsTrue (is_change_over n g))
-      → IsTrue (deeds_fit (change_deeds n g)) → OnValue (Grows n inside st 0) (read_evaluated line n st at g)
+      → IsTrue (deeds_fit (change_deeds integers n g)) → OnValue (Grows integers n inside st 0) (read_evaluated integers line n st at g)
   evaluated_grows inside st s at g h k =
-      let P : State → Type 0 = λ now. Still st now × (st.variables ≤ n → GoodChange n g) in
-      on_bind P (Grows n inside st 0) (few n (line at) at g st) _
+      let P : State → Type 0 = λ now. Still st now × (st.variables ≤ n → GoodChange integers n g) in
+      on_bind P (Grows integers n inside st 0) (few integers n (line at) at g st) _
       (few_has P at g st (λ a b. ((s, refl, refl), λ l. change_good at g k a b (h l))))
-      (λ now p. on_bind (Counts (length (change_deeds n g)) now) (Grows n inside st 0) (counted at (length (change_deeds n g)) now) _
-      (counted_sound at (length (change_deeds n g)) now p.0.0)
-      (λ more c. grows_one inside st more 0 (length (change_deeds n g)) (changes g) c.sound (omega (arith, c.variables, p.0.1))
-      (omega (arith, c.count, p.0.2)) (nodes_change n g)
-      (λ l. good_change n inside g (p.1 (omega (arith, l, c.variables, p.0.1))))))
+      (λ now p. on_bind (Counts (length (change_deeds integers n g)) now) (Grows integers n inside st 0)
+      (counted at (length (change_deeds integers n g)) now) _
+      (counted_sound at (length (change_deeds integers n g)) now p.0.0)
+      (λ more c. grows_one inside st more 0 (length (change_deeds integers n g)) (changes g) c.sound (omega (arith, c.variables, p.0.1))
+      (omega (arith, c.count, p.0.2)) (nodes_change integers n g)
+      (λ l. good_change integers n inside g (p.1 (omega (arith, l, c.variables, p.0.1))))))
 
   -- what is returned
   pub returned_grows : (inside : Bool) (st : State) → Sound st → (at : ℕ) (t : Optional)
-      → OnValue (Grows n inside st 0) (read_returned line n st at t)
+      → OnValue (Grows integers n inside st 0) (read_returned integers line n st at t)
   returned_grows inside st s at absent = grows_none inside st s
-  returned_grows inside st s at (present e) = on_bind (Value st at) (Grows n inside st 0) (read (line at) st e n) _ (value_good st s at e)
+  returned_grows inside st s at (present e) =
+      on_bind (Value st at) (Grows integers n inside st 0) (read integers (line at) st e n) _ (value_good st s at e)
       (λ x o. evaluated_grows inside st s at (evaluates (more x none) (line at)) (λ l. and_from (is_over n x) true (o.0 l) refl)
-      (one_evaluated n (line at) x o.1))
+      (one_evaluated integers n (line at) x o.1))
 
   -- what is behind a call
-  call_good : (inside : Bool) (x : List ℕ) (at : ℕ) → Good n inside (call_of x at (line at))
+  call_good : (inside : Bool) (x : List ℕ) (at : ℕ) → Good integers n inside (call_of x at (line at))
   call_good inside x at = by (is_error x) (is_end x) where
     by : (b c : Bool)
-        → Good n inside (cond b (cons (never at (line at)) (one (jump returns (line at)))) (cond c (one (jump returns (line at))) nil))
-    by true c = good_cons n inside (never at (line at)) (one (jump returns (line at))) (good_never n inside at (line at))
-        (good_one n inside (jump returns (line at)) (good_returns n inside (line at)))
-    by false true = good_one n inside (jump returns (line at)) (good_returns n inside (line at))
-    by false false = good_nil n inside
+        → Good integers n inside
+        (cond b (cons (never at (line at)) (one (jump returns (line at)))) (cond c (one (jump returns (line at))) nil))
+    by true c = good_cons integers n inside (never at (line at)) (one (jump returns (line at))) (good_never integers n inside at (line at))
+        (good_one integers n inside (jump returns (line at)) (good_returns integers n inside (line at)))
+    by false true = good_one integers n inside (jump returns (line at)) (good_returns integers n inside (line at))
+    by false false = good_nil integers n inside
 
   -- a call as a statement
   pub called_grows : (inside : Bool) (x : List ℕ) (at : ℕ) (es : Arguments) (st : State) → Sound st
-      → OnValue (Grows n inside st 0) (as_called at (known x st.names) es >>= λ es. read_arguments (line at) st es n
-      >>= λ es. read_evaluated line n st at (evaluates es (line at))
-      >>= λ r. (let after : Statements = call_of x at (line at) in counted at (nodes_in (core_in n after)) r.0
+      → OnValue (Grows integers n inside st 0) (as_called at (known x st.names) es >>= λ es. read_arguments integers (line at) st es n
+      >>= λ es. read_evaluated integers line n st at (evaluates es (line at))
+      >>= λ r. (let after : Statements = call_of x at (line at) in counted at (nodes_in (core_in integers n after)) r.0
       >>= λ now. Ok (now, followed_by r.1 after)))
   called_grows inside x at es st s =
-      on_bind (λ es. Unit {0}) (Grows n inside st 0) (as_called at (known x st.names) es) _ (anything (as_called at (known x st.names) es))
+      on_bind (λ es. Unit {0}) (Grows integers n inside st 0) (as_called at (known x st.names) es) _
+      (anything (as_called at (known x st.names) es))
       (λ es u. let Over : Expressions → Type 0 = λ xs. st.variables ≤ n → IsTrue (are_over n xs) in
-      let Fit : Expressions → Type 0 = λ xs. IsTrue (deeds_fit (evaluated (line at) xs n).prelude) in
-      on_bind (λ xs. Over xs × Fit xs) (Grows n inside st 0) (read_arguments (line at) st es n) _
-      (on_both Over Fit (read_arguments (line at) st es n)
-      (on_given (st.variables ≤ n) (λ xs. IsTrue (are_over n xs)) (read_arguments (line at) st es n)
-      (λ l. arguments_over n (line at) st s l es n)) (arguments_fit (line at) st es n))
-      (λ xs o. on_bind (Grows n inside st 0) (Grows n inside st 0) (read_evaluated line n st at (evaluates xs (line at))) _
+      let Fit : Expressions → Type 0 = λ xs. IsTrue (deeds_fit (evaluated integers (line at) xs n).prelude) in
+      on_bind (λ xs. Over xs × Fit xs) (Grows integers n inside st 0) (read_arguments integers (line at) st es n) _
+      (on_both Over Fit (read_arguments integers (line at) st es n)
+      (on_given (st.variables ≤ n) (λ xs. IsTrue (are_over n xs)) (read_arguments integers (line at) st es n)
+      (λ l. arguments_over integers n (line at) st s l es n)) (arguments_fit integers (line at) st es n))
+      (λ xs o. on_bind (Grows integers n inside st 0) (Grows integers n inside st 0)
+      (read_evaluated integers line n st at (evaluates xs (line at))) _
       (evaluated_grows inside st s at (evaluates xs (line at)) o.0 o.1)
       (λ r h. let after : Statements = call_of x at (line at) in
-      on_bind (Counts (nodes n after) r.0) (Grows n inside st 0) (counted at (nodes n after) r.0) _
-      (counted_sound at (nodes n after) r.0 h.sound)
+      on_bind (Counts (nodes integers n after) r.0) (Grows integers n inside st 0) (counted at (nodes integers n after) r.0) _
+      (counted_sound at (nodes integers n after) r.0 h.sound)
       (λ now c. grows_then inside st 0 0 r (now, after) h (record {
         sound = c.sound;
         variables = omega (arith, c.variables);

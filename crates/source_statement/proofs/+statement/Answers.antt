@@ -6,8 +6,8 @@ use Rattle.lang_tree.specs.Tree as tree
 use Rattle.lang_tree.specs.View.{deeds_of, statements_of}
 use Rattle.lang_tree.specs.declared.stmt.Stmt.TheVariants as code
 use Rattle.source_grammar.specs.Tokens.{Token, token, for_word, left_brace, right_brace}
-use Rattle.source_grammar.specs.Grammar.{Core, GoodCore, ending_core, Sub, GoodSub, ending_sub, Items, labelled, plain}
-use Rattle.source_grammar.specs.Grammar.{block, repeat_for, no_items, label, declaration, item}
+use Rattle.source_grammar.specs.Grammar.{Core, ending_core, Sub, GoodSub, ending_sub, Items, labelled, plain}
+use Rattle.source_grammar.specs.Grammar.{repeat_for, no_items, label, declaration, item}
 use Rattle.source_grammar.proofs.grammar.Follow.{AfterCore}
 use Rattle.source_tree.specs.Statements.{nil}
 use Rattle.source_meaning.specs.Names.{State}
@@ -39,8 +39,7 @@ use Rattle.source_statement.proofs.+statement.Goals as goal
 -- ---- `while`
 pub loops::while_loop-returns-in_err-body-clause-reads : goal.loops::while_loop-returns-in_err-body-clause-reads
 loops::while_loop-returns-in_err-body-clause-reads t c = while_body c.args.reader.now c.skip.new.self c.parenthesised.new.reader
-    c.args.known.now c.at-at.result c.at-at.ensures
-    c.skip.ensures
+    c.args.known.now c.at-at.result c.at-at.ensures c.skip.ensures
     c.body.new.reader c.count.new.self c.body.new.known c.in_ok-test.test c.len.result c.args.out.now.items
     c.from_residual-in_err-body.result c.in_err-body.field-0.0 c.in_ok-test.ensures.reads
     (let l : c.len.result ≡ length c.in_ok-test.test.prelude.items = search rules in l) c.in_ok-count.ensures c.in_err-body.ensures.reads
@@ -48,8 +47,7 @@ loops::while_loop-returns-in_err-body-clause-reads t c = while_body c.args.reade
 
 pub loops::while_loop-returns-clause-reads : goal.loops::while_loop-returns-clause-reads
 loops::while_loop-returns-clause-reads t c = while_all c.args.reader.now c.skip.new.self c.parenthesised.new.reader c.args.known.now
-    c.at-at.result c.at-at.ensures
-    c.skip.ensures
+    c.at-at.result c.at-at.ensures c.skip.ensures
     c.body.new.reader c.count.new.self c.body.new.known c.in_ok-test.test c.len.result c.in_ok-body.body c.args.out.now.items
     c.push.new.self.items (code.While c.new.result c.in_ok-test.test.cond c.in_ok-body.body c.line.result) c.line.result
     (tree.while_loop c.new.result) c.in_ok-test.ensures.reads
@@ -58,14 +56,12 @@ loops::while_loop-returns-clause-reads t c = while_all c.args.reader.now c.skip.
 
 pub loops::while_loop-returns-in_err-test-clause-reads : goal.loops::while_loop-returns-in_err-test-clause-reads
 loops::while_loop-returns-in_err-test-clause-reads t c = while_test c.args.reader.now c.skip.new.self c.parenthesised.new.reader
-    c.args.known.now c.at-at.result c.at-at.ensures
-    c.skip.ensures
+    c.args.known.now c.at-at.result c.at-at.ensures c.skip.ensures
     c.args.out.now.items c.from_residual.result c.in_err-test.field-0.0 c.in_err-test.ensures.reads c.from_residual.ensures.1
 
 pub loops::while_loop-returns-in_err-count-clause-reads : goal.loops::while_loop-returns-in_err-count-clause-reads
 loops::while_loop-returns-in_err-count-clause-reads t c = while_count c.args.reader.now c.skip.new.self c.parenthesised.new.reader
-    c.args.known.now c.at-at.result c.at-at.ensures
-    c.skip.ensures
+    c.args.known.now c.at-at.result c.at-at.ensures c.skip.ensures
     c.count.new.self c.in_ok-test.test c.len.result c.args.out.now.items c.from_residual-in_err-count.result c.in_err-count.field-0.0
     c.in_ok-test.ensures.reads (let l : c.len.result ≡ length c.in_ok-test.test.prelude.items = search rules in l) c.in_err-count.ensures
     c.from_residual-in_err-count.ensures.1
@@ -123,11 +119,11 @@ loops::for_loop-returns-in_err-head-clause-reads t c = λ inside a b f d m i us 
     let at : ℕ = c.at-at.result in
     let h : c.skip.new.self ≡ at_tokens old (head_rest b f d m i us j (onto_sub s rest)) =
     passed_is old c.skip.new.self for_word a (head_rest b f d m i us j (onto_sub s rest)) q c.skip.ensures in
-    let P : ℕ → Type 0 = λ a. Answers {A = Unit {0}} (λ _ r. WasRead old.variables rest old c.for_head.new.reader c.for_head.new.known
-    c.args.out.now.items c.for_head.new.out.items r) c.from_residual.result
-    (read_core (line_at old.text) old.variables inside k (repeat_for a b f d m i us j s)) in
+    let P : ℕ → Type 0 = λ a. Answers {A = Unit {0}} (λ _ r. WasRead old.integers old.variables rest old c.for_head.new.reader
+    c.for_head.new.known c.args.out.now.items c.for_head.new.out.items r) c.from_residual.result
+    (read_core old.integers (line_at old.text) old.variables inside k (repeat_for a b f d m i us j s)) in
     subst P (c.at-at.ensures ∙ ap first_place q)
-    (for_head_fault {C = Unit {0}} (λ _ r. WasRead old.variables rest old c.for_head.new.reader c.for_head.new.known
+    (for_head_fault {C = Unit {0}} (λ _ r. WasRead old.integers old.variables rest old c.for_head.new.reader c.for_head.new.known
     c.args.out.now.items c.for_head.new.out.items r) old c.skip.new.self c.for_head.new.reader k c.for_head.new.known inside
     c.args.out.now.items c.for_head.new.out.items at b f d m i us j s rest c.from_residual.result c.in_err-head.field-0.0 g.0 g.1 g.2 h
     c.in_err-head.ensures.reads c.from_residual.ensures.1)
@@ -139,11 +135,11 @@ loops::for_loop-returns-in_err-body-clause-reads t c = λ inside a b f d m i us 
     let at : ℕ = c.at-at.result in
     let h : c.skip.new.self ≡ at_tokens old (head_rest b f d m i us j (onto_sub s rest)) =
     passed_is old c.skip.new.self for_word a (head_rest b f d m i us j (onto_sub s rest)) q c.skip.ensures in
-    let P : ℕ → Type 0 = λ a. Answers {A = Unit {0}} (λ _ r. WasRead old.variables rest old c.body.new.reader c.body.new.known
+    let P : ℕ → Type 0 = λ a. Answers {A = Unit {0}} (λ _ r. WasRead old.integers old.variables rest old c.body.new.reader c.body.new.known
     c.args.out.now.items c.for_head.new.out.items r) c.from_residual-in_err-body.result
-    (read_core (line_at old.text) old.variables inside k (repeat_for a b f d m i us j s)) in
+    (read_core old.integers (line_at old.text) old.variables inside k (repeat_for a b f d m i us j s)) in
     subst P (c.at-at.ensures ∙ ap first_place q)
-    (for_body_fault {C = Unit {0}} (λ _ r. WasRead old.variables rest old c.body.new.reader c.body.new.known
+    (for_body_fault {C = Unit {0}} (λ _ r. WasRead old.integers old.variables rest old c.body.new.reader c.body.new.known
     c.args.out.now.items c.for_head.new.out.items r) old c.skip.new.self c.for_head.new.reader c.body.new.reader k c.for_head.new.known
     c.body.new.known inside c.args.out.now.items c.for_head.new.out.items at b f d m i us j s rest c.from_residual-in_err-body.result
     c.in_ok-head.head c.in_err-body.field-0.0 g.0 g.1 g.2 g.3 v h c.in_ok-head.ensures.reads c.in_err-body.ensures.reads
@@ -156,9 +152,9 @@ loops::for_loop-returns-clause-reads t c = λ inside a b f d m i us j s rest g q
     let at : ℕ = c.at-at.result in
     let h : c.skip.new.self ≡ at_tokens old (head_rest b f d m i us j (onto_sub s rest)) =
     passed_is old c.skip.new.self for_word a (head_rest b f d m i us j (onto_sub s rest)) q c.skip.ensures in
-    let P : ℕ → Type 0 = λ a. Answers {A = Unit {0}} (λ _ r. WasRead old.variables rest old c.body.new.reader c.close.new.self
+    let P : ℕ → Type 0 = λ a. Answers {A = Unit {0}} (λ _ r. WasRead old.integers old.variables rest old c.body.new.reader c.close.new.self
     c.args.out.now.items c.push.new.self.items r) (Ok tt)
-    (read_core (line_at old.text) old.variables inside k (repeat_for a b f d m i us j s)) in
+    (read_core old.integers (line_at old.text) old.variables inside k (repeat_for a b f d m i us j s)) in
     subst P (c.at-at.ensures ∙ ap first_place q)
     (for_read old c.skip.new.self c.for_head.new.reader c.body.new.reader k c.for_head.new.known c.body.new.known c.close.new.self inside
     c.args.out.now.items c.for_head.new.out.items c.push.new.self.items at b f d m i us j s rest c.in_ok-head.head c.in_ok-body.body
@@ -171,8 +167,7 @@ loops::for_loop-returns-clause-reads t c = λ inside a b f d m i us j s rest g q
 -- ---- `if`
 pub branch::branch-returns-in_err-first-clause-reads : goal.branch::branch-returns-in_err-first-clause-reads
 branch::branch-returns-in_err-first-clause-reads t c = if_first c.args.reader.now c.skip.new.self c.parenthesised.new.reader
-    c.args.known.now c.at-at.result c.at-at.ensures
-    c.skip.ensures
+    c.args.known.now c.at-at.result c.at-at.ensures c.skip.ensures
     c.body.new.reader c.count.new.self c.body.new.known c.args.inside c.in_ok-test.test c.len.result c.args.out.now.items
     c.from_residual-in_err-first.result c.in_err-first.field-0.0 c.in_ok-test.ensures.reads
     (let l : c.len.result ≡ length c.in_ok-test.test.prelude.items = search rules in l) c.in_ok-count.ensures c.in_err-first.ensures.reads
@@ -180,8 +175,7 @@ branch::branch-returns-in_err-first-clause-reads t c = if_first c.args.reader.no
 
 pub branch::branch-returns-in_err-second-clause-reads : goal.branch::branch-returns-in_err-second-clause-reads
 branch::branch-returns-in_err-second-clause-reads t c = if_second c.args.reader.now c.skip.new.self c.parenthesised.new.reader
-    c.args.known.now c.at-at.result c.at-at.ensures
-    c.skip.ensures
+    c.args.known.now c.at-at.result c.at-at.ensures c.skip.ensures
     c.body.new.reader c.other.new.reader c.count.new.self c.body.new.known c.other.new.known c.args.inside c.in_ok-test.test c.len.result
     c.in_ok-first.first c.args.out.now.items c.from_residual-in_err-second.result c.in_err-second.field-0.0 c.in_ok-test.ensures.reads
     (let l : c.len.result ≡ length c.in_ok-test.test.prelude.items = search rules in l) c.in_ok-count.ensures c.in_ok-first.ensures.reads
@@ -189,8 +183,7 @@ branch::branch-returns-in_err-second-clause-reads t c = if_second c.args.reader.
 
 pub branch::branch-returns-clause-reads : goal.branch::branch-returns-clause-reads
 branch::branch-returns-clause-reads t c = if_all c.args.reader.now c.skip.new.self c.parenthesised.new.reader c.args.known.now
-    c.at-at.result c.at-at.ensures
-    c.skip.ensures
+    c.at-at.result c.at-at.ensures c.skip.ensures
     c.body.new.reader c.other.new.reader c.count.new.self c.body.new.known c.other.new.known c.args.inside c.in_ok-test.test c.len.result
     c.in_ok-first.first c.in_ok-second.second c.args.out.now.items c.push_branch.new.out.items c.line.result c.in_ok-test.ensures.reads
     (let l : c.len.result ≡ length c.in_ok-test.test.prelude.items = search rules in l) c.in_ok-count.ensures c.in_ok-first.ensures.reads
@@ -198,14 +191,12 @@ branch::branch-returns-clause-reads t c = if_all c.args.reader.now c.skip.new.se
 
 pub branch::branch-returns-in_err-test-clause-reads : goal.branch::branch-returns-in_err-test-clause-reads
 branch::branch-returns-in_err-test-clause-reads t c = if_test c.args.reader.now c.skip.new.self c.parenthesised.new.reader
-    c.args.known.now c.at-at.result c.at-at.ensures
-    c.skip.ensures
+    c.args.known.now c.at-at.result c.at-at.ensures c.skip.ensures
     c.args.inside c.args.out.now.items c.from_residual.result c.in_err-test.field-0.0 c.in_err-test.ensures.reads c.from_residual.ensures.1
 
 pub branch::branch-returns-in_err-count-clause-reads : goal.branch::branch-returns-in_err-count-clause-reads
 branch::branch-returns-in_err-count-clause-reads t c = if_count c.args.reader.now c.skip.new.self c.parenthesised.new.reader
-    c.args.known.now c.at-at.result c.at-at.ensures
-    c.skip.ensures
+    c.args.known.now c.at-at.result c.at-at.ensures c.skip.ensures
     c.count.new.self c.args.inside c.in_ok-test.test c.len.result c.args.out.now.items c.from_residual-in_err-count.result
     c.in_err-count.field-0.0 c.in_ok-test.ensures.reads (let l : c.len.result ≡ length c.in_ok-test.test.prelude.items = search rules in l)
     c.in_err-count.ensures c.from_residual-in_err-count.ensures.1
@@ -215,7 +206,7 @@ pub items::block-returns-in_err-items-clause-reads : goal.items::block-returns-i
 items::block-returns-in_err-items-clause-reads t c = λ a is b rest g q.
     let old : Reading = c.args.reader.now in
     let ts : List Token = onto_items is (token right_brace b ∷ rest) in
-    block_fault {C = Unit {0}} (λ _ r. WasRead old.variables rest old c.items.new.reader c.items.new.known c.args.out.now.items
+    block_fault {C = Unit {0}} (λ _ r. WasRead old.integers old.variables rest old c.items.new.reader c.items.new.known c.args.out.now.items
     c.items.new.out.items r) old c.take.new.self c.items.new.reader c.args.known.now c.items.new.known c.args.inside a is b rest
     c.args.out.now.items c.items.new.out.items c.from_residual-in_err-items.result c.in_err-items.field-0.0 g
     (passed_is old c.take.new.self left_brace a ts q c.in_ok-take.ensures.2) c.in_err-items.ensures.reads
@@ -233,7 +224,7 @@ items::block-returns-clause-reads t c = λ a is b rest g q.
 -- ---- the statements of a block
 pub items::items-all-init : goal.items::items-all-init
 items::items-all-init t c = record {
-  left = λ is b rest g q. all_left (line_at c.args.reader.now.text) c.args.reader.now.variables c.args.inside is
+  left = λ is b rest g q. all_left c.args.reader.now.integers (line_at c.args.reader.now.text) c.args.reader.now.variables c.args.inside is
       (token right_brace b ∷ rest) c.args.reader.now c.args.known.now c.args.out.now.items g q;
   fewer = omega arith;
 }
@@ -251,13 +242,15 @@ pub items::items-returns-in_err-item-clause-reads : goal.items::items-returns-in
 items::items-returns-in_err-item-clause-reads t c = λ is b rest g q.
     let first : Reading = c.args.reader.now in
     turn_fault c.args.inside is b rest first c.all.reader c.item.new.reader c.args.known.now c.all.known c.item.new.known
-    c.args.out.now.items c.all.out.items c.item.new.out.items {A = Unit {0}} (λ _ r. WasRead first.variables (token right_brace b ∷ rest)
+    c.args.out.now.items c.all.out.items c.item.new.out.items {A = Unit {0}} (λ _ r. WasRead first.integers first.variables
+    (token right_brace b ∷ rest)
     first c.item.new.reader c.item.new.known c.args.out.now.items c.item.new.out.items r) c.from_residual.result c.in_err-item.field-0.0
     (c.all.invariant.left is b rest g q) (let h : is_closing (start_in (first_kind c.all.reader.ahead)) ≡ false = search rules in h)
     c.in_err-item.ensures.reads c.from_residual.ensures.1
 
 pub items::items-returns-clause-reads : goal.items::items-returns-clause-reads
-items::items-returns-clause-reads t c = λ is b rest g q. none_left (line_at c.args.reader.now.text) c.args.reader.now.variables
+items::items-returns-clause-reads t c = λ is b rest g q. none_left c.args.reader.now.integers
+    (line_at c.args.reader.now.text) c.args.reader.now.variables
     c.args.inside is b rest c.args.reader.now c.all.reader c.args.known.now c.all.known c.args.out.now.items c.all.out.items tt
     (c.all.invariant.left is b rest g q) (let h : is_closing (start_in (first_kind c.all.reader.ahead)) ≡ true = search rules in h)
 
@@ -319,9 +312,9 @@ body::other-returns-in_default t c = record {
   shorter = omega arith;
 } where
   on : (o : Other) (rest : List Token) → c.args.reader.now.ahead ≡ onto_other o rest → AfterOther o (first_kind rest)
-      → Answers (λ b r. WasBlock c.args.reader.now.variables rest c.args.reader.now c.args.reader.now c.args.known.now b r)
-      (Ok c.new-in_default.result)
-      (read_other (line_at c.args.reader.now.text) c.args.reader.now.variables c.args.inside c.args.known.now o)
+      → Answers (λ b r. WasBlock c.args.reader.now.integers c.args.reader.now.variables rest c.args.reader.now c.args.reader.now
+      c.args.known.now b r) (Ok c.new-in_default.result)
+      (read_other c.args.reader.now.integers (line_at c.args.reader.now.text) c.args.reader.now.variables c.args.inside c.args.known.now o)
   on no_other rest q f = (
     (c.args.known.now, nil),
     refl,
@@ -338,19 +331,20 @@ body::other-returns-in_default t c = record {
 pub body::sub-returns-in_err-first-in-Name-clause-reads : goal.body::sub-returns-in_err-first-in-Name-clause-reads
 body::sub-returns-in_err-first-in-Name-clause-reads t c = λ x rest g q f.
     let old : Reading = c.args.reader.now in
-    no_name {C = Unit {0}} (λ _ r. WasRead old.variables rest old c.take_name.new.reader c.args.known.now c.args.out.now.items
+    no_name {C = Unit {0}} (λ _ r. WasRead old.integers old.variables rest old c.take_name.new.reader c.args.known.now c.args.out.now.items
     c.args.out.now.items r) old c.take_name.new.reader c.from_residual.result c.in_err-first-in-Name.field-0.0
-    (read_sub (line_at old.text) old.variables c.args.inside c.args.known.now x)
+    (read_sub old.integers (line_at old.text) old.variables c.args.inside c.args.known.now x)
     (sym c.coming.ensures ∙ ap start_of c.in-Name.is) c.in_err-first-in-Name.ensures.reads c.from_residual.ensures.1
 
 pub body::sub-returns-in_err-label-in-Colon-clause-reads : goal.body::sub-returns-in_err-label-in-Colon-clause-reads
 body::sub-returns-in_err-label-in-Colon-clause-reads t c = λ x rest g q f. on x rest g q f where
   on : (x : Sub) (rest : List Token) → GoodSub x → c.args.reader.now.ahead ≡ onto_sub x rest → AfterCore (ending_sub x) (first_kind rest)
-      → Answers {A = Unit {0}} (λ _ r. WasRead c.args.reader.now.variables rest c.args.reader.now c.label.new.reader c.label.new.known
-      c.args.out.now.items c.label.new.out.items r) c.from_residual-in_err-label-in-Colon.result
-      (read_sub (line_at c.args.reader.now.text) c.args.reader.now.variables c.args.inside c.args.known.now x)
+      → Answers {A = Unit {0}} (λ _ r. WasRead c.args.reader.now.integers c.args.reader.now.variables rest c.args.reader.now
+      c.label.new.reader c.label.new.known c.args.out.now.items c.label.new.out.items r) c.from_residual-in_err-label-in-Colon.result
+      (read_sub c.args.reader.now.integers (line_at c.args.reader.now.text) c.args.reader.now.variables c.args.inside c.args.known.now x)
   on (labelled x a b y) rest g q f =
-      label_fault {C = Unit {0}} (λ _ r. WasRead c.args.reader.now.variables rest c.args.reader.now c.label.new.reader c.label.new.known
+      label_fault {C = Unit {0}} (λ _ r. WasRead c.args.reader.now.integers c.args.reader.now.variables rest c.args.reader.now
+      c.label.new.reader c.label.new.known
       c.args.out.now.items c.label.new.out.items r) c.args.reader.now c.take_name.new.reader c.label.new.reader c.args.known.now
       c.label.new.known c.args.inside c.in_ok-first-in-Name.first c.args.out.now.items c.label.new.out.items
       c.from_residual-in_err-label-in-Colon.result c.in_err-label-in-Colon.field-0.0 x a b y (onto_sub y rest) q
@@ -362,9 +356,9 @@ body::sub-returns-in_err-label-in-Colon-clause-reads t c = λ x rest g q f. on x
 pub body::sub-returns-in_ok-label-in-Colon-clause-reads : goal.body::sub-returns-in_ok-label-in-Colon-clause-reads
 body::sub-returns-in_ok-label-in-Colon-clause-reads t c = λ x rest g q f. on x rest g q f where
   on : (x : Sub) (rest : List Token) → GoodSub x → c.args.reader.now.ahead ≡ onto_sub x rest → AfterCore (ending_sub x) (first_kind rest)
-      → Answers {A = Unit {0}} (λ _ r. WasRead c.args.reader.now.variables rest c.args.reader.now c.sub.new.reader c.sub.new.known
-      c.args.out.now.items c.sub.new.out.items r) c.sub.result
-      (read_sub (line_at c.args.reader.now.text) c.args.reader.now.variables c.args.inside c.args.known.now x)
+      → Answers {A = Unit {0}} (λ _ r. WasRead c.args.reader.now.integers c.args.reader.now.variables rest c.args.reader.now
+      c.sub.new.reader c.sub.new.known c.args.out.now.items c.sub.new.out.items r) c.sub.result
+      (read_sub c.args.reader.now.integers (line_at c.args.reader.now.text) c.args.reader.now.variables c.args.inside c.args.known.now x)
   on (labelled x a b y) rest g q f =
       labelled_read c.args.reader.now c.take_name.new.reader c.label.new.reader c.sub.new.reader c.args.known.now c.label.new.known
       c.sub.new.known c.args.inside c.in_ok-first-in-Name.first c.args.out.now.items c.label.new.out.items c.sub.new.out.items c.sub.result
@@ -380,10 +374,10 @@ body::sub-returns-in_default-coming t c = record {
       (λ l. let m = c.in_ok-first-in-Name.ensures.shorter in omega (arith, l, m)) c.named_statement.ensures.shorter;
 } where
   on : (x : Sub) (rest : List Token) → GoodSub x → c.args.reader.now.ahead ≡ onto_sub x rest → AfterCore (ending_sub x) (first_kind rest)
-      → Answers {A = Unit {0}} (λ _ r. WasRead c.args.reader.now.variables rest c.args.reader.now c.named_statement.new.reader
-      c.named_statement.new.known
+      → Answers {A = Unit {0}} (λ _ r. WasRead c.args.reader.now.integers c.args.reader.now.variables rest c.args.reader.now
+      c.named_statement.new.reader c.named_statement.new.known
       c.args.out.now.items c.named_statement.new.out.items r) c.named_statement.result
-      (read_sub (line_at c.args.reader.now.text) c.args.reader.now.variables c.args.inside c.args.known.now x)
+      (read_sub c.args.reader.now.integers (line_at c.args.reader.now.text) c.args.reader.now.variables c.args.inside c.args.known.now x)
   on (labelled x a b y) rest g q f = absurd (c.in_default-coming.not-Colon (says_colon c.coming-in-Name.result (c.coming-in-Name.ensures
       ∙ colon_is c.args.reader.now c.take_name.new.reader c.in_ok-first-in-Name.first x a b (onto_sub y rest) q
       c.in_ok-first-in-Name.ensures.reads)))
@@ -398,9 +392,9 @@ body::sub-returns-in_default t c = record {
   shorter = c.core.ensures.shorter;
 } where
   on : (x : Sub) (rest : List Token) → GoodSub x → c.args.reader.now.ahead ≡ onto_sub x rest → AfterCore (ending_sub x) (first_kind rest)
-      → Answers {A = Unit {0}} (λ _ r. WasRead c.args.reader.now.variables rest c.args.reader.now c.core.new.reader c.core.new.known
-      c.args.out.now.items c.core.new.out.items r) c.core.result
-      (read_sub (line_at c.args.reader.now.text) c.args.reader.now.variables c.args.inside c.args.known.now x)
+      → Answers {A = Unit {0}} (λ _ r. WasRead c.args.reader.now.integers c.args.reader.now.variables rest c.args.reader.now
+      c.core.new.reader c.core.new.known c.args.out.now.items c.core.new.out.items r) c.core.result
+      (read_sub c.args.reader.now.integers (line_at c.args.reader.now.text) c.args.reader.now.variables c.args.inside c.args.known.now x)
   on (labelled x a b y) rest g q f =
       absurd (c.in_default.not-Name (says_name c.coming.result (c.coming.ensures ∙ ap (λ ts. start_in (first_kind ts)) q)))
   on (plain d) rest g q f = c.core.ensures.reads d rest g q f
@@ -409,10 +403,11 @@ body::sub-returns-in_default t c = record {
 pub items::item-returns-in_err-first-in-Name-clause-reads : goal.items::item-returns-in_err-first-in-Name-clause-reads
 items::item-returns-in_err-first-in-Name-clause-reads t c = λ is b rest gi g q.
     let old : Reading = c.args.reader.now in
-    no_name {C = Unit {0}} (λ _ r. WasRead old.variables (onto_items (others is) (token right_brace b ∷ rest)) old c.take_name.new.reader
+    no_name {C = Unit {0}} (λ _ r. WasRead old.integers old.variables (onto_items (others is)
+    (token right_brace b ∷ rest)) old c.take_name.new.reader
     c.args.known.now c.args.out.now.items c.args.out.now.items r) old c.take_name.new.reader c.from_residual.result
     c.in_err-first-in-Name.field-0.0
-    (read_one (line_at old.text) old.variables c.args.inside c.args.known.now is)
+    (read_one old.integers (line_at old.text) old.variables c.args.inside c.args.known.now is)
     (sym c.coming.ensures ∙ ap start_of c.in-Name.is) c.in_err-first-in-Name.ensures.reads c.from_residual.ensures.1
 
 pub items::item-returns-in-Int-clause-reads : goal.items::item-returns-in-Int-clause-reads
@@ -421,10 +416,12 @@ items::item-returns-in-Int-clause-reads t c = λ is b rest gi g q. on is b rest 
       on : (is : Items) (b : ℕ) (rest : List Token) → GoodOne is
           → c.args.reader.now.ahead ≡ onto_items is (token right_brace b ∷ rest)
           → s.an_int ≡ start_in (first_kind (onto_items is (token right_brace b ∷ rest)))
-          → Answers {A = Unit {0}} (λ _ r. WasRead c.args.reader.now.variables (onto_items (others is) (token right_brace b ∷ rest))
+          → Answers {A = Unit {0}} (λ _ r. WasRead c.args.reader.now.integers c.args.reader.now.variables (onto_items (others is)
+          (token right_brace b ∷ rest))
           c.args.reader.now c.declaration.new.reader c.declaration.new.known c.args.out.now.items c.declaration.new.out.items r)
           c.declaration.result
-          (read_one (line_at c.args.reader.now.text) c.args.reader.now.variables c.args.inside c.args.known.now is)
+          (read_one c.args.reader.now.integers (line_at c.args.reader.now.text) c.args.reader.now.variables c.args.inside
+          c.args.known.now is)
       on no_items b rest g q h = absurd g
       on (label x a d is) b rest g q h = absurd cc
       on (declaration a xs d is) b rest g q h = c.declaration.ensures.reads a xs d (onto_items is (token right_brace b ∷ rest)) g q
@@ -436,10 +433,12 @@ items::item-returns-in-Colon-clause-reads t c = λ is b rest gi g q. on is b res
       on : (is : Items) (b : ℕ) (rest : List Token) → GoodOne is
           → c.args.reader.now.ahead ≡ onto_items is (token right_brace b ∷ rest)
           → s.a_name ≡ start_in (first_kind (onto_items is (token right_brace b ∷ rest)))
-          → Answers {A = Unit {0}} (λ _ r. WasRead c.args.reader.now.variables (onto_items (others is) (token right_brace b ∷ rest))
+          → Answers {A = Unit {0}} (λ _ r. WasRead c.args.reader.now.integers c.args.reader.now.variables (onto_items (others is)
+          (token right_brace b ∷ rest))
           c.args.reader.now c.label.new.reader c.label.new.known c.args.out.now.items c.label.new.out.items r)
           c.label.result
-          (read_one (line_at c.args.reader.now.text) c.args.reader.now.variables c.args.inside c.args.known.now is)
+          (read_one c.args.reader.now.integers (line_at c.args.reader.now.text) c.args.reader.now.variables c.args.inside
+          c.args.known.now is)
       on no_items b rest g q h = absurd g
       on (declaration a xs d is) b rest g q h = absurd cc
       on (label x a d is) b rest g q h = label_read c.args.reader.now c.take_name.new.reader c.label.new.reader c.args.known.now
@@ -460,10 +459,11 @@ items::item-returns-in_default-coming t c = record {
   on : (is : Items) (b : ℕ) (rest : List Token) → GoodOne is
       → c.args.reader.now.ahead ≡ onto_items is (token right_brace b ∷ rest)
       → s.a_name ≡ start_in (first_kind (onto_items is (token right_brace b ∷ rest)))
-      → Answers {A = Unit {0}} (λ _ r. WasRead c.args.reader.now.variables (onto_items (others is) (token right_brace b ∷ rest))
+      → Answers {A = Unit {0}} (λ _ r. WasRead c.args.reader.now.integers c.args.reader.now.variables (onto_items (others is)
+      (token right_brace b ∷ rest))
       c.args.reader.now c.named_statement.new.reader c.named_statement.new.known c.args.out.now.items c.named_statement.new.out.items r)
       c.named_statement.result
-      (read_one (line_at c.args.reader.now.text) c.args.reader.now.variables c.args.inside c.args.known.now is)
+      (read_one c.args.reader.now.integers (line_at c.args.reader.now.text) c.args.reader.now.variables c.args.inside c.args.known.now is)
   on no_items b rest g q h = absurd g
   on (declaration a xs d is) b rest g q h = absurd cc
   on (label x a d is) b rest g q h = absurd (c.in_default-coming.not-Colon (says_colon c.coming-in-Name.result (c.coming-in-Name.ensures
@@ -481,10 +481,11 @@ items::item-returns-in_default t c = record {
 } where
   on : (is : Items) (b : ℕ) (rest : List Token) → GoodOne is
       → c.args.reader.now.ahead ≡ onto_items is (token right_brace b ∷ rest)
-      → Answers {A = Unit {0}} (λ _ r. WasRead c.args.reader.now.variables (onto_items (others is) (token right_brace b ∷ rest))
+      → Answers {A = Unit {0}} (λ _ r. WasRead c.args.reader.now.integers c.args.reader.now.variables (onto_items (others is)
+      (token right_brace b ∷ rest))
       c.args.reader.now c.core.new.reader c.core.new.known c.args.out.now.items c.core.new.out.items r)
       c.core.result
-      (read_one (line_at c.args.reader.now.text) c.args.reader.now.variables c.args.inside c.args.known.now is)
+      (read_one c.args.reader.now.integers (line_at c.args.reader.now.text) c.args.reader.now.variables c.args.inside c.args.known.now is)
   on no_items b rest g q = absurd g
   on (label x a d is) b rest g q =
       absurd (c.in_default.not-Name (says_name c.coming.result (c.coming.ensures ∙ ap (λ ts. start_in (first_kind ts)) q)))

@@ -42,7 +42,8 @@ decreases-items::items l = 4 * length l.reader.now.ahead + 3
 abbrev pub invariant-items::items-all : goal.invariant-items::items-all
 invariant-items::items-all l = record {
   left : (is : Items) (b : ℕ) (rest : List Token) → GoodItems is → l.initial.reader.ahead ≡ onto_items is (token right_brace b ∷ rest)
-      → Left (line_at l.initial.reader.text) l.initial.reader.variables l.inside is (token right_brace b ∷ rest) l.initial.reader l.reader
+      → Left l.initial.reader.integers (line_at l.initial.reader.text) l.initial.reader.variables l.inside is
+      (token right_brace b ∷ rest) l.initial.reader l.reader
       l.initial.known l.known l.initial.out.items l.out.items;
   fewer : length l.reader.ahead ≤ length l.initial.reader.ahead;
 }

@@ -22,36 +22,37 @@ use Rattle.source_statement.proofs.left.Items.{Left, some_left, less_left, fault
 abbrev pub OneReads : (here new : Reading) (k met : State) (inside : Bool) (before after : List Stmt) → Result (Unit {0}) Stop → Type 0
 OneReads here new k met inside o p r = (is : Items) (b : ℕ) (rest : List Token) → GoodItems is → GoodOne is
     → here.ahead ≡ onto_items is (token right_brace b ∷ rest)
-    → Answers (λ _ q. WasRead here.variables (onto_items (others is) (token right_brace b ∷ rest)) here new met o p q) r
-    (read_one (line_at here.text) here.variables inside k is)
+    → Answers (λ _ q. WasRead here.integers here.variables (onto_items (others is) (token right_brace b ∷ rest)) here new met o p q) r
+    (read_one here.integers (line_at here.text) here.variables inside k is)
 
 module _ (inside : Bool) (is : Items) (b : ℕ) (w : List Token) (first now new : Reading) (k₀ k met : State) (o₀ o p : List Stmt) where
   -- what is left here
   abbrev pub Here : Type 0
-  Here = Left (line_at first.text) first.variables inside is (token right_brace b ∷ w) first now k₀ k o₀ o
+  Here = Left first.integers (line_at first.text) first.variables inside is (token right_brace b ∷ w) first now k₀ k o₀ o
 
   -- there is one more where no `}` comes next
   pub one_more : (l : Here) → is_closing (start_in (first_kind now.ahead)) ≡ false → GoodOne l.js
-  one_more l c = some_left (line_at first.text) first.variables inside l.js b w l.good
+  one_more l c = some_left first.integers (line_at first.text) first.variables inside l.js b w l.good
       (sym (ap (λ (r : Reading). is_closing (start_in (first_kind r.ahead))) l.reader) ∙ c)
 
   -- once it was read the others are left
   pub turn : Here → is_closing (start_in (first_kind now.ahead)) ≡ false → OneReads now new k met inside o p (Ok tt)
-      → Left (line_at first.text) first.variables inside is (token right_brace b ∷ w) first new k₀ met o₀ p
+      → Left first.integers (line_at first.text) first.variables inside is (token right_brace b ∷ w) first new k₀ met o₀ p
   turn l c h =
       let P : Reading → Type 0 = λ m. OneReads m new k met inside o p (Ok tt) in
       let g : GoodOne l.js = one_more l c in
-      less_left (line_at first.text) first.variables inside is (token right_brace b ∷ w) first now new k₀ k met o₀ o p tt l g
+      less_left first.integers (line_at first.text) first.variables inside is (token right_brace b ∷ w) first now new k₀ k met o₀ o p tt l g
       (subst P l.reader h l.js b w l.good g refl)
 
   -- its fault is that of all
   pub turn_fault : {A : Type 0} (Is : A → State × Statements → Type 0) (r : Result A Stop) (s : Stop) → Here
       → is_closing (start_in (first_kind now.ahead)) ≡ false → OneReads now new k met inside o p (Err s) → IsErrAnd r (λ t. t ≡ s)
-      → Answers Is r (read_items (line_at first.text) first.variables inside k₀ is)
+      → Answers Is r (read_items first.integers (line_at first.text) first.variables inside k₀ is)
   turn_fault {A} Is r s l c h e =
       let P : Reading → Type 0 = λ m. OneReads m new k met inside o p (Err s) in
       let g : GoodOne l.js = one_more l c in
-      err_cases Is r s (read_items (line_at first.text) first.variables inside k₀ is) e
-      (λ t q. fault_left (line_at first.text) first.variables inside {A = A} Is is (token right_brace b ∷ w) first now new k₀ k met o₀
+      err_cases Is r s (read_items first.integers (line_at first.text) first.variables inside k₀ is) e
+      (λ t q. fault_left first.integers (line_at first.text) first.variables inside {A = A} Is is
+      (token right_brace b ∷ w) first now new k₀ k met o₀
       o p s t l g q
       (subst P l.reader h l.js b w l.good g refl))

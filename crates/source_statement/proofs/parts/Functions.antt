@@ -15,6 +15,7 @@ use Rattle.source_meaning.specs.Statements.{followed_by, read_items}
 use Rattle.source_meaning.specs.Walk.{function_of, read_parameters, variables_of, walk, width_of}
 use Rattle.source_statement.specs.Onto.{onto_specifiers, onto_parameters, onto_items}
 use Rattle.source_statement.proofs.spelled.Statements.{specifiers_onto, parameters_onto, items_onto}
+use Rattle.base_integers.specs.declared.integers.Integers.{Integers}
 
 -- its tokens
 pub spelled_so : (ss : Specifiers) (f : FunctionName) (a : ℕ) (ps : Parameters) (b i : ℕ) (is : Items) (d : ℕ)
@@ -28,39 +29,43 @@ spelled_so ss f a ps b i is d =
     ∙ ap (λ ts. onto_parameters ps (token right_paren b ∷ token left_brace i ∷ ts)) (items_onto is (token right_brace d ∷ [])))
 
 -- what it means, by its parts
-pub walked : (line : ℕ → ℕ) (ss : Specifiers) (f : FunctionName) (a : ℕ) (ps : Parameters) (b i : ℕ) (is : Items) (d : ℕ)
-    (p r : State × Statements) → read_parameters line start_state ps ≡ Ok p
-    → read_items line (width_of (function ss f a ps b i is d)) false p.0 is ≡ Ok r
-    → walk line (function ss f a ps b i is d) ≡ function_of line r.0 (followed_by p.1 r.1)
-walked line ss f a ps b i is d p r e h =
-    ap (λ v. v >>= λ p. read_items line (width_of (function ss f a ps b i is d)) false p.0 is
-    >>= λ r. function_of line r.0 (followed_by p.1 r.1)) e
-    ∙ ap (λ v. v >>= λ r. function_of line r.0 (followed_by p.1 r.1)) h
+pub walked : (integers : Integers) (line : ℕ → ℕ) (ss : Specifiers) (f : FunctionName) (a : ℕ) (ps : Parameters) (b i : ℕ) (is : Items)
+    (d : ℕ)
+    (p r : State × Statements) → read_parameters integers line start_state ps ≡ Ok p
+    → read_items integers line (width_of (function ss f a ps b i is d)) false p.0 is ≡ Ok r
+    → walk integers line (function ss f a ps b i is d) ≡ function_of integers line r.0 (followed_by p.1 r.1)
+walked integers line ss f a ps b i is d p r e h =
+    ap (λ v. v >>= λ p. read_items integers line (width_of (function ss f a ps b i is d)) false p.0 is
+    >>= λ r. function_of integers line r.0 (followed_by p.1 r.1)) e
+    ∙ ap (λ v. v >>= λ r. function_of integers line r.0 (followed_by p.1 r.1)) h
 
 -- the function with these variables
 abbrev made : Statements → List (List ℕ) → Result (List (List ℕ) × Statements) FunctionFault
 made body [] = Err NoVariables
 made body (x ∷ xs) = Ok (x ∷ xs, body)
 
-made_so : (line : ℕ → ℕ) (st : State) (body : Statements) → function_of line st body ≡ made body (reverse (variables_of st.names))
-made_so line st body = on (reverse (variables_of st.names)) where
+made_so : (integers : Integers) (line : ℕ → ℕ) (st : State) (body : Statements)
+    → function_of integers line st body ≡ made body (reverse (variables_of st.names))
+made_so integers line st body = on (reverse (variables_of st.names)) where
   on : (xs : List (List ℕ)) → (elim xs as (λ xs. Result (List (List ℕ) × Statements) FunctionFault)
       [ [] ↦ Err NoVariables | x ∷ xs ↦ Ok (x ∷ xs, body) ]) ≡ made body xs
   on [] = refl
   on (x ∷ xs) = refl
 
 -- there are variables
-pub some_variables : (line : ℕ → ℕ) (st : State) (body : Statements) (xs : List (List ℕ)) → xs ≡ reverse (variables_of st.names)
-    → (xs ≡ [] → ⊥) → function_of line st body ≡ Ok (xs, body)
-some_variables line st body xs e h = made_so line st body ∙ ap (made body) (sym e) ∙ on xs h where
+pub some_variables : (integers : Integers) (line : ℕ → ℕ) (st : State) (body : Statements) (xs : List (List ℕ))
+    → xs ≡ reverse (variables_of st.names)
+    → (xs ≡ [] → ⊥) → function_of integers line st body ≡ Ok (xs, body)
+some_variables integers line st body xs e h = made_so integers line st body ∙ ap (made body) (sym e) ∙ on xs h where
   on : (xs : List (List ℕ)) → (xs ≡ [] → ⊥) → made body xs ≡ Ok (xs, body)
   on [] h = absurd (h refl)
   on (x ∷ xs) h = refl
 
 -- there are none
-pub no_variables : (line : ℕ → ℕ) (st : State) (body : Statements) (xs : List (List ℕ)) → xs ≡ reverse (variables_of st.names)
-    → xs ≡ [] → function_of line st body ≡ Err NoVariables
-no_variables line st body xs e h = made_so line st body ∙ ap (made body) (sym e ∙ h)
+pub no_variables : (integers : Integers) (line : ℕ → ℕ) (st : State) (body : Statements) (xs : List (List ℕ))
+    → xs ≡ reverse (variables_of st.names)
+    → xs ≡ [] → function_of integers line st body ≡ Err NoVariables
+no_variables integers line st body xs e h = made_so integers line st body ∙ ap (made body) (sym e ∙ h)
 
 -- a list without elements, and one with some
 nil_of : (xs : List (List ℕ)) → length xs ≡ 0 → xs ≡ []

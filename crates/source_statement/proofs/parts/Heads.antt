@@ -12,24 +12,27 @@ use Rattle.source_reader.specs.declared.stop.Stop.{Stop}
 use Rattle.source_change.specs.declared.conditions.Test.{Test}
 use Rattle.source_change.proofs.results.Answered.{ok_then}
 use Rattle.source_statement.specs.Parts.{read_head}
+use Rattle.base_integers.specs.declared.integers.Integers.{Integers}
 
 -- what is answered of the rest is answered of the head
-pub headed : {C : Type 0} (First : Unit {0} → State × Statements → Type 0) (Is : Test → Expression → Type 0)
+pub headed : (integers : Integers) {C : Type 0} (First : Unit {0} → State × Statements → Type 0) (Is : Test → Expression → Type 0)
     (Was : C → State × Statements × Expression × List Change → Type 0) (res : Result C Stop) (test : Test) (line : ℕ → ℕ) (n : ℕ)
     (st k : State) (at : ℕ) (f : ForFirst) (t : Optional) (us : Updates)
     → ((r : State × Statements) → First tt r → k ≡ r.0)
-    → Answers First (Ok tt) (read_first line n st f) → Answers Is (Ok test) (read_test line n k at t)
+    → Answers First (Ok tt) (read_first integers line n st f) → Answers Is (Ok test) (read_test integers line n k at t)
     → ((r : State × Statements) (x : Expression) → First tt r → Is test x
-    → Answers Was res (counted at (prelude_of line n at x + 1) k >>= λ now. read_updates line n now us
+    → Answers Was res (counted at (prelude_of integers line n at x + 1) k >>= λ now. read_updates integers line n now us
     >>= λ u. Ok (u.0, r.1, x, u.1)))
-    → Answers Was res (read_head line n st at f t us)
-headed First Is Was res test line n st k at f t us same a b h =
-    ok_then First Was tt res (read_first line n st f)
-    (λ r. read_test line n r.0 at t >>= λ x. counted at (prelude_of line n at x + 1) r.0 >>= λ now. read_updates line n now us
+    → Answers Was res (read_head integers line n st at f t us)
+headed integers First Is Was res test line n st k at f t us same a b h =
+    ok_then First Was tt res (read_first integers line n st f)
+    (λ r. read_test integers line n r.0 at t >>= λ x. counted at
+    (prelude_of integers line n at x + 1) r.0 >>= λ now. read_updates integers line n now us
     >>= λ u. Ok (u.0, r.1, x, u.1)) a
     (λ r w.
-    let P : State → Type 0 = λ k. Answers Was res (read_test line n k at t >>= λ x. counted at (prelude_of line n at x + 1) k
-    >>= λ now. read_updates line n now us >>= λ u. Ok (u.0, r.1, x, u.1)) in
+    let P : State → Type 0 = λ k. Answers Was res (read_test integers line n k at t >>= λ x. counted at
+    (prelude_of integers line n at x + 1) k
+    >>= λ now. read_updates integers line n now us >>= λ u. Ok (u.0, r.1, x, u.1)) in
     subst P (same r w)
-    (ok_then Is Was test res (read_test line n k at t) (λ x. counted at (prelude_of line n at x + 1) k
-    >>= λ now. read_updates line n now us >>= λ u. Ok (u.0, r.1, x, u.1)) b (λ x s. h r x w s)))
+    (ok_then Is Was test res (read_test integers line n k at t) (λ x. counted at (prelude_of integers line n at x + 1) k
+    >>= λ now. read_updates integers line n now us >>= λ u. Ok (u.0, r.1, x, u.1)) b (λ x s. h r x w s)))

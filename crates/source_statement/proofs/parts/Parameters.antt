@@ -22,6 +22,7 @@ use Rattle.source_change.proofs.results.Answered.{fault_then}
 use Rattle.source_change.proofs.results.Binds.{bind_assoc, bind_same, bind_ok}
 use Rattle.source_statement.specs.Onto.{onto_more_parameters}
 use Rattle.source_statement.specs.Starts.{start_in, a_comma, a_storage}
+use Rattle.base_integers.specs.declared.integers.Integers.{Integers}
 
 -- there is a token where one comes next that is a comma or stands before a function's name
 pub comma_less : (ts : List Token) → start_in (first_kind ts) ≡ a_comma → length (behind_first ts) < length ts
@@ -33,7 +34,7 @@ pub storage_less : (ts : List Token) → start_in (first_kind ts) ≡ a_storage 
 storage_less [] h = absurd cc
 storage_less (t ∷ ts) h = omega arith
 
-module _ (line : ℕ → ℕ) (n : ℕ) where
+module _ (integers : Integers) (line : ℕ → ℕ) (n : ℕ) where
   -- what is still to come of some parameters, where others were read
   pub record Left (xs : MoreParameters) (rest : List Token) (first now : Reading) (k₀ k : State) (o₀ o : List Stmt) : Type 0 where
     -- what is to come
@@ -43,9 +44,9 @@ module _ (line : ℕ → ℕ) (n : ℕ) where
     -- what was read
     pub done : Statements
     -- it stands in the core behind what was there
-    pub out : statements_of o ≡ core.followed_by (statements_of o₀) (core_in n done)
+    pub out : statements_of o ≡ core.followed_by (statements_of o₀) (core_in integers n done)
     -- all is what was read and then what is to come
-    pub goes : read_more_parameters line k₀ xs ≡ (read_more_parameters line k ys >>= λ q. Ok (q.0, followed_by done q.1))
+    pub goes : read_more_parameters integers line k₀ xs ≡ (read_more_parameters integers line k ys >>= λ q. Ok (q.0, followed_by done q.1))
 
   -- all are at first
   pub all_left : (xs : MoreParameters) (rest : List Token) (first : Reading) (k : State) (o : List Stmt)
@@ -55,7 +56,7 @@ module _ (line : ℕ → ℕ) (n : ℕ) where
     reader = let P : List Token → Type 0 = λ ts. first ≡ at_tokens first ts in subst P e refl;
     done = nil;
     out = sym (followed_nil (statements_of o));
-    goes = bind_ok (read_more_parameters line k xs) (λ q. (q.0, q.1)) (λ q. refl);
+    goes = bind_ok (read_more_parameters integers line k xs) (λ q. (q.0, q.1)) (λ q. refl);
   }
 
   -- the next one
@@ -71,10 +72,10 @@ module _ (line : ℕ → ℕ) (n : ℕ) where
     -- what was read
     pub done : Statements
     -- it stands in the core behind what was there
-    pub out : statements_of o ≡ core.followed_by (statements_of o₀) (core_in n done)
+    pub out : statements_of o ≡ core.followed_by (statements_of o₀) (core_in integers n done)
     -- all is what was read and then what is to come
-    pub goes : read_more_parameters line k₀ xs
-        ≡ (read_parameter line k x at >>= λ r. read_more_parameters line r.0 zs >>= λ q. Ok (
+    pub goes : read_more_parameters integers line k₀ xs
+        ≡ (read_parameter integers line k x at >>= λ r. read_more_parameters integers line r.0 zs >>= λ q. Ok (
           q.0,
           followed_by done
               (followed_by r.1 q.1),
@@ -86,7 +87,7 @@ module _ (line : ℕ → ℕ) (n : ℕ) where
       → Next xs (token right_paren b ∷ w) first now k₀ k o₀ o
   next_left xs b w first now k₀ k o₀ o l c = on l.ys l.reader l.goes where
     on : (ys : MoreParameters) → now ≡ at_tokens first (onto_more_parameters ys (token right_paren b ∷ w))
-        → read_more_parameters line k₀ xs ≡ (read_more_parameters line k ys >>= λ q. Ok (q.0, followed_by l.done q.1))
+        → read_more_parameters integers line k₀ xs ≡ (read_more_parameters integers line k ys >>= λ q. Ok (q.0, followed_by l.done q.1))
         → Next xs (token right_paren b ∷ w) first now k₀ k o₀ o
     on last_parameter e q =
         let i : start_in (first_kind now.ahead) ≡ start_in right_paren = ap (λ (r : Reading). start_in (first_kind r.ahead)) e in
@@ -98,21 +99,22 @@ module _ (line : ℕ → ℕ) (n : ℕ) where
       reader = ap (λ r. passed (passed r)) e;
       done = l.done;
       out = l.out;
-      goes = q ∙ bind_assoc (read_parameter line k x at)
-          (λ r. read_more_parameters line r.0 zs >>= λ q. Ok (q.0, followed_by r.1 q.1)) (λ q. Ok (q.0, followed_by l.done q.1))
-          ∙ bind_same (read_parameter line k x at)
-          (λ r. (read_more_parameters line r.0 zs >>= λ q. Ok (q.0, followed_by r.1 q.1)) >>= λ q. Ok (q.0, followed_by l.done q.1))
-          (λ r. read_more_parameters line r.0 zs >>= λ q. Ok (q.0, followed_by l.done (followed_by r.1 q.1)))
-          (λ r. bind_assoc (read_more_parameters line r.0 zs) (λ q. Ok (q.0, followed_by r.1 q.1)) (λ q. Ok
+      goes = q ∙ bind_assoc (read_parameter integers line k x at)
+          (λ r. read_more_parameters integers line r.0 zs >>= λ q. Ok (q.0, followed_by r.1 q.1)) (λ q. Ok (q.0, followed_by l.done q.1))
+          ∙ bind_same (read_parameter integers line k x at)
+          (λ r. (read_more_parameters integers line r.0 zs >>= λ q. Ok (q.0, followed_by r.1 q.1)) >>= λ q. Ok
+          (q.0, followed_by l.done q.1))
+          (λ r. read_more_parameters integers line r.0 zs >>= λ q. Ok (q.0, followed_by l.done (followed_by r.1 q.1)))
+          (λ r. bind_assoc (read_more_parameters integers line r.0 zs) (λ q. Ok (q.0, followed_by r.1 q.1)) (λ q. Ok
           (q.0, followed_by l.done q.1)));
     }
 
   -- where it was read the others are left
   pub less_left : (xs : MoreParameters) (rest : List Token) (first now new : Reading) (k₀ k k' : State) (o₀ o o' : List Stmt)
       (u : Unit {0}) (x : Next xs rest first now k₀ k o₀ o)
-      → Answers (λ _ r. WasRead n (onto_more_parameters x.zs rest) (at_tokens first (token (a_name x.x) x.at ∷
+      → Answers (λ _ r. WasRead integers n (onto_more_parameters x.zs rest) (at_tokens first (token (a_name x.x) x.at ∷
       onto_more_parameters x.zs rest))
-      new k' o o' r) (Ok u) (read_parameter line k x.x x.at)
+      new k' o o' r) (Ok u) (read_parameter integers line k x.x x.at)
       → Left xs rest first new k₀ k' o₀ o'
   less_left xs rest first now new k₀ k k' o₀ o o' u x a =
       let r = a.0 in
@@ -121,38 +123,43 @@ module _ (line : ℕ → ℕ) (n : ℕ) where
         ys = x.zs;
         reader = w.reader;
         done = followed_by x.done r.1;
-        out = w.out ∙ ap (λ s. core.followed_by s (core_in n r.1)) x.out
-            ∙ followed_assoc (statements_of o₀) (core_in n x.done) (core_in n r.1)
-            ∙ sym (ap (core.followed_by (statements_of o₀)) (core_followed n x.done r.1));
+        out = w.out ∙ ap (λ s. core.followed_by s (core_in integers n r.1)) x.out
+            ∙ followed_assoc (statements_of o₀) (core_in integers n x.done) (core_in integers n r.1)
+            ∙ sym (ap (core.followed_by (statements_of o₀)) (core_followed integers n x.done r.1));
         goes = x.goes
-            ∙ ap (λ v. v >>= λ r. read_more_parameters line r.0 x.zs >>= λ q. Ok (q.0, followed_by x.done (followed_by r.1 q.1))) a.1
-            ∙ bind_same (read_more_parameters line r.0 x.zs) (λ q. Ok (q.0, followed_by x.done (followed_by r.1 q.1)))
+            ∙ ap (λ v. v >>= λ r. read_more_parameters integers line r.0 x.zs >>= λ q. Ok (
+              q.0,
+              followed_by x.done
+                  (followed_by r.1 q.1),
+            )) a.1
+            ∙ bind_same (read_more_parameters integers line r.0 x.zs) (λ q. Ok (q.0, followed_by x.done (followed_by r.1 q.1)))
             (λ q. Ok (q.0, followed_by (followed_by x.done r.1) q.1))
             (λ q. ap (λ s. Ok (q.0, s)) (sym (source_assoc x.done r.1 q.1)))
-            ∙ ap (λ (k : State). read_more_parameters line k x.zs >>= λ q. Ok (q.0, followed_by (followed_by x.done r.1) q.1))
+            ∙ ap (λ (k : State). read_more_parameters integers line k x.zs >>= λ q. Ok (q.0, followed_by (followed_by x.done r.1) q.1))
             (sym w.known);
       }
 
   -- its fault is that of all
   pub fault_left : {A : Type 0} (Is : A → State × Statements → Type 0) (xs : MoreParameters) (rest : List Token)
       (first now new : Reading) (k₀ k k' : State) (o₀ o o' : List Stmt) (s t : Stop) (x : Next xs rest first now k₀ k o₀ o) → t ≡ s
-      → Answers {A = Unit {0}} (λ _ r. WasRead n (onto_more_parameters x.zs rest) (at_tokens first (token (a_name x.x) x.at ∷
+      → Answers {A = Unit {0}} (λ _ r. WasRead integers n (onto_more_parameters x.zs rest) (at_tokens first (token (a_name x.x) x.at ∷
       onto_more_parameters x.zs rest))
-      new k' o o' r) (Err s) (read_parameter line k x.x x.at)
-      → Answers Is (Err t) (read_more_parameters line k₀ xs)
+      new k' o o' r) (Err s) (read_parameter integers line k x.x x.at)
+      → Answers Is (Err t) (read_more_parameters integers line k₀ xs)
   fault_left {A} Is xs rest first now new k₀ k k' o₀ o o' s t x e a =
       let P : Result (State × Statements) FunctionFault → Type 0 = λ v. Answers Is (Err t) v in
-      subst P (sym x.goes) (fault_then {A = Unit {0}} (λ _ r. WasRead n (onto_more_parameters x.zs rest)
-      (at_tokens first (token (a_name x.x) x.at ∷ onto_more_parameters x.zs rest)) new k' o o' r) Is s t (read_parameter line k x.x x.at)
-      (λ r. read_more_parameters line r.0 x.zs >>= λ q. Ok (q.0, followed_by x.done (followed_by r.1 q.1))) e a)
+      subst P (sym x.goes) (fault_then {A = Unit {0}} (λ _ r. WasRead integers n (onto_more_parameters x.zs rest)
+      (at_tokens first (token (a_name x.x) x.at ∷ onto_more_parameters x.zs rest)) new k' o o' r) Is s t
+      (read_parameter integers line k x.x x.at)
+      (λ r. read_more_parameters integers line r.0 x.zs >>= λ q. Ok (q.0, followed_by x.done (followed_by r.1 q.1))) e a)
 
   -- where no comma is all were read
   pub none_left : (xs : MoreParameters) (rest : List Token) (first now : Reading) (k₀ k : State) (o₀ o : List Stmt) (u : Unit {0})
       → Left xs rest first now k₀ k o₀ o → (start_in (first_kind now.ahead) ≡ a_comma → ⊥)
-      → Answers (λ _ r. WasRead n rest first now k o₀ o r) (Ok u) (read_more_parameters line k₀ xs)
+      → Answers (λ _ r. WasRead integers n rest first now k o₀ o r) (Ok u) (read_more_parameters integers line k₀ xs)
   none_left xs rest first now k₀ k o₀ o u l c = on l.ys l.reader l.goes where
     on : (ys : MoreParameters) → now ≡ at_tokens first (onto_more_parameters ys rest)
-        → read_more_parameters line k₀ xs ≡ (read_more_parameters line k ys >>= λ q. Ok (q.0, followed_by l.done q.1))
-        → Answers (λ _ r. WasRead n rest first now k o₀ o r) (Ok u) (read_more_parameters line k₀ xs)
+        → read_more_parameters integers line k₀ xs ≡ (read_more_parameters integers line k ys >>= λ q. Ok (q.0, followed_by l.done q.1))
+        → Answers (λ _ r. WasRead integers n rest first now k o₀ o r) (Ok u) (read_more_parameters integers line k₀ xs)
     on last_parameter e q = ((k, l.done), q ∙ ap (λ s. Ok (k, s)) (source_nil l.done), record { known = refl; out = l.out; reader = e })
     on (next_parameter a d x at zs) e q = absurd (c (ap (λ (r : Reading). start_in (first_kind r.ahead)) e))

@@ -1,7 +1,7 @@
 -- The spelling of statements in the grammar, with other tokens behind it.
 use Rattle.std.proofs.Common.{◌≡◌, ◌∙◌, ◌++◌, List, [], ◌∷◌, refl, ap, append_assoc}
 use Rattle.source_grammar.specs.Tokens.{a_name, left_paren, right_paren, left_brace, right_brace, colon, semicolon, int_word, if_word}
-use Rattle.source_grammar.specs.Tokens.{else_word, while_word, do_word, for_word, return_word, demand_word, void_word, comma, storage_word}
+use Rattle.source_grammar.specs.Tokens.{else_word, while_word, do_word, for_word, return_word, demand_word, comma, storage_word}
 use Rattle.source_grammar.specs.Tokens.{Token, token}
 use Rattle.source_grammar.specs.Grammar.{spell_expr, spell_arguments, Optional, absent, present, spell_optional, ForFirst, declared_first}
 use Rattle.source_grammar.specs.Grammar.{updated_first, spell_first, Core, Sub, Items, empty, block, if_alone, if_else, repeat}

@@ -1,5 +1,5 @@
 -- What is promised of a `do`, from what was read at each step.
-use Rattle.std.proofs.Common.{◌≡◌, ◌∙◌, ◌+◌, ◌++◌, ◌∷◌, [], ℕ, Bool, true, List, Result, Ok, Err, length, ap, subst}
+use Rattle.std.proofs.Common.{◌≡◌, ◌∙◌, ◌++◌, ◌∷◌, [], ℕ, Bool, true, List, Result, Ok, Err, length, ap, subst}
 use Rattle.std.specs.Result.{IsErrAnd}
 use Rattle.lang_tokens.specs.Lines.{line_at}
 use Rattle.lang_tree.specs.Tree as tree
@@ -32,7 +32,8 @@ module _ (old here mid : Reading) (k now met : State) (at : ℕ) (m : at ≡ fir
   -- that it is this statement
   abbrev Is : (new : Reading) → List Token → State → (before after : List Stmt) → Result (Unit {0}) Stop → Bool → Core → Type 0
   Is new rest met o v r inside c =
-      Answers (λ _ q. WasRead old.variables rest old new met o v q) r (read_core (line_at old.text) old.variables inside k c)
+      Answers (λ _ q. WasRead old.integers old.variables rest old new met o v q) r (read_core old.integers
+      (line_at old.text) old.variables inside k c)
 
   -- what is promised of a `do`
   abbrev pub DoReads : (new : Reading) (met : State) (before after : List Stmt) → Result (Unit {0}) Stop → Type 0
@@ -50,7 +51,8 @@ module _ (old here mid : Reading) (k now met : State) (at : ℕ) (m : at ≡ fir
       → DoReads mid met o o r
   do_body o r x z h inside a s b c e d i rest g q =
       subst (λ a. Is mid rest met o o r inside (repeat_after a s b c e d i)) (m ∙ ap first_place q)
-      (do_body_fault (λ _ q. WasRead old.variables rest old mid met o o q) old here mid k now met inside at s b c e d i rest r x g.0
+      (do_body_fault (λ _ q. WasRead old.integers old.variables rest old mid met o o q) old here mid k now met inside at s b c e d i rest
+      r x g.0
       (behind_do a s b c e d i rest q) y z h)
 
   module _ (behind test : Reading) (u : tree.Statements) (z : BodyReads here mid now met true (Ok u)) (pb : behind ≡ passed mid) where
@@ -59,7 +61,8 @@ module _ (old here mid : Reading) (k now met : State) (at : ℕ) (m : at ≡ fir
         → DoReads test met o o r
     do_test o r x w h inside a s b c e d i rest g q =
         subst (λ a. Is test rest met o o r inside (repeat_after a s b c e d i)) (m ∙ ap first_place q)
-        (do_test_fault (λ _ q. WasRead old.variables rest old test met o o q) old here mid behind test k now met inside at s b c e d i
+        (do_test_fault (λ _ q. WasRead old.integers old.variables rest old test met o o q) old here mid behind test k now met inside at s
+        b c e d i
         rest u
         r x g.0 g.1 (behind_do a s b c e d i rest q) y z pb w h)
 
@@ -68,7 +71,8 @@ module _ (old here mid : Reading) (k now met : State) (at : ℕ) (m : at ≡ fir
         → (first_kind test.ahead ≡ semicolon → ⊥) → DoReads new met o o r
     do_end new o r t w h inside a s b c e d i rest g q =
         subst (λ a. Is new rest met o o r inside (repeat_after a s b c e d i)) (m ∙ ap first_place q)
-        (do_end_fault (λ _ q. WasRead old.variables rest old new met o o q) old here mid behind test k now met inside at s b c e d i
+        (do_end_fault (λ _ q. WasRead old.integers old.variables rest old new met o o q) old here mid behind test k now met inside at s b
+        c e d i
         rest t u
         r g.0 g.1 (behind_do a s b c e d i rest q) y z pb w h)
 
@@ -78,7 +82,8 @@ module _ (old here mid : Reading) (k now met : State) (at : ℕ) (m : at ≡ fir
         → Gives {A = Unit {0}} (λ _. last) (Err x) (counted at size met) → IsErrAnd r (λ t. t ≡ Fault x) → DoReads new last o o r
     do_count new last o r x t size w l j h inside a s b c e d i rest g q =
         subst (λ a. Is new rest last o o r inside (repeat_after a s b c e d i)) (m ∙ ap first_place q)
-        (do_count_fault (λ _ q. WasRead old.variables rest old new last o o q) old here mid behind test k now met last inside at s b c
+        (do_count_fault (λ _ q. WasRead old.integers old.variables rest old new last o o q) old here mid behind test k now met last
+        inside at s b c
         e d i
         rest t u r x g.0 g.1 (behind_do a s b c e d i rest q) y z pb w
         (subst (λ n. Gives {A = Unit {0}} (λ _. last) (Err x) (counted at n met)) l j) h)

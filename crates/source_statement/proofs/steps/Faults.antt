@@ -27,54 +27,63 @@ use Rattle.source_statement.proofs.steps.Moved.{passed_then}
 use Rattle.source_statement.proofs.steps.Tested.{counted_fault}
 use Rattle.source_statement.proofs.steps.Loops.{Tested}
 use Rattle.source_statement.proofs.steps.Repeats.{do_rest, do_then}
+use Rattle.base_integers.specs.declared.integers.Integers.{Integers}
 
 -- the fault of the test of a `while`
 pub while_test_fault : {C : Type 0} (Was : C → State × Statements → Type 0) (old new : Reading) (k : State) (inside : Bool) (a b : ℕ)
     (e : Expr) (c : ℕ) (s : Sub) (rest : List Token) (r : Result C Stop) (d : Stop)
-    → Answers (Tested old new a (onto_sub s rest)) (Err d) (read_condition (line_at old.text) old.variables k a e)
-    → IsErrAnd r (λ t. t ≡ d) → Answers Was r (read_core (line_at old.text) old.variables inside k (repeat a b e c s))
+    → Answers (Tested old new a (onto_sub s rest)) (Err d) (read_condition old.integers (line_at old.text) old.variables k a e)
+    → IsErrAnd r (λ t. t ≡ d) → Answers Was r (read_core old.integers (line_at old.text) old.variables inside k (repeat a b e c s))
 while_test_fault Was old new k inside a b e c s rest r d x h =
+    let integers : Integers = old.integers in
     let line : ℕ → ℕ = line_at old.text in
     let n : ℕ = old.variables in
-    err_then (Tested old new a (onto_sub s rest)) Was r d (read_condition line n k a e)
-    (λ x. counted a (prelude_of line n a x + 1) k >>= λ now. read_sub line n true now s
+    err_then (Tested old new a (onto_sub s rest)) Was r d (read_condition integers line n k a e)
+    (λ x. counted a (prelude_of integers line n a x + 1) k >>= λ now. read_sub integers line n true now s
     >>= λ r. Ok (r.0, one (loop made.while_loop x r.1 (line a)))) h x
 
 -- that of its count
 pub while_count_fault : {C : Type 0} (Was : C → State × Statements → Type 0) (old new : Reading) (k now : State) (inside : Bool) (a b : ℕ)
     (e : Expr) (c : ℕ) (s : Sub) (rest : List Token) (t : Test) (r : Result C Stop) (d : FunctionFault)
-    → Answers (Tested old new a (onto_sub s rest)) (Ok t) (read_condition (line_at old.text) old.variables k a e)
+    → Answers (Tested old new a (onto_sub s rest)) (Ok t) (read_condition old.integers (line_at old.text) old.variables k a e)
     → Gives {A = Unit {0}} (λ _. now) (Err d) (counted a (length t.prelude.items + 1) k)
-    → IsErrAnd r (λ t. t ≡ Fault d) → Answers Was r (read_core (line_at old.text) old.variables inside k (repeat a b e c s))
+    → IsErrAnd r (λ t. t ≡ Fault d) → Answers Was r (read_core old.integers (line_at old.text) old.variables inside k (repeat a b e c s))
 while_count_fault Was old new k now inside a b e c s rest t r d x y h =
+    let integers : Integers = old.integers in
     let line : ℕ → ℕ = line_at old.text in
     let n : ℕ = old.variables in
-    counted_fault line n Was (new ≡ at_tokens old (onto_sub s rest)) a (λ m. m + 1) k now e t r d
-    (λ x now. read_sub line n true now s >>= λ r. Ok (r.0, one (loop made.while_loop x r.1 (line a)))) x y h
+    counted_fault integers line n Was (new ≡ at_tokens old (onto_sub s rest)) a (λ m. m + 1) k now e t r d
+    (λ x now. read_sub integers line n true now s >>= λ r. Ok (r.0, one (loop made.while_loop x r.1 (line a)))) x y h
 
 -- the fault of the test of an `if`
 pub if_test_fault : {C : Type 0} (Was : C → State × Statements → Type 0) (old new : Reading) (k : State) (inside : Bool) (a : ℕ)
     (e : Expr) (s : Sub) (o : Other) (rest : List Token) (r : Result C Stop) (d : Stop)
-    → Answers (Tested old new a rest) (Err d) (read_condition (line_at old.text) old.variables k a e)
-    → IsErrAnd r (λ t. t ≡ d) → Answers Was r (read_branch (line_at old.text) old.variables inside k a e s o)
+    → Answers (Tested old new a rest) (Err d) (read_condition old.integers (line_at old.text) old.variables k a e)
+    → IsErrAnd r (λ t. t ≡ d) → Answers Was r (read_branch old.integers (line_at old.text) old.variables inside k a e s o)
 if_test_fault Was old new k inside a e s o rest r d x h =
+    let integers : Integers = old.integers in
     let line : ℕ → ℕ = line_at old.text in
     let n : ℕ = old.variables in
-    err_then (Tested old new a rest) Was r d (read_condition line n k a e)
-    (λ x. counted a (prelude_of line n a x + 1) k >>= λ now. read_sub line n inside now s
-    >>= λ r. read_other line n inside r.0 o >>= λ q. Ok (q.0, one (branch x r.1 q.1 (line a)))) h x
+    err_then (Tested old new a rest) Was r d (read_condition integers line n k a e)
+    (λ x. counted a (prelude_of integers line n a x + 1) k >>= λ now. read_sub integers line n inside now s
+    >>= λ r. read_other integers line n inside r.0 o >>= λ q. Ok (q.0, one (branch x r.1 q.1 (line a)))) h x
 
 -- that of its count
 pub if_count_fault : {C : Type 0} (Was : C → State × Statements → Type 0) (old new : Reading) (k now : State) (inside : Bool) (a : ℕ)
     (e : Expr) (s : Sub) (o : Other) (rest : List Token) (t : Test) (r : Result C Stop) (d : FunctionFault)
-    → Answers (Tested old new a rest) (Ok t) (read_condition (line_at old.text) old.variables k a e)
+    → Answers (Tested old new a rest) (Ok t) (read_condition old.integers (line_at old.text) old.variables k a e)
     → Gives {A = Unit {0}} (λ _. now) (Err d) (counted a (length t.prelude.items + 1) k)
-    → IsErrAnd r (λ t. t ≡ Fault d) → Answers Was r (read_branch (line_at old.text) old.variables inside k a e s o)
+    → IsErrAnd r (λ t. t ≡ Fault d) → Answers Was r (read_branch old.integers (line_at old.text) old.variables inside k a e s o)
 if_count_fault Was old new k now inside a e s o rest t r d x y h =
+    let integers : Integers = old.integers in
     let line : ℕ → ℕ = line_at old.text in
     let n : ℕ = old.variables in
-    counted_fault line n Was (new ≡ at_tokens old rest) a (λ m. m + 1) k now e t r d
-    (λ x now. read_sub line n inside now s >>= λ r. read_other line n inside r.0 o >>= λ q. Ok (q.0, one (branch x r.1 q.1 (line a))))
+    counted_fault integers line n Was (new ≡ at_tokens old rest) a (λ m. m + 1) k now e t r d
+    (λ x now. read_sub integers line n inside now s >>= λ r. read_other integers line n inside r.0 o >>= λ q. Ok (
+      q.0,
+      one
+          (branch x r.1 q.1 (line a)),
+    ))
     x y h
 
 -- ---- of a `do`
@@ -85,16 +94,17 @@ pub do_test_fault : {C : Type 0} (Was : C → State × Statements → Type 0) (o
     → GoodSub s → Groups 0 e → here ≡ at_tokens old (onto_sub s (do_rest b c e d i rest))
     → Gives {A = Unit {0}} (λ _. now) (Ok tt) (counted a 1 k) → BodyReads here mid now met true (Ok u)
     → behind ≡ passed mid → TestReads behind new met a (Err x) → IsErrAnd r (λ t. t ≡ x)
-    → Answers Was r (read_core (line_at old.text) old.variables inside k (repeat_after a s b c e d i))
+    → Answers Was r (read_core old.integers (line_at old.text) old.variables inside k (repeat_after a s b c e d i))
 do_test_fault Was old here mid behind new k now met inside a s b c e d i rest u r x g ge ph y z pb zt h =
+    let integers : Integers = old.integers in
     let line : ℕ → ℕ = line_at old.text in
     let n : ℕ = old.variables in
     let ts : List Token = token semicolon i ∷ rest in
     do_then Was old here mid k now met inside a s b c e d i rest u r g ph y z
     (λ body w p. let q : behind ≡ at_tokens old (token left_paren c ∷ (spell_expr e ++ token right_paren d ∷ ts)) =
     passed_then old mid behind while_word b (token left_paren c ∷ (spell_expr e ++ token right_paren d ∷ ts)) p pb in
-    err_then (Tested old new a ts) Was r x (read_condition line n met a e)
-    (λ x. counted a (prelude_of line n a x) met >>= λ now. Ok (now, one (loop made.do_loop x body (line a)))) h
+    err_then (Tested old new a ts) Was r x (read_condition integers line n met a e)
+    (λ x. counted a (prelude_of integers line n a x) met >>= λ now. Ok (now, one (loop made.do_loop x body (line a)))) h
     (test_read old behind new met a (Err x) c e d ts ge q zt))
 
 -- a `;` comes behind it
@@ -104,7 +114,7 @@ pub do_end_fault : {C : Type 0} (Was : C → State × Statements → Type 0) (ol
     → GoodSub s → Groups 0 e → here ≡ at_tokens old (onto_sub s (do_rest b c e d i rest))
     → Gives {A = Unit {0}} (λ _. now) (Ok tt) (counted a 1 k) → BodyReads here mid now met true (Ok u)
     → behind ≡ passed mid → TestReads behind new met a (Ok t) → (first_kind new.ahead ≡ semicolon → ⊥)
-    → Answers Was r (read_core (line_at old.text) old.variables inside k (repeat_after a s b c e d i))
+    → Answers Was r (read_core old.integers (line_at old.text) old.variables inside k (repeat_after a s b c e d i))
 do_end_fault Was old here mid behind new k now met inside a s b c e d i rest t u r g ge ph y z pb zt h =
     let ts : List Token = token semicolon i ∷ rest in
     do_then Was old here mid k now met inside a s b c e d i rest u r g ph y z
@@ -121,13 +131,14 @@ pub do_count_fault : {C : Type 0} (Was : C → State × Statements → Type 0) (
     → Gives {A = Unit {0}} (λ _. now) (Ok tt) (counted a 1 k) → BodyReads here mid now met true (Ok u)
     → behind ≡ passed mid → TestReads behind new met a (Ok t)
     → Gives {A = Unit {0}} (λ _. last) (Err x) (counted a (length t.prelude.items) met) → IsErrAnd r (λ t. t ≡ Fault x)
-    → Answers Was r (read_core (line_at old.text) old.variables inside k (repeat_after a s b c e d i))
+    → Answers Was r (read_core old.integers (line_at old.text) old.variables inside k (repeat_after a s b c e d i))
 do_count_fault Was old here mid behind new k now met last inside a s b c e d i rest t u r x g ge ph y z pb zt y' h =
+    let integers : Integers = old.integers in
     let line : ℕ → ℕ = line_at old.text in
     let n : ℕ = old.variables in
     let ts : List Token = token semicolon i ∷ rest in
     do_then Was old here mid k now met inside a s b c e d i rest u r g ph y z
     (λ body w p. let q : behind ≡ at_tokens old (token left_paren c ∷ (spell_expr e ++ token right_paren d ∷ ts)) =
     passed_then old mid behind while_word b (token left_paren c ∷ (spell_expr e ++ token right_paren d ∷ ts)) p pb in
-    counted_fault line n Was (new ≡ at_tokens old ts) a (λ m. m) met last e t r x
+    counted_fault integers line n Was (new ≡ at_tokens old ts) a (λ m. m) met last e t r x
     (λ x now. Ok (now, one (loop made.do_loop x body (line a)))) (test_read old behind new met a (Ok t) c e d ts ge q zt) y' h)

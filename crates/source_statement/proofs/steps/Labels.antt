@@ -30,6 +30,7 @@ use Rattle.source_statement.specs.Starts as s
 use Rattle.source_statement.specs.Parts.{read_label}
 use Rattle.source_statement.proofs.steps.Begun.{no_colon}
 use Rattle.source_statement.proofs.steps.Moved.{SubReads, sub_read}
+use Rattle.base_integers.specs.declared.integers.Integers.{Integers}
 
 -- the answer of a thing that is
 pub answered : {A B : Type 0} (Is : A → B → Type 0) (x : A) (y : B) → Answers Is (Ok x) (Ok y) → Is x y
@@ -66,47 +67,50 @@ no_name Was old new r d w b h e =
 -- a label is read here, behind its name
 abbrev pub LabelReads : (here new : Reading) (k met : State) → Named → (before after : List Stmt) → Result (Unit {0}) Stop → Type 0
 LabelReads here new k met first o p r = (b : ℕ) (rest : List Token) → here.ahead ≡ token colon b ∷ rest
-    → Answers (λ _ q. WasRead here.variables rest here new met o p q) r
-    (read_label (line_at here.text) here.variables k first.name first.at)
+    → Answers (λ _ q. WasRead here.integers here.variables rest here new met o p q) r
+    (read_label here.integers (line_at here.text) here.variables k first.name first.at)
 
 -- it is read with its name
 pub label_read : (old here new : Reading) (k met : State) (first : Named) (o p : List Stmt) (r : Result (Unit {0}) Stop)
     (x : List ℕ) (a b : ℕ) (rest : List Token) → old.ahead ≡ token (a_name x) a ∷ token colon b ∷ rest
     → TakesName old here (Ok first) → LabelReads here new k met first o p r
-    → Answers (λ _ q. WasRead old.variables rest old new met o p q) r (read_label (line_at old.text) old.variables k x a)
+    → Answers (λ _ q. WasRead old.integers old.variables rest old new met o p q) r (read_label old.integers
+    (line_at old.text) old.variables k x a)
 label_read old here new k met first o p r x a b rest e t h =
     let ts : List Token = token colon b ∷ rest in
     let n = name_is old here first x a ts e t in
     let P : Reading → Type 0 = λ m. LabelReads m new k met first o p r in
-    let X : List ℕ → Type 0 = λ y. Answers (λ _ q. WasRead old.variables rest (at_tokens old ts) new met o p q) r
-    (read_label (line_at old.text) old.variables k y first.at) in
-    let Y : ℕ → Type 0 = λ m. Answers (λ _ q. WasRead old.variables rest (at_tokens old ts) new met o p q) r
-    (read_label (line_at old.text) old.variables k x m) in
-    weaker (λ _ q. WasRead old.variables rest (at_tokens old ts) new met o p q) (λ _ q. WasRead old.variables rest old new met o p q) r
-    (read_label (line_at old.text) old.variables k x a)
+    let X : List ℕ → Type 0 = λ y. Answers (λ _ q. WasRead old.integers old.variables rest (at_tokens old ts) new met o p q) r
+    (read_label old.integers (line_at old.text) old.variables k y first.at) in
+    let Y : ℕ → Type 0 = λ m. Answers (λ _ q. WasRead old.integers old.variables rest (at_tokens old ts) new met o p q) r
+    (read_label old.integers (line_at old.text) old.variables k x m) in
+    weaker (λ _ q. WasRead old.integers old.variables rest (at_tokens old ts) new met o p q)
+    (λ _ q. WasRead old.integers old.variables rest old new met o p q) r
+    (read_label old.integers (line_at old.text) old.variables k x a)
     (λ _ q w. record { known = w.known; out = w.out; reader = w.reader })
     (subst Y n.1 (subst X n.0 (subst P n.2 h b rest refl)))
 
 -- a statement with a label is the label and then the statement
-pub labelled_parts : (line : ℕ → ℕ) (n : ℕ) (inside : Bool) (k : State) (x : List ℕ) (a b : ℕ) (s : Sub)
-    → (read_label line n k x a >>= λ r. read_sub line n inside r.0 s >>= λ q. Ok (q.0, followed_by r.1 q.1))
-    ≡ read_sub line n inside k (labelled x a b s)
-labelled_parts line n inside k x a b s = bind_assoc (new_label x a k) (λ now. Ok (now, one (label x (line a))))
-    (λ r. read_sub line n inside r.0 s >>= λ q. Ok (q.0, followed_by r.1 q.1))
+pub labelled_parts : (integers : Integers) (line : ℕ → ℕ) (n : ℕ) (inside : Bool) (k : State) (x : List ℕ) (a b : ℕ) (s : Sub)
+    → (read_label integers line n k x a >>= λ r. read_sub integers line n inside r.0 s >>= λ q. Ok (q.0, followed_by r.1 q.1))
+    ≡ read_sub integers line n inside k (labelled x a b s)
+labelled_parts integers line n inside k x a b s = bind_assoc (new_label x a k) (λ now. Ok (now, one (label x (line a))))
+    (λ r. read_sub integers line n inside r.0 s >>= λ q. Ok (q.0, followed_by r.1 q.1))
 
 -- the fault of a label
 pub label_fault : {C : Type 0} (Was : C → State × Statements → Type 0) (old here new : Reading) (k met : State) (inside : Bool)
     (first : Named) (o p : List Stmt) (r : Result C Stop) (d : Stop) (x : List ℕ) (a b : ℕ) (s : Sub) (rest : List Token)
     → old.ahead ≡ token (a_name x) a ∷ token colon b ∷ rest
     → TakesName old here (Ok first) → LabelReads here new k met first o p (Err d) → IsErrAnd r (λ t. t ≡ d)
-    → Answers Was r (read_sub (line_at old.text) old.variables inside k (labelled x a b s))
+    → Answers Was r (read_sub old.integers (line_at old.text) old.variables inside k (labelled x a b s))
 label_fault Was old here new k met inside first o p r d x a b s rest e t h g =
+    let integers : Integers = old.integers in
     let line : ℕ → ℕ = line_at old.text in
     let n : ℕ = old.variables in
     let P : Result (State × Statements) FunctionFault → Type 0 = λ w. Answers Was r w in
-    subst P (labelled_parts line n inside k x a b s)
-    (err_then {A = Unit {0}} (λ _ q. WasRead n rest old new met o p q) Was r d (read_label line n k x a)
-    (λ r. read_sub line n inside r.0 s >>= λ q. Ok (q.0, followed_by r.1 q.1)) g
+    subst P (labelled_parts integers line n inside k x a b s)
+    (err_then {A = Unit {0}} (λ _ q. WasRead integers n rest old new met o p q) Was r d (read_label integers line n k x a)
+    (λ r. read_sub integers line n inside r.0 s >>= λ q. Ok (q.0, followed_by r.1 q.1)) g
     (label_read old here new k met first o p (Err d) x a b rest e t h))
 
 -- a label and a statement
@@ -114,24 +118,28 @@ pub labelled_read : (old here mid new : Reading) (k met last : State) (inside : 
     (first : Named) (o p v : List Stmt) (r : Result (Unit {0}) Stop) (x : List ℕ) (a b : ℕ) (s : Sub) (rest : List Token)
     → GoodSub s → AfterCore (ending_sub s) (first_kind rest) → old.ahead ≡ token (a_name x) a ∷ token colon b ∷ onto_sub s rest
     → TakesName old here (Ok first) → LabelReads here mid k met first o p (Ok tt) → SubReads mid new met last inside p v r
-    → Answers (λ _ q. WasRead old.variables rest old new last o v q) r
-    (read_sub (line_at old.text) old.variables inside k (labelled x a b s))
+    → Answers (λ _ q. WasRead old.integers old.variables rest old new last o v q) r
+    (read_sub old.integers (line_at old.text) old.variables inside k (labelled x a b s))
 labelled_read old here mid new k met last inside first o p v r x a b s rest g f e t h z =
+    let integers : Integers = old.integers in
     let line : ℕ → ℕ = line_at old.text in
     let n : ℕ = old.variables in
-    let P : Result (State × Statements) FunctionFault → Type 0 = λ w. Answers (λ _ q. WasRead n rest old new last o v q) r w in
-    subst P (labelled_parts line n inside k x a b s)
-    (ok_then {A = Unit {0}} (λ _ q. WasRead n (onto_sub s rest) old mid met o p q) (λ _ q. WasRead n rest old new last o v q) tt r
-    (read_label line n k x a) (λ r. read_sub line n inside r.0 s >>= λ q. Ok (q.0, followed_by r.1 q.1))
+    let P : Result (State × Statements) FunctionFault → Type 0 = λ w. Answers (λ _ q. WasRead integers n rest old new last o v q) r w in
+    subst P (labelled_parts integers line n inside k x a b s)
+    (ok_then {A = Unit {0}} (λ _ q. WasRead integers n (onto_sub s rest) old mid met o p q)
+    (λ _ q. WasRead integers n rest old new last o v q) tt r
+    (read_label integers line n k x a) (λ r. read_sub integers line n inside r.0 s >>= λ q. Ok (q.0, followed_by r.1 q.1))
     (label_read old here mid k met first o p (Ok tt) x a b (onto_sub s rest) e t h)
-    (λ y w. let Q : State → Type 0 = λ m. Answers (λ _ q. WasRead n rest old new last p v q) r (read_sub line n inside m s) in
-    answers_so (λ _ q. WasRead n rest old new last p v q) (λ _ q. WasRead n rest old new last o v q) r (read_sub line n inside y.0 s)
-    (read_sub line n inside y.0 s >>= λ q. Ok (q.0, followed_by y.1 q.1)) (λ q. (q.0, followed_by y.1 q.1)) refl
+    (λ y w. let Q : State → Type 0 = λ m. Answers (λ _ q. WasRead integers n rest old new last p v q) r
+    (read_sub integers line n inside m s) in
+    answers_so (λ _ q. WasRead integers n rest old new last p v q) (λ _ q. WasRead integers n rest old new last o v q) r
+    (read_sub integers line n inside y.0 s)
+    (read_sub integers line n inside y.0 s >>= λ q. Ok (q.0, followed_by y.1 q.1)) (λ q. (q.0, followed_by y.1 q.1)) refl
     (λ u q s. record {
       known = s.known;
-      out = s.out ∙ ap (λ t. core.followed_by t (core_in n q.1)) w.out
-          ∙ followed_assoc (statements_of o) (core_in n y.1) (core_in n q.1)
-          ∙ sym (ap (core.followed_by (statements_of o)) (core_followed n y.1 q.1));
+      out = s.out ∙ ap (λ t. core.followed_by t (core_in integers n q.1)) w.out
+          ∙ followed_assoc (statements_of o) (core_in integers n y.1) (core_in integers n q.1)
+          ∙ sym (ap (core.followed_by (statements_of o)) (core_followed integers n y.1 q.1));
       reader = s.reader;
     })
     (subst Q w.known (sub_read old mid new met last inside p v r s rest g w.reader f z))))
@@ -159,20 +167,23 @@ on_ok (Err e) f p = p
 abbrev pub NamedReads : (here new : Reading) (k met : State) → Named → (before after : List Stmt) → Result (Unit {0}) Stop → Type 0
 NamedReads here new k met first o p r = (inside : Bool) (c : Core) (rest : List Token) → GoodCore c
     → token (a_name first.name) first.at ∷ here.ahead ≡ onto_core c rest
-    → Answers (λ _ q. WasRead here.variables rest here new met o p q) r (read_core (line_at here.text) here.variables inside k c)
+    → Answers (λ _ q. WasRead here.integers here.variables rest here new met o p q) r (read_core here.integers
+    (line_at here.text) here.variables inside k c)
 
 -- it is read with its name
 pub named_read : (old here new : Reading) (k met : State) (inside : Bool) (first : Named) (o p : List Stmt) (r : Result (Unit {0}) Stop)
     (c : Core) (rest : List Token) → GoodCore c → start_in (first_kind old.ahead) ≡ s.a_name → old.ahead ≡ onto_core c rest
     → TakesName old here (Ok first) → NamedReads here new k met first o p r
-    → Answers (λ _ q. WasRead old.variables rest old new met o p q) r (read_core (line_at old.text) old.variables inside k c)
+    → Answers (λ _ q. WasRead old.integers old.variables rest old new met o p q) r (read_core old.integers
+    (line_at old.text) old.variables inside k c)
 named_read old here new k met inside first o p r c rest g b e t h =
     let v = named_tokens old.ahead b in
     let n = name_is old here first v.0 v.1 v.2 v.3 t in
     let P : Reading → Type 0 = λ m. NamedReads m new k met first o p r in
     let q : token (a_name first.name) first.at ∷ v.2 ≡ onto_core c rest =
     ap (λ x. token (a_name x) first.at ∷ v.2) n.0 ∙ ap (λ a. token (a_name v.0) a ∷ v.2) n.1 ∙ sym v.3 ∙ e in
-    weaker (λ _ q. WasRead old.variables rest (at_tokens old v.2) new met o p q) (λ _ q. WasRead old.variables rest old new met o p q) r
-    (read_core (line_at old.text) old.variables inside k c)
+    weaker (λ _ q. WasRead old.integers old.variables rest (at_tokens old v.2) new met o p q)
+    (λ _ q. WasRead old.integers old.variables rest old new met o p q) r
+    (read_core old.integers (line_at old.text) old.variables inside k c)
     (λ _ q w. record { known = w.known; out = w.out; reader = w.reader })
     (subst P n.2 h inside c rest g q)

@@ -33,15 +33,16 @@ use Rattle.source_statement.proofs.steps.Loops.{Tested}
 use Rattle.source_statement.proofs.steps.Loops.{while_fault, while_read, first_fault, second_fault, branch_read}
 use Rattle.source_statement.proofs.steps.Moved.{passed_is}
 use Rattle.source_statement.proofs.steps.Faults.{while_test_fault, while_count_fault, if_test_fault, if_count_fault}
+use Rattle.base_integers.specs.declared.integers.Integers.{Integers}
 
 module _ (old here test : Reading) (k : State) (at : ℕ) (m : at ≡ first_place old.ahead) (p : here ≡ passed old) where
   -- what was read
   abbrev Was : (new : Reading) → List Token → State → (before after : List Stmt) → Unit {0} → State × Statements → Type 0
-  Was new rest met o v u q = WasRead old.variables rest old new met o v q
+  Was new rest met o v u q = WasRead old.integers old.variables rest old new met o v q
 
   -- that it is this statement
   abbrev Is : (new : Reading) → List Token → State → (before after : List Stmt) → Result (Unit {0}) Stop → Bool → Core → Type 0
-  Is new rest met o v r inside c = Answers (Was new rest met o v) r (read_core (line_at old.text) old.variables inside k c)
+  Is new rest met o v r inside c = Answers (Was new rest met o v) r (read_core old.integers (line_at old.text) old.variables inside k c)
 
   -- what is promised of a `while`
   abbrev pub WhileReads : (new : Reading) (met : State) (before after : List Stmt) → Result (Unit {0}) Stop → Type 0
@@ -103,7 +104,7 @@ module _ (old here test : Reading) (k : State) (at : ℕ) (m : at ≡ first_plac
   abbrev IsBranch : (new : Reading) → List Token → State → (before after : List Stmt) → Result (Unit {0}) Stop → Bool → ℕ → Expr → Sub
       → Other → Type 0
   IsBranch new rest met o v r inside a e s w =
-      Answers (Was new rest met o v) r (read_branch (line_at old.text) old.variables inside k a e s w)
+      Answers (Was new rest met o v) r (read_branch old.integers (line_at old.text) old.variables inside k a e s w)
 
   -- what is promised of an `if`
   abbrev pub BranchReads : (new : Reading) (met : State) (inside : Bool) (before after : List Stmt) → Result (Unit {0}) Stop → Type 0
@@ -115,7 +116,7 @@ module _ (old here test : Reading) (k : State) (at : ℕ) (m : at ≡ first_plac
   -- its test is read behind the word
   test_behind : (r : Result Test Stop) (a b : ℕ) (e : Expr) (c : ℕ) (ts : List Token) → Groups 0 e
       → old.ahead ≡ token if_word a ∷ token left_paren b ∷ (spell_expr e ++ token right_paren c ∷ ts) → TestReads here test k at r
-      → Answers (Tested old test at ts) r (read_condition (line_at old.text) old.variables k at e)
+      → Answers (Tested old test at ts) r (read_condition old.integers (line_at old.text) old.variables k at e)
   test_behind r a b e c ts g q x = test_read old here test k at r b e c ts g
       (passed_is old here if_word a (token left_paren b ∷ (spell_expr e ++ token right_paren c ∷ ts)) q p) x
 
@@ -159,8 +160,9 @@ module _ (old here test : Reading) (k : State) (at : ℕ) (m : at ≡ first_plac
   pub if_all : (mid new : Reading) (now met last : State) (inside : Bool) (t : Test) (size : ℕ) (u u' : tree.Statements) (o v : List Stmt)
       (line : ℕ) → TestReads here test k at (Ok t) → size ≡ length t.prelude.items → Counts now size (Ok tt)
       → BodyReads test mid now met inside (Ok u) → OtherReads mid new met last inside (Ok u')
-      → ((n : ℕ) (e : Expression) (yes no : Statements) → IsTest t (condition_of n line e) → u ≡ core_in n yes → u' ≡ core_in n no
-      → WasPushed n o v (one (branch e yes no line)))
+      → ((integers : Integers) (n : ℕ) (e : Expression) (yes no : Statements) → IsTest t (condition_of integers n line e)
+      → u ≡ core_in integers n yes → u' ≡ core_in integers n no
+      → WasPushed integers n o v (one (branch e yes no line)))
       → line ≡ line_at new.text at → BranchReads new last inside o v (Ok tt)
   if_all mid new now met last inside t size u u' o v line x l y z z' push j a b e c s w rest ge g i q f =
       subst (λ a. IsBranch new rest last o v (Ok tt) inside a e s w) (m ∙ ap first_place q)

@@ -119,3 +119,61 @@ const CERTIFIED: &[(&str, &[u8], &[u8])] = &[
 fn certificates_are_accepted(rt: HostRuntime) {
     assert_eq!(rt; first_wrong(rt.alloc(), CERTIFIED), None);
 }
+
+// The lines that ask for a certificate and for its check, a program, and how the check ends.
+impl Case for (&str, &str, &[u8], Ending<'_>) {
+    fn is_right(&self, alloc: Global) -> bool {
+        match run_line(alloc, self.0, self.2, b"") {
+            Ok(made) => { made.code == 0 && ends(alloc, self.1, self.2, made.out.bytes(), self.3) }
+            Err(_) => false,
+        }
+    }
+}
+
+// Any of the integers.
+const ANY: &[u8] = b"int any(int a) { return a; }";
+
+const BY_8_BITS: Ending = Ending::Report(
+    b"variables a\
+        \npoint 0: entry\n  a <= +inf\n  -a <= +inf\
+        \npoint 1: exit\n  a <= 127\n  -a <= 128\ncertificate: accepted\n",
+);
+
+// Its value takes any of more integers than the certificate's bounds allow.
+const HIGHER: Ending = Ending::Refused(1, b"certificate refused: upper, point 1, row 0, edge 0\n");
+
+// A program without any values is the same by all integers; its operations are within them, or not.
+const UP_TO_200: &[u8] = b"int main() { int x = 0; while (x < 200) x = x + 1; }";
+
+const AT_200: Ending = Ending::End(
+    b"point 2: exit\n  x <= 200\n  -x <= -200\ncertificate: accepted\n",
+);
+
+const BY_INTEGERS: &[(&str, &str, &[u8], Ending)] = &[
+    ("certify p --int 8", "check p f --int 8", ANY, BY_8_BITS),
+    ("certify p --int 8", "check p f --int 16", ANY, HIGHER),
+    ("certify p --int 32", "check p f", ANY, HIGHER),
+    // The value to which it is traced is none of these.
+    (
+        "certify p --int 16",
+        "check p f --int 8",
+        ANY,
+        Ending::Refused(1, b"certificate refused: trace, step 0, item 0\n"),
+    ),
+    // Nor does it grow without end.
+    (
+        "certify p",
+        "check p f --int 32",
+        ANY,
+        Ending::Refused(1, b"certificate refused: ray, step 0, item 0\n"),
+    ),
+    ("certify p --int 8", "check p f --int 8", UP_TO_200, AT_200),
+    ("certify p --int 8", "check p f --int 32", UP_TO_200, AT_200),
+    ("certify p --int 16", "check p f", UP_TO_200, AT_200),
+    ("certify p", "check p f --int 8", UP_TO_200, AT_200),
+];
+
+#[test]
+fn certificates_are_checked_by_their_integers(rt: HostRuntime) {
+    assert_eq!(rt; first_wrong(rt.alloc(), BY_INTEGERS), None);
+}

@@ -52,6 +52,16 @@ const JUDGED: &[(&str, &[u8], &[u8], Ending)] = &[
         b"end: x == y;",
         Ending::Report(b"claim 0 end: proved\nproved 1 of 1\nimprovements: 2\n"),
     ),
+    // By machine integers a parameter, and what a call gives, has a range.
+    (
+        "prove p f --int 8",
+        b"int f(int a) { int b = nondet(); end: return a; }",
+        b"end: a <= 127 && -128 <= b; end: a <= 126; end: b >= -127;",
+        Ending::Report(
+            b"claim 0 end: proved\nclaim 1 end: open at a = 127, b = 0\
+                \nclaim 2 end: open at a = 0, b = -128\nproved 1 of 3\nimprovements: 2\n",
+        ),
+    ),
     (
         "prove p f",
         COUNT,

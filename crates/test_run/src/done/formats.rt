@@ -23,11 +23,22 @@ const OPEN_JSON: &[u8] = b"{\"checks\":[\
     {\"column\":2,\"kind\":\"assert\",\"line\":2,\"state\":{\"x\":\"2\"},\"verdict\":\"open\"}\
     ],\"improvements\":0,\"proved\":0}\n";
 
+const NEXT: &[u8] = b"int next(int a) { return a + 1; }";
+
+const NEXT_JSON: &[u8] = b"{\"checks\":[\
+    {\"column\":28,\"kind\":\"range\",\"line\":1,\"state\":{\"a\":\"127\"},\"verdict\":\"open\"}\
+    ],\"improvements\":1,\"proved\":0}\n";
+
 // A line of words, the file `p`, and how the run ends.
 const FORMATS: &[(&str, &[u8], Ending)] = &[
     ("solve p --format json", LINE, Ending::Report(LINE_JSON)),
     ("verify p --format json", OPEN, Ending::Open(OPEN_JSON)),
     ("verify --format=sarif p", OPEN, Ending::Open(OPEN_SARIF)),
+    (
+        "verify p --int 8 --format json",
+        NEXT,
+        Ending::Open(NEXT_JSON),
+    ),
     (
         "solve p --format json",
         b"int main() { }",

@@ -107,6 +107,16 @@ const FUNCTIONS: &[(&str, &[u8], Ending)] = &[
                 \npoint 1: exit\n  n <= 9\n  -n <= 0\n  odd <= 1\n  -odd <= 0\nimprovements: 1\n",
         ),
     ),
+    // The same by machine integers: a value that is out of their range has a verdict, and no other bound.
+    (
+        "solve p --int 8",
+        MAGNITUDE,
+        Ending::Report(
+            b"variables x y\
+                \npoint 0: entry\n  x <= +inf\n  -x <= +inf\n  y <= +inf\n  -y <= +inf\
+                \npoint 1: exit\n  x <= 127\n  -x <= 128\n  y <= 128\n  -y <= 0\nimprovements: 1\n",
+        ),
+    ),
     (
         "solve p",
         PAGES,

@@ -12,7 +12,7 @@ pub(crate) const USAGE: &[u8] =
       | equations FILE [--improvements N] [--policy P] | points PROGRAM | verify PROGRAM (the options of solve) \
       | solve, check, transitions, equations, prove, verify: [--format F] \
       | solve, certify, prove, verify, transitions, equations: [--progress] | help [COMMAND] | functions PROGRAM \
-      | solve, certify, check, prove, verify: [--function NAME]\n";
+      | solve, certify, check, prove, verify: [--function NAME] [--int N]\n";
 
 // Lines of words that ask for nothing.
 const NO_REQUESTS: &[&str] = &[

@@ -131,9 +131,20 @@ const OPTIONS: &[(&[&str], u8, &[u8], &[u8])] = &[
     ),
 ];
 
+const BITS: &[(&[&str], u8, &[u8], &[u8])] = &[
+    (&["solve", "p", "--int"], 2, b"", USAGE),
+    (&["verify", "p", "--int", "9"], 2, b"", USAGE),
+    (&["verify", "p", "--int", "-8"], 2, b"", USAGE),
+    (&["solve", "p", "--int", "8", "--int", "8"], 2, b"", USAGE),
+    (&["points", "p", "--int", "8"], 2, b"", USAGE),
+    (&["solve", "p", "--int", "0000000008"], 0, WHOLE, b""),
+    (&["solve", "p", "--int", "00000000008"], 2, b"", USAGE),
+];
+
 #[test]
 fn options_have_one_value_each(rt: HostRuntime) {
     assert_eq!(rt; first_wrong(rt.alloc(), OPTIONS), None);
+    assert_eq!(rt; first_wrong(rt.alloc(), BITS), None);
 }
 
 // A word that stands behind the first one, up to so many words in all.

@@ -32,7 +32,7 @@ use Rattle.top_texts.specs.declared.refusal.Refusal.{Refusal}
 use Rattle.top_texts.specs.declared.refusal.Refusal.TheVariants as refusal
 use Rattle.top_status.specs.declared.status.Excess.TheVariants.{Wide, Large}
 use Rattle.top_texts.proofs.analyse.Systems.{solved_system}
-use Rattle.top_texts.proofs.by_c.InSource.{check_in_source}
+use Rattle.top_texts.proofs.by_c.InSource.{check_in_source, operations_in_source, runs_in_source}
 use Rattle.top_texts.proofs.check_texts.Listed.{all_true, place_of, verdicts_end, verdicts_speak}
 use Rattle.top_texts.proofs.questions.Answered.{halted}
 use Rattle.top_texts.proofs.rounds.OneChain.{solved_rounds}
@@ -124,6 +124,9 @@ module _ (program : Program) (rows : Domain (List ℕ)) (policy : Policy) (limit
                 let at = place_of (checks_in_core is.body) check among in speak.proved at.0 check at.1 (all at.0 check at.1 same));
             all_by_c = λ done about. check_in_source program is.names is.body core about (λ check among same.
                 all_true (length is.names) is.body system vector verdicts speak (ending_of is_open) ends done check among);
+            operations_by_c = λ all. operations_in_source program is.names is.body core (λ check among of.
+                let at = place_of (checks_in_core is.body) check among in speak.proved at.0 check at.1 (all at.0 check at.1 of));
+            runs_by_all = runs_in_source program is.names;
             written = subst₂ (λ ns (cs : List CheckCases). bytes ≡ checks_in format file program.text ns cs verdicts solved.improvements)
                 is.system_for.names_are has.checks_are written;
           }

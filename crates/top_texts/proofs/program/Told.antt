@@ -15,7 +15,7 @@ use Rattle.top_texts.specs.Texts.{HasCore, Program, Reading}
 -- this is told of the tokens of a program before its end
 abbrev pub IsTold : Program → List Token → Result Core SourceFault → Type 0
 IsTold program tokens result = (front : List Token) → front ++ end_at (length program.text) ∷ [] ≡ tokens
-    → (wanted : Answer) × Means program.text program.function front wanted × Gives result wanted
+    → (wanted : Answer) × Means program.integers program.text program.function front wanted × Gives program.integers result wanted
 
 -- the tokens of a program are those before its end, and its end
 front_reads : (program : Program) (tokens : List Token) (is : Reads program.text tokens)
@@ -27,13 +27,14 @@ pub told_core : (program : Program) (tokens : List Token) (core : Core) → Read
     → HasCore program core.names core.body
 told_core program tokens core is told =
     let t = told is.front is.told in
-    let gives : (body : c.Statements) × (t.0 ≡ Ok (core.names, body)) × (core.body ≡ core_in (length core.names) body) = t.2 in
+    let gives : (body : c.Statements) × (t.0 ≡ Ok (core.names, body))
+    × (core.body ≡ core_in program.integers (length core.names) body) = t.2 in
     record {
       statements = gives.0;
       reading = (
         is.front,
         front_reads program tokens is,
-        subst (λ (a : Answer). Means program.text program.function is.front a) gives.1 t.1,
+        subst (λ (a : Answer). Means program.integers program.text program.function is.front a) gives.1 t.1,
       );
       core = gives.2;
     }

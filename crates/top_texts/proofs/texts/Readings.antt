@@ -5,6 +5,7 @@ use Rattle.std.specs.Prelude.{ℤ, Result, Ok, Err}
 use Rattle.lang_tokens.specs.Reading.{end_at}
 use Rattle.lang_tokens.proofs.reading.Once.{one_token_list}
 use Rattle.lang_tree.specs.Tree.{Statements}
+use Rattle.base_integers.specs.declared.integers.Integers.{Integers}
 use Rattle.source_tree.specs.Statements as c
 use Rattle.source_core.specs.Core.{core_in}
 use Rattle.source_file.specs.Meaning.{Answer, Means}
@@ -24,7 +25,8 @@ pub reading_once : (program : Program) (a b : Answer) → Reading program a → 
 reading_once program a b (ts, r, m) (us, s, n) =
     let last = end_at (length program.text) ∷ [] in
     let same : us ≡ ts = append_cancel_right us ts last (one_token_list program.text (us ++ last) (ts ++ last) s r) in
-    means_once program.text program.function ts a b m (subst (λ ws. Means program.text program.function ws b) same n)
+    means_once program.integers program.text program.function ts a b m
+    (subst (λ ws. Means program.integers program.text program.function ws b) same n)
 
 ok_once : (p q : List (List ℕ) × c.Statements) → answered (Ok p) ≡ answered (Ok q) → p ≡ q
 ok_once p q e = cc
@@ -36,8 +38,8 @@ err_ok : (f : SourceFault) (p : List (List ℕ) × c.Statements) → answered (E
 err_ok f p e = cc
 
 -- names, and the core of statements with them
-abbrev core_of : List (List ℕ) × c.Statements → List (List ℕ) × Statements
-core_of p = (p.0, core_in (length p.0) p.1)
+abbrev core_of : Integers → List (List ℕ) × c.Statements → List (List ℕ) × Statements
+core_of integers p = (p.0, core_in integers (length p.0) p.1)
 
 -- a program has one core
 pub program_once : (program : Program) (p q : List (List ℕ) × Statements) → HasCore program p.0 p.1 → HasCore program q.0 q.1 → p ≡ q
@@ -45,15 +47,15 @@ program_once program p q h k =
     let both = ok_once (p.0, h.statements) (q.0, k.statements)
     (reading_once program (Ok (p.0, h.statements)) (Ok (q.0, k.statements)) h.reading k.reading) in
     let pair : List (List ℕ) → Statements → List (List ℕ) × Statements = λ names body. (names, body) in
-    ap (pair p.0) h.core ∙ ap core_of both ∙ sym (ap (pair q.0) k.core)
+    ap (pair p.0) h.core ∙ ap (core_of program.integers) both ∙ sym (ap (pair q.0) k.core)
 
 -- it is that of all statements that the program means with these names
 pub core_is : (program : Program) (names : List (List ℕ)) (body : Statements) (statements : c.Statements) → HasCore program names body
-    → Reading program (Ok (names, statements)) → body ≡ core_in (length names) statements
+    → Reading program (Ok (names, statements)) → body ≡ core_in program.integers (length names) statements
 core_is program names body statements h r =
     let both = ok_once (names, h.statements) (names, statements)
     (reading_once program (Ok (names, h.statements)) (Ok (names, statements)) h.reading r) in
-    h.core ∙ ap (λ (p : List (List ℕ) × c.Statements). core_in (length names) p.1) both
+    h.core ∙ ap (λ (p : List (List ℕ) × c.Statements). core_in program.integers (length names) p.1) both
 
 -- a program has one fault
 pub fault_once : (program : Program) (f g : SourceFault) → Reading program (Err f) → Reading program (Err g) → f ≡ g

@@ -2,4 +2,4 @@ use Rattle.acsl_anchors.proofs.walked.Parts.{first_passes}
 use Rattle.acsl_anchors.proofs.laws.heads_are_walked.Goals as goal
 
 pub returns : goal.returns
-returns c = λ line n first before behind body h. (first_passes line n first before (behind, body) h).behind
+returns c = λ integers line n first before behind body h. (first_passes integers line n first before (behind, body) h).behind

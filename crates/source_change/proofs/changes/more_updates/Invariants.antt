@@ -1,4 +1,4 @@
-use Rattle.std.proofs.Common.{◌≡◌, ◌≤◌, ℕ, List, length}
+use Rattle.std.proofs.Common.{◌≡◌, ◌≤◌, List, length}
 use Rattle.lang_tokens.specs.Lines.{line_at}
 use Rattle.source_grammar.specs.Tokens.{Token}
 use Rattle.source_grammar.specs.Grammar.{MoreUpdates, GoodMoreUpdates}
@@ -12,7 +12,8 @@ abbrev pub invariant-changes : goal.invariant-changes
 invariant-changes l = record {
   left : (us : MoreUpdates) (rest : List Token) → GoodMoreUpdates us → l.initial.reader.ahead ≡ onto_more_updates us rest
       → AfterList (first_kind rest)
-      → Left (line_at l.initial.reader.text) l.initial.reader.variables us rest l.initial.reader l.reader l.initial.known l.known
+      → Left l.initial.reader.integers (line_at l.initial.reader.text) l.initial.reader.variables us rest l.initial.reader l.reader
+      l.initial.known l.known
       l.initial.deeds.items l.deeds.items;
   fewer : length l.reader.ahead ≤ length l.initial.reader.ahead;
 }

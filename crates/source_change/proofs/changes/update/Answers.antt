@@ -1,4 +1,4 @@
-use Rattle.std.proofs.Common.{◌≡◌, ◌∙◌, ℕ, List, Option, Some, None, Result, Ok, Err, sym, ap}
+use Rattle.std.proofs.Common.{◌≡◌, ◌∙◌, List, Option, Some, None, ap}
 use Rattle.std.specs.declared.alloc.Global.{Global}
 use Rattle.std.specs.declared.vec.Vec.{Vec}
 use Rattle.lang_tokens.specs.Lines.{line_at}
@@ -19,14 +19,18 @@ use Rattle.source_change.proofs.changes.update.Goals as goal
 pub returns-in_err-first-in-None-clause-reads : goal.returns-in_err-first-in-None-clause-reads
 returns-in_err-first-in-None-clause-reads c = λ u rest gu f h. on u rest f where
   on : (u : Update) (rest : List Token) → c.args.reader.now.ahead ≡ onto_update u rest
-      → Answers (λ (v : Vec Deed Global) r. WasChanged c.args.reader.now.variables rest c.args.reader.now c.take_name.new.reader
+      → Answers (λ (v : Vec Deed Global) r. WasChanged c.args.reader.now.integers c.args.reader.now.variables rest c.args.reader.now
+      c.take_name.new.reader
       c.args.known.now
-      v.items r) c.from_residual.result (read_update (line_at c.args.reader.now.text) c.args.reader.now.variables c.args.known.now u)
+      v.items r) c.from_residual.result (read_update c.args.reader.now.integers
+      (line_at c.args.reader.now.text) c.args.reader.now.variables c.args.known.now u)
   on (update (place x a i) e) rest f =
       err_never (λ (n : Named) q. WasTaken (onto_index i (onto_effect e rest)) c.args.reader.now c.take_name.new.reader n q)
-      (λ (v : Vec Deed Global) r. WasChanged c.args.reader.now.variables rest c.args.reader.now c.take_name.new.reader c.args.known.now
+      (λ (v : Vec Deed Global) r. WasChanged c.args.reader.now.integers c.args.reader.now.variables rest c.args.reader.now
+      c.take_name.new.reader c.args.known.now
       v.items r) c.from_residual.result c.in_err-first-in-None.field-0.0 (x, a)
-      (read_update (line_at c.args.reader.now.text) c.args.reader.now.variables c.args.known.now (update (place x a i) e))
+      (read_update c.args.reader.now.integers (line_at c.args.reader.now.text) c.args.reader.now.variables c.args.known.now (update
+      (place x a i) e))
       c.from_residual.ensures.1 (c.in_err-first-in-None.ensures.reads x a (onto_index i (onto_effect e rest)) f)
   on (step_before d a p) rest f =
       let e : Option g.Direction = None in

@@ -1,12 +1,9 @@
-use Rattle.std.proofs.Common.{◌≡◌, ◌∷◌, ℕ, List, Result, Ok, Err}
+use Rattle.std.proofs.Common.{◌≡◌, List}
 use Rattle.lang_tokens.specs.Lines.{line_at}
-use Rattle.source_grammar.specs.Tokens.{Token, token, a_name}
+use Rattle.source_grammar.specs.Tokens.{Token}
 use Rattle.source_grammar.specs.Grammar.{Declarator, declarator}
-use Rattle.source_tree.specs.Statements.{Statements}
-use Rattle.source_meaning.specs.Names.{State}
 use Rattle.source_meaning.specs.Statements.{read_declarator}
 use Rattle.source_reader.specs.Answers.{Answers}
-use Rattle.source_reader.specs.Reading.{Reading}
 use Rattle.source_change.specs.Onto.{onto_declarator, onto_initialiser}
 use Rattle.source_change.specs.Tests.{WasRead, WasTaken}
 use Rattle.source_change.specs.declared.names.Named.{Named}
@@ -16,12 +13,14 @@ use Rattle.source_change.proofs.declarations.declarator.Goals as goal
 pub returns-in_err-first-clause-reads : goal.returns-in_err-first-clause-reads
 returns-in_err-first-clause-reads c = λ x rest g e f. on x rest e where
   on : (x : Declarator) (rest : List Token) → c.args.reader.now.ahead ≡ onto_declarator x rest
-      → Answers {A = Unit {0}} (λ _ r. WasRead c.args.reader.now.variables rest c.args.reader.now c.take_name.new.reader c.args.known.now
+      → Answers {A = Unit {0}} (λ _ r. WasRead c.args.reader.now.integers c.args.reader.now.variables rest c.args.reader.now
+      c.take_name.new.reader c.args.known.now
       c.args.out.now.items c.args.out.now.items r) c.from_residual.result
-      (read_declarator (line_at c.args.reader.now.text) c.args.reader.now.variables c.args.known.now x)
+      (read_declarator c.args.reader.now.integers (line_at c.args.reader.now.text) c.args.reader.now.variables c.args.known.now x)
   on (declarator y a i) rest e =
       err_never (λ (n : Named) p. WasTaken (onto_initialiser i rest) c.args.reader.now c.take_name.new.reader n p)
-      (λ _ r. WasRead c.args.reader.now.variables rest c.args.reader.now c.take_name.new.reader c.args.known.now
+      (λ _ r. WasRead c.args.reader.now.integers c.args.reader.now.variables rest c.args.reader.now c.take_name.new.reader c.args.known.now
       c.args.out.now.items c.args.out.now.items r) c.from_residual.result c.in_err-first.field-0.0 (y, a)
-      (read_declarator (line_at c.args.reader.now.text) c.args.reader.now.variables c.args.known.now (declarator y a i))
+      (read_declarator c.args.reader.now.integers (line_at c.args.reader.now.text) c.args.reader.now.variables c.args.known.now
+      (declarator y a i))
       c.from_residual.ensures.1 (c.in_err-first.ensures.reads y a (onto_initialiser i rest) e)

@@ -1,14 +1,13 @@
-use Rattle.std.proofs.Common.{◌≡◌, ◌∙◌, ◌∷◌, [], ◌++◌, ℕ, Bool, true, false, List, Result, Ok, Err, length, refl, sym, ap, ap₂, subst}
+use Rattle.std.proofs.Common.{◌≡◌, ◌∙◌, [], ◌++◌, ℕ, Bool, true, false, List, Result, Ok, length, refl, sym, ap, ap₂, subst}
 use Rattle.std.specs.declared.alloc.Global.{Global}
 use Rattle.std.specs.declared.vec.Vec.{Vec}
 use Rattle.lang_tokens.specs.Lines.{line_at}
 use Rattle.lang_tree.specs.Tree as tree
-use Rattle.lang_tree.specs.View.{deeds_of, statements_of}
+use Rattle.lang_tree.specs.View.{statements_of}
 use Rattle.lang_tree.specs.declared.deed.Deed as code_deed
 use Rattle.source_grammar.specs.Tokens.{Token}
 use Rattle.source_grammar.specs.Grammar.{Expr, spell_expr}
 use Rattle.source_grammar.proofs.grammar.Follow.{part_expr}
-use Rattle.source_tree.specs.Expressions.{Expression}
 use Rattle.source_tree.specs.Statements.{Change, Statements, sets, changes}
 use Rattle.source_core.specs.Core.{behind, change_deeds, followed_by}
 use Rattle.source_meaning.specs.declared.fault.FunctionFault.{FunctionFault}
@@ -35,6 +34,7 @@ use Rattle.source_change.proofs.firsts.Going.{came_to}
 use Rattle.source_change.proofs.limited.Limits.{limited_as}
 use Rattle.source_change.proofs.results.Answered.{err_then, ok_then}
 use Rattle.source_change.proofs.results.Binds.{bind_assoc}
+use Rattle.base_integers.specs.declared.integers.Integers.{Integers}
 use Rattle.source_change.proofs.declarations.given.Goals as goal
 
 -- a value within the limits goes on as itself
@@ -48,25 +48,29 @@ bind_limited n at next ds x f h e = on (nat_le next (n + MOST_HIDDEN)) (list_all
   on false b = refl
 
 -- what is set is counted, and is a statement
-abbrev set_so : (v l at : ℕ) → State → Change → Result (State × Statements) FunctionFault
-set_so v l at now g = few v l at g now >>= λ now. counted at (length (change_deeds v g)) now >>= λ now. Ok (now, one (changes g))
+abbrev set_so : (integers : Integers) (v l at : ℕ) → State → Change → Result (State × Statements) FunctionFault
+set_so integers v l at now g = few integers v l at g now >>= λ now. counted at (length (change_deeds integers v g)) now >>= λ now. Ok
+    (now, one (changes g))
 
-counts : (v l at : ℕ) (now : State) (g : Change) → set_so v l at now g ≡ (counted_change v l at now g >>= λ r. Ok (r.0, one (changes r.1)))
-counts v l at now g =
-    let k : ℕ = behind_change v l g in
-    let ds : List tree.Deed = change_deeds v g in
-    let put : State → Result (State × Statements) FunctionFault = λ now. counted at (length (change_deeds v g)) now
+counts : (integers : Integers) (v l at : ℕ) (now : State) (g : Change)
+    → set_so integers v l at now g ≡ (counted_change integers v l at now g >>= λ r. Ok (r.0, one (changes r.1)))
+counts integers v l at now g =
+    let k : ℕ = behind_change integers v l g in
+    let ds : List tree.Deed = change_deeds integers v g in
+    let put : State → Result (State × Statements) FunctionFault = λ now. counted at (length (change_deeds integers v g)) now
     >>= λ now. Ok (now, one (changes g)) in
-    let count : Change → Result (State × Change) FunctionFault = λ g. counted at (length (change_deeds v g)) now >>= λ st. Ok (st, g) in
+    let count : Change → Result (State × Change) FunctionFault = λ g. counted at (length (change_deeds integers v g)) now >>= λ st. Ok
+    (st, g) in
     let put_on : State × Change → Result (State × Statements) FunctionFault = λ r. Ok (r.0, one (changes r.1)) in
-    ap (λ w. w >>= put) (limited_as v at k ds [] now g) ∙ bind_assoc (few v l at g g) (λ _. Ok now) put
+    ap (λ w. w >>= put) (limited_as v at k ds [] now g) ∙ bind_assoc (few integers v l at g g) (λ _. Ok now) put
     ∙ bind_limited v at k ds g (λ _. put now) (λ g. count g >>= put_on)
-    (sym (bind_assoc (counted at (length (change_deeds v g)) now) (λ st. Ok (st, g)) put_on))
-    ∙ sym (bind_assoc (few v l at g g) count put_on)
+    (sym (bind_assoc (counted at (length (change_deeds integers v g)) now) (λ st. Ok (st, g)) put_on))
+    ∙ sym (bind_assoc (few integers v l at g g) count put_on)
 
 -- a declaration with a value, over v variables, in this line
-abbrev by_parts : (v l : ℕ) → State → List ℕ → (at : ℕ) → Expr → Result (State × Statements) FunctionFault
-by_parts v l st x at e = read l st e v >>= λ y. with_variable x at st >>= λ now. set_so v l at now (sets st.variables y l)
+abbrev by_parts : (integers : Integers) (v l : ℕ) → State → List ℕ → (at : ℕ) → Expr → Result (State × Statements) FunctionFault
+by_parts integers v l st x at e = read integers l st e v >>= λ y. with_variable x at st >>= λ now. set_so integers v l at now
+    (sets st.variables y l)
 
 pub returns-in_err-deeds-clause-reads : goal.returns-in_err-deeds-clause-reads
 returns-in_err-deeds-clause-reads c = λ b e rest g f h.
@@ -76,26 +80,28 @@ returns-in_err-deeds-clause-reads c = λ b e rest g f h.
     let st : State = c.args.known.now in
     let x : List ℕ = c.args.first.now.name in
     let at : ℕ = c.args.first.now.at in
+    let j : Integers = c.site-site.result.integers in
     let l : ℕ = c.site-site.result.line in
     let v : ℕ = c.site-site.result.variables in
+    let by : j ≡ old.integers = c.site-site.ensures.integers ∙ ap (λ (r : Reading). r.integers) mid in
     let line : l ≡ line_at old.text at = c.site-site.ensures.line ∙ ap (λ (r : Reading). line_at r.text at) mid in
     let many : v ≡ old.variables = c.site-site.ensures.variables ∙ ap (λ (r : Reading). r.variables) mid in
     let new : Reading = c.expression.new.reader in
     let now : State = c.add_variable.new.self in
     let s : Stop = c.in_err-deeds.field-0.0 in
     let is : Unit {0} → State × Statements → Type 0 =
-    λ _ r. WasRead old.variables rest old new c.counted_change.new.known c.args.out.now.items c.args.out.now.items r in
+    λ _ r. WasRead old.integers old.variables rest old new c.counted_change.new.known c.args.out.now.items c.args.out.now.items r in
     let P : Result (State × Statements) FunctionFault → Type 0 = λ w. Answers is c.from_residual-in_err-deeds.result w in
-    subst P (ap₂ (λ v l. by_parts v l st x at e) many line)
+    subst P (ap (λ j. by_parts j v l st x at e) by ∙ ap₂ (λ v l. by_parts old.integers v l st x at e) many line)
     (ok_then (λ (w : Value) y. IsRead c.site-site.result v w y ×
     (new.ahead ≡ rest)) is c.in_ok-value.value c.from_residual-in_err-deeds.result
-    (read l st e v) (λ y. with_variable x at st >>= λ now. set_so v l at now (sets st.variables y l))
+    (read j l st e v) (λ y. with_variable x at st >>= λ now. set_so j v l at now (sets st.variables y l))
     (c.in_ok-value.ensures.reads e rest g (part_expr (first_kind rest) h) (ap (λ (r : Reading). r.ahead) mid))
     (λ y k. let t : Change = sets st.variables y l in
-    subst P (sym (ap (λ w. w >>= λ now. set_so v l at now t) c.in_ok-add_variable.ensures ∙ counts v l at now t))
-    (err_then (λ (w : Vec code_deed.Deed Global) r. WasCounted v c.counted_change.new.known w.items r) is
+    subst P (sym (ap (λ w. w >>= λ now. set_so j v l at now t) c.in_ok-add_variable.ensures ∙ counts j v l at now t))
+    (err_then (λ (w : Vec code_deed.Deed Global) r. WasCounted j v c.counted_change.new.known w.items r) is
     c.from_residual-in_err-deeds.result s
-    (counted_change v l at now t) (λ r. Ok (r.0, one (changes r.1))) c.from_residual-in_err-deeds.ensures.1
+    (counted_change j v l at now t) (λ r. Ok (r.0, one (changes r.1))) c.from_residual-in_err-deeds.ensures.1
     (c.in_err-deeds.ensures t (c.variables-var.ensures, refl, k.0)))))
 
 pub returns-clause-reads : goal.returns-clause-reads
@@ -106,32 +112,35 @@ returns-clause-reads c = λ b e rest g f h.
     let st : State = c.args.known.now in
     let x : List ℕ = c.args.first.now.name in
     let at : ℕ = c.args.first.now.at in
+    let j : Integers = c.site-site.result.integers in
     let l : ℕ = c.site-site.result.line in
     let v : ℕ = c.site-site.result.variables in
+    let by : j ≡ old.integers = c.site-site.ensures.integers ∙ ap (λ (r : Reading). r.integers) mid in
     let line : l ≡ line_at old.text at = c.site-site.ensures.line ∙ ap (λ (r : Reading). line_at r.text at) mid in
     let many : v ≡ old.variables = c.site-site.ensures.variables ∙ ap (λ (r : Reading). r.variables) mid in
     let new : Reading = c.expression.new.reader in
     let now : State = c.add_variable.new.self in
     let first : tree.Statements = statements_of c.args.out.now.items in
     let is : Unit {0} → State × Statements → Type 0 =
-    λ _ r. WasRead old.variables rest old new c.counted_change.new.known c.args.out.now.items c.push_deeds.new.out.items r in
+    λ _ r. WasRead old.integers old.variables rest old new c.counted_change.new.known c.args.out.now.items c.push_deeds.new.out.items r in
     let P : Result (State × Statements) FunctionFault → Type 0 = λ w. Answers is (Ok tt) w in
-    subst P (ap₂ (λ v l. by_parts v l st x at e) many line)
+    subst P (ap (λ j. by_parts j v l st x at e) by ∙ ap₂ (λ v l. by_parts old.integers v l st x at e) many line)
     (ok_then (λ (w : Value) y. IsRead c.site-site.result v w y × (new.ahead ≡ rest)) is c.in_ok-value.value (Ok tt)
-    (read l st e v) (λ y. with_variable x at st >>= λ now. set_so v l at now (sets st.variables y l))
+    (read j l st e v) (λ y. with_variable x at st >>= λ now. set_so j v l at now (sets st.variables y l))
     (c.in_ok-value.ensures.reads e rest g (part_expr (first_kind rest) h) (ap (λ (r : Reading). r.ahead) mid))
     (λ y k. let t : Change = sets st.variables y l in
-    subst P (sym (ap (λ w. w >>= λ now. set_so v l at now t) c.in_ok-add_variable.ensures ∙ counts v l at now t))
-    (ok_then (λ (w : Vec code_deed.Deed Global) r. WasCounted v c.counted_change.new.known w.items r) is c.in_ok-deeds.deeds (Ok tt)
-    (counted_change v l at now t) (λ r. Ok (r.0, one (changes r.1)))
+    subst P (sym (ap (λ w. w >>= λ now. set_so j v l at now t) c.in_ok-add_variable.ensures ∙ counts j v l at now t))
+    (ok_then (λ (w : Vec code_deed.Deed Global) r. WasCounted j v c.counted_change.new.known w.items r) is c.in_ok-deeds.deeds (Ok tt)
+    (counted_change j v l at now t) (λ r. Ok (r.0, one (changes r.1)))
     (c.in_ok-deeds.ensures t (c.variables-var.ensures, refl, k.0))
     (λ r m. (
       (r.0, one (changes r.1)),
       refl,
       record {
         known = m.0;
-        out = c.in_ok-push_deeds.ensures ∙ ap (λ ds. followed_by first (behind ds tree.nil)) (m.1 ∙ ap (λ n. change_deeds n r.1) many)
-            ∙ ap (followed_by first) (sym (followed_nil (behind (change_deeds old.variables r.1) tree.nil)));
+        out = c.in_ok-push_deeds.ensures ∙ ap (λ ds. followed_by first (behind ds tree.nil)) (m.1
+            ∙ ap₂ (λ k n. change_deeds k n r.1) by many)
+            ∙ ap (followed_by first) (sym (followed_nil (behind (change_deeds old.integers old.variables r.1) tree.nil)));
         reader = came_to c.skip.new.self new rest c.in_ok-value.ensures.goes k.1 ∙ ap (λ (r : Reading). at_tokens r rest) mid;
       },
     )))))

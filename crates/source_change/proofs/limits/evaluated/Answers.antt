@@ -1,4 +1,4 @@
-use Rattle.std.proofs.Common.{◌≡◌, ◌∙◌, sym, ap, subst, [], ℕ, List}
+use Rattle.std.proofs.Common.{◌≡◌, ◌∙◌, sym, ap, subst, [], ℕ}
 use Rattle.lang_tree.specs.DeedView.{deeds_of}
 use Rattle.source_meaning.specs.Limits.{limited}
 use Rattle.source_value.specs.Kept.{kept_deeds}

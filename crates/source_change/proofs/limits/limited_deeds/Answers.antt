@@ -1,4 +1,4 @@
-use Rattle.std.proofs.Common.{◌≡◌, ◌∙◌, sym, [], ℕ, List}
+use Rattle.std.proofs.Common.{◌≡◌, ◌∙◌, sym, [], List}
 use Rattle.std.specs.declared.alloc.Global.{Global}
 use Rattle.std.specs.declared.vec.Vec.{Vec}
 use Rattle.lang_tree.specs.Tree.{Deed}

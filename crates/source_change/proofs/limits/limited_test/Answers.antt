@@ -1,7 +1,6 @@
-use Rattle.std.proofs.Common.{◌≡◌, ◌∙◌, sym, ap, subst, ◌∷◌, [], ℕ, Result, Err, Ok}
-use Rattle.source_core.specs.Elaborated.{Tested}
+use Rattle.std.proofs.Common.{◌∙◌, sym, ap, subst, ◌∷◌, [], ℕ, Err, Ok}
 use Rattle.source_meaning.specs.Limits.{limited}
-use Rattle.source_value.specs.Kept.{is_within, kept_deeds, kept_condition}
+use Rattle.source_value.specs.Kept.{kept_deeds, kept_condition}
 use Rattle.source_reader.specs.Answers.{Answers}
 use Rattle.source_change.specs.Tests.{IsTest}
 use Rattle.source_change.proofs.limited.Told.{hidden_told, test_told, prelude_told, condition_told}

@@ -1,4 +1,4 @@
-use Rattle.std.proofs.Common.{◌≡◌, ◌∙◌, ap}
+use Rattle.std.proofs.Common.{◌∙◌, ap}
 use Rattle.source_reader.specs.Reading.{first_kind}
 use Rattle.source_change.specs.Nexts.{step_in}
 use Rattle.source_change.proofs.kinds.Plain.{plain_step}

@@ -1,11 +1,10 @@
-use Rattle.std.proofs.Common.{◌≡◌, ◌∙◌, ◌∷◌, ◌++◌, ℕ, List, None, sym, ap, refl, subst, Result, Ok, Err}
+use Rattle.std.proofs.Common.{◌≡◌, ◌∙◌, ℕ, List, None, sym, ap, refl, Ok}
 use Rattle.source_grammar.specs.Tokens as g
 use Rattle.source_grammar.specs.Tokens.{Kind, Token}
 use Rattle.source_grammar.specs.Grammar.{Index, no_index, index, GoodIndex}
 use Rattle.source_grammar.proofs.grammar.Follow.{AfterPlace}
 use Rattle.source_tree.specs.Expressions.{Expression}
 use Rattle.source_core.specs.Elaborated.{elaborated}
-use Rattle.source_meaning.specs.Names.{State}
 use Rattle.source_meaning.specs.Changes.{read_element}
 use Rattle.source_value.specs.Stands.{Stands}
 use Rattle.source_value.specs.declared.value.Value.{Value}
@@ -16,6 +15,7 @@ use Rattle.source_change.specs.Onto.{onto_index}
 use Rattle.source_change.specs.Changed.{Aim, an_element, StandsTarget, aim}
 use Rattle.source_change.specs.declared.places.Target.{Target}
 use Rattle.source_change.proofs.results.Answered.{err_then, ok_then}
+use Rattle.base_integers.specs.declared.integers.Integers.{Integers}
 use Rattle.source_change.proofs.places.place.Goals as goal
 
 -- no bracket follows a place
@@ -28,40 +28,44 @@ no_bracket g.comma h e = cc
 no_bracket _ h e = absurd h
 
 -- a place was read up to tokens
-abbrev Placed : (v l : ℕ) → Reading → Reading → List Token → Target → Aim → Type 0
-Placed v l old new ts t a = StandsTarget v l t a × (new ≡ at_tokens old ts)
+abbrev Placed : (integers : Integers) (v l : ℕ) → Reading → Reading → List Token → Target → Aim → Type 0
+Placed integers v l old new ts t a = StandsTarget integers v l t a × (new ≡ at_tokens old ts)
 
 -- so was an element
-abbrev Read : (v l : ℕ) → Reading → Reading → List Token → Value → Expression → Type 0
-Read v l old new ts w x = Stands v w (elaborated l x v) × (new ≡ at_tokens old ts)
+abbrev Read : (integers : Integers) (v l : ℕ) → Reading → Reading → List Token → Value → Expression → Type 0
+Read integers v l old new ts w x = Stands v w (elaborated integers l x v) × (new ≡ at_tokens old ts)
 
 pub returns-in_err-read_element-in-Bracket-clause-reads : goal.returns-in_err-read_element-in-Bracket-clause-reads
 returns-in_err-read_element-in-Bracket-clause-reads c = λ i rest gi f h. on i rest gi f h where
   on : (i : Index) (rest : List Token) → GoodIndex i → c.args.reader.now.ahead ≡ onto_index i rest → AfterPlace (first_kind rest)
-      → Answers (Placed c.args.site.variables c.args.site.line c.args.reader.now c.read_element.new.reader rest) c.from_residual.result
-      (aim c.args.site.variables c.args.site.line c.args.known.now c.args.named.now.name c.args.named.now.at i)
+      → Answers (Placed c.args.site.integers c.args.site.variables c.args.site.line c.args.reader.now c.read_element.new.reader rest)
+      c.from_residual.result
+      (aim c.args.site.integers c.args.site.variables c.args.site.line c.args.known.now c.args.named.now.name c.args.named.now.at i)
   on no_index rest gi f h = absurd (no_bracket (first_kind rest) h
       (ap (λ ts. next_in (first_kind ts)) (sym f) ∙ sym c.coming.ensures ∙ ap next_of c.in-Bracket.is))
   on (index b e d) rest gi f h =
-      err_then (Read c.args.site.variables c.args.site.line c.args.reader.now c.read_element.new.reader rest)
-      (Placed c.args.site.variables c.args.site.line c.args.reader.now c.read_element.new.reader rest) c.from_residual.result
+      err_then (Read c.args.site.integers c.args.site.variables c.args.site.line c.args.reader.now c.read_element.new.reader rest)
+      (Placed c.args.site.integers c.args.site.variables c.args.site.line c.args.reader.now c.read_element.new.reader rest)
+      c.from_residual.result
       c.in_err-read_element-in-Bracket.field-0.0
-      (read_element c.args.site.variables c.args.site.line c.args.known.now c.args.named.now.name c.args.named.now.at b e)
+      (read_element c.args.site.integers c.args.site.variables c.args.site.line c.args.known.now c.args.named.now.name
+      c.args.named.now.at b e)
       (λ old. Ok (an_element old)) c.from_residual.ensures.1 (c.in_err-read_element-in-Bracket.ensures.reads b e d rest gi f)
 
 pub returns-in_ok-read_element-in-Bracket-clause-reads : goal.returns-in_ok-read_element-in-Bracket-clause-reads
 returns-in_ok-read_element-in-Bracket-clause-reads c = λ i rest gi f h. on i rest gi f h where
   on : (i : Index) (rest : List Token) → GoodIndex i → c.args.reader.now.ahead ≡ onto_index i rest → AfterPlace (first_kind rest)
-      → Answers (Placed c.args.site.variables c.args.site.line c.args.reader.now c.read_element.new.reader rest)
+      → Answers (Placed c.args.site.integers c.args.site.variables c.args.site.line c.args.reader.now c.read_element.new.reader rest)
       (Ok (record { old = c.in_ok-read_element-in-Bracket.field-0; var = None }))
-      (aim c.args.site.variables c.args.site.line c.args.known.now c.args.named.now.name c.args.named.now.at i)
+      (aim c.args.site.integers c.args.site.variables c.args.site.line c.args.known.now c.args.named.now.name c.args.named.now.at i)
   on no_index rest gi f h = absurd (no_bracket (first_kind rest) h
       (ap (λ ts. next_in (first_kind ts)) (sym f) ∙ sym c.coming.ensures ∙ ap next_of c.in-Bracket.is))
   on (index b e d) rest gi f h =
-      ok_then (Read c.args.site.variables c.args.site.line c.args.reader.now c.read_element.new.reader rest)
-      (Placed c.args.site.variables c.args.site.line c.args.reader.now c.read_element.new.reader rest)
+      ok_then (Read c.args.site.integers c.args.site.variables c.args.site.line c.args.reader.now c.read_element.new.reader rest)
+      (Placed c.args.site.integers c.args.site.variables c.args.site.line c.args.reader.now c.read_element.new.reader rest)
       c.in_ok-read_element-in-Bracket.field-0
       (Ok (record { old = c.in_ok-read_element-in-Bracket.field-0; var = None }))
-      (read_element c.args.site.variables c.args.site.line c.args.known.now c.args.named.now.name c.args.named.now.at b e)
+      (read_element c.args.site.integers c.args.site.variables c.args.site.line c.args.known.now c.args.named.now.name
+      c.args.named.now.at b e)
       (λ old. Ok (an_element old)) (c.in_ok-read_element-in-Bracket.ensures.reads b e d rest gi f)
       (λ x s. (an_element x, refl, (record { old = s.0; var = refl }, s.1)))

@@ -1,13 +1,12 @@
-use Rattle.std.proofs.Common.{◌≡◌, ◌∙◌, ◌≤◌, ◌∷◌, ◌++◌, ℕ, List, length, sym, ap, refl, subst, arith, Result, Ok, Err, OnOk}
-use Rattle.source_grammar.specs.Grammar.{Expr, spell_expr}
-use Rattle.source_grammar.specs.Tokens.{Token, token, left_bracket, right_bracket}
+use Rattle.std.proofs.Common.{◌≡◌, ◌∙◌, ◌≤◌, ◌∷◌, ◌++◌, ℕ, List, length, sym, ap, subst, arith, Result, Ok, Err, OnOk}
+use Rattle.source_grammar.specs.Grammar.{spell_expr}
+use Rattle.source_grammar.specs.Tokens.{Token, token, right_bracket}
 use Rattle.source_tree.specs.Expressions.{Expression, element}
 use Rattle.source_core.specs.Elaborated.{elaborated, numbered}
 use Rattle.source_meaning.specs.declared.fault.FunctionFault.{FunctionFault}
 use Rattle.source_meaning.specs.Results.{◌>>=◌}
 use Rattle.source_meaning.specs.Names.{State, array_of}
 use Rattle.source_meaning.specs.Expressions.{read, ranged}
-use Rattle.source_meaning.specs.Changes.{read_element}
 use Rattle.source_value.specs.Stands.{Stands}
 use Rattle.source_value.specs.declared.value.Value.{Value}
 use Rattle.source_reader.specs.Answers.{Answers}
@@ -17,6 +16,7 @@ use Rattle.source_reader.proofs.Going.{behind_fewer}
 use Rattle.source_expression.specs.Sides.{IsRead}
 use Rattle.source_change.proofs.firsts.Going.{came_to}
 use Rattle.source_change.proofs.results.Answered.{ok_then, weaker}
+use Rattle.base_integers.specs.declared.integers.Integers.{Integers}
 use Rattle.source_change.proofs.places.read_element.Goals as goal
 
 on : (r : Result Value Stop) {P : Type 0} → P → OnOk r P
@@ -37,6 +37,7 @@ returns-clause-shorter c = on c.ranged.result
 pub returns-clause-reads : goal.returns-clause-reads
 returns-clause-reads c = λ b e d rest g f.
     let old : Reading = c.args.reader.now in
+    let integers : Integers = c.args.site.integers in
     let n : ℕ = c.args.site.variables in
     let line : ℕ = c.args.site.line in
     let st : State = c.args.known.now in
@@ -50,20 +51,21 @@ returns-clause-reads c = λ b e d rest g f.
     let place : k ≡ b = c.in_ok-bracket.ensures.1 ∙ ap first_place f in
     let there : array_of x at st ≡ Ok size = ap (λ y. array_of y at st) (sym c.bytes.ensures.bytes) ∙ sym c.in_ok-size.ensures in
     let new : Reading = c.take-2.new.self in
-    let Is : Value → Expression → Type 0 = λ v y. Stands n v (elaborated line y n) × (new ≡ at_tokens old rest) in
+    let Is : Value → Expression → Type 0 = λ v y. Stands n v (elaborated integers line y n) × (new ≡ at_tokens old rest) in
     let P : Result ℕ FunctionFault → Type 0 = λ w. Answers Is c.ranged.result
-    (w >>= λ size. read line st e n >>= λ i. ranged line b n (element size b i at)) in
+    (w >>= λ size. read integers line st e n >>= λ i. ranged integers line b n (element size b i at)) in
     subst P (sym there)
     (ok_then (λ (v : Value) y. IsRead c.args.site n v y × (c.expression.new.reader.ahead ≡ behind)) Is c.in_ok-index.index c.ranged.result
-    (read line st e n) (λ i. ranged line b n (element size b i at))
+    (read integers line st e n) (λ i. ranged integers line b n (element size b i at))
     (c.in_ok-index.ensures.reads e behind g tt (ap (λ (r : Reading). r.ahead) mid))
-    (λ i s. let R : ℕ → Type 0 = λ k. Answers Is c.ranged.result (ranged line k n (element size k i at)) in
+    (λ i s. let R : ℕ → Type 0 = λ k. Answers Is c.ranged.result (ranged integers line k n (element size k i at)) in
     subst R place
-    (weaker (λ (v : Value) y. Stands n v (elaborated line y n)) Is c.ranged.result (ranged line k n (element size k i at))
+    (weaker (λ (v : Value) y. Stands n v (elaborated integers line y n)) Is c.ranged.result (ranged integers line k n (element size k i at))
     (λ v y t. (
       t,
       c.in_ok-take.ensures.2 ∙ ap passed (came_to c.take.new.self c.expression.new.reader behind c.in_ok-index.ensures.goes s.1
           ∙ ap (λ (r : Reading). at_tokens r behind) mid),
     ))
-    (c.ranged.ensures n line n (element size k i at)
-    (c.element.ensures (numbered line (elaborated line i n)) (c.in_ok-number.ensures (elaborated line i n) s.0))))))
+    (c.ranged.ensures integers n line n (element size k i at)
+    (c.element.ensures (numbered integers line (elaborated integers line i n)) (c.in_ok-number.ensures
+    (elaborated integers line i n) s.0))))))

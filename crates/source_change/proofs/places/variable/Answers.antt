@@ -1,4 +1,4 @@
-use Rattle.std.proofs.Common.{◌≡◌, ◌∙◌, ℕ, sym, ap, refl, Ok}
+use Rattle.std.proofs.Common.{◌∙◌, ℕ, sym, ap, refl, Ok}
 use Rattle.source_meaning.specs.Results.{◌>>=◌}
 use Rattle.source_meaning.specs.Names.{variable_of}
 use Rattle.source_change.specs.Changed.{a_variable}

@@ -1,4 +1,4 @@
-use Rattle.std.proofs.Common.{◌≡◌, ◌∙◌, ◌++◌, ◌∷◌, [], List, ap, sym, append_assoc}
+use Rattle.std.proofs.Common.{◌∙◌, ◌++◌, ◌∷◌, [], ap, sym, append_assoc}
 use Rattle.lang_tree.specs.View.{deed_of, deeds_of}
 use Rattle.source_change.proofs.lists.Deeds.{deeds_append}
 use Rattle.source_change.proofs.pushed.append.Goals as goal

@@ -1,6 +1,6 @@
-use Rattle.std.proofs.Common.{◌≡◌, ◌∙◌, ◌++◌, ◌∷◌, [], List, ap, sym}
-use Rattle.lang_tree.specs.Tree.{Statements, nil, cons, statement_by}
-use Rattle.lang_tree.specs.View.{deed_of, deeds_of, statement_of, statements_of}
+use Rattle.std.proofs.Common.{◌∙◌, ◌∷◌, [], ap, sym}
+use Rattle.lang_tree.specs.Tree.{nil, cons, statement_by}
+use Rattle.lang_tree.specs.View.{deed_of, deeds_of, statements_of}
 use Rattle.source_core.specs.Core.{followed_by, behind}
 use Rattle.source_change.proofs.lists.Deeds.{deeds_append, statements_append, followed_assoc, followed_nil, behind_append, behind_followed}
 use Rattle.source_change.proofs.pushed.push_deeds.Goals as goal

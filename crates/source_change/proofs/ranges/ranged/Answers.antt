@@ -10,7 +10,8 @@ use Rattle.source_reader.proofs.Placing.{placed_answers}
 use Rattle.source_change.proofs.ranges.ranged.Goals as goal
 
 pub returns : goal.returns
-returns c = λ n line h e a.
-    let P : Result Value Stop → Type 0 = λ r. Answers (λ v x. Stands n v (elaborated line x h)) r (ranged line c.args.sign h e) in
+returns c = λ integers n line h e a.
+    let P : Result Value Stop → Type 0 = λ r. Answers (λ v x. Stands n v (elaborated integers line x h)) r
+    (ranged integers line c.args.sign h e) in
     subst P (sym c.placed.ensures)
-    (placed_answers (Stands n) fits (λ x. elaborated line x h) c.args.made c.args.sign e a (λ v s. s.numbers))
+    (placed_answers (Stands n) fits (λ x. elaborated integers line x h) c.args.made c.args.sign e a (λ v s. s.numbers))

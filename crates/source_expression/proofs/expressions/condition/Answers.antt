@@ -1,7 +1,6 @@
 -- An expression as a condition.
-use Rattle.std.proofs.Common.{◌≡◌, ◌∙◌, ◌++◌, sym, ap}
+use Rattle.std.proofs.Common.{◌≡◌, ◌∙◌, ap}
 use Rattle.source_core.specs.Elaborated.{elaborated}
-use Rattle.source_grammar.specs.Grammar.{spell_expr}
 use Rattle.source_meaning.specs.Expressions.{as_condition, first_of, read}
 use Rattle.source_reader.specs.Reading.{first_place}
 use Rattle.source_reader.specs.Placed.{placed}
@@ -18,9 +17,11 @@ returns-clause-reads c = λ e rest g a q.
     let r = c.in_ok-value.ensures.reads e rest g a q in
     let f : c.at-first.result ≡ first_of e = c.at-first.ensures ∙ ap first_place q ∙ first_place_of e rest in
     ok_then (λ v x. IsTestedOf site h v x × (c.expression.new.reader.ahead ≡ rest)) c.placed.result
-    (read site.line c.args.known.now e h) r.0
-    (λ x. as_condition site.line (first_of e) h x) r.1
-    (beside (IsTestedOf site h) (c.expression.new.reader.ahead ≡ rest) c.placed.result (as_condition site.line (first_of e) h r.0) r.2.1
+    (read site.integers site.line c.args.known.now e h) r.0
+    (λ x. as_condition site.integers site.line (first_of e) h x) r.1
+    (beside (IsTestedOf site h) (c.expression.new.reader.ahead ≡ rest) c.placed.result (as_condition site.integers site.line
+    (first_of e) h r.0) r.2.1
     (answers_of (IsTestedOf site h) c.placed.result (placed (first_of e) c.into_condition.result)
-    (as_condition site.line (first_of e) h r.0) (c.placed.ensures ∙ ap (λ n. placed n c.into_condition.result) f)
-    (tested_answers site h r.0 c.into_condition.result (first_of e) (c.into_condition.ensures (elaborated site.line r.0 h) r.2.0))))
+    (as_condition site.integers site.line (first_of e) h r.0) (c.placed.ensures ∙ ap (λ n. placed n c.into_condition.result) f)
+    (tested_answers site h r.0 c.into_condition.result (first_of e) (c.into_condition.ensures
+    (elaborated site.integers site.line r.0 h) r.2.0))))

@@ -16,11 +16,12 @@ returns-in_ok-placed c = λ x h i.
     let r = c.into_condition.result in
     let e : asks_conditions c.args.work ≡ true = sym c.asks_conditions.ensures ∙ c.if-asks_conditions.true in
     condition_side site h x (asks_conditions c.args.work) c.args.first v e
-    (answers_of (IsTestedOf site h) (Ok v) (placed c.args.first r) (as_condition site.line c.args.first h x) c.in_ok-placed.ensures
-    (tested_answers site h x r c.args.first (c.into_condition.ensures (elaborated site.line x h) i)))
+    (answers_of (IsTestedOf site h) (Ok v) (placed c.args.first r)
+    (as_condition site.integers site.line c.args.first h x) c.in_ok-placed.ensures
+    (tested_answers site h x r c.args.first (c.into_condition.ensures (elaborated site.integers site.line x h) i)))
 
 pub returns-in_ok-into_number : goal.returns-in_ok-into_number
 returns-in_ok-into_number c = λ x h i.
     let e : asks_conditions c.args.work ≡ false = sym c.asks_conditions.ensures ∙ c.if-asks_conditions.false in
     number_side c.args.site h x (asks_conditions c.args.work) c.args.first c.in_ok-into_number.field-0 e
-    (c.in_ok-into_number.ensures (elaborated c.args.site.line x h) i)
+    (c.in_ok-into_number.ensures (elaborated c.args.site.integers c.args.site.line x h) i)

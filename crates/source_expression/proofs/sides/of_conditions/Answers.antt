@@ -12,20 +12,20 @@ pub returns-in_ok-either-in-Either : goal.returns-in_ok-either-in-Either
 returns-in_ok-either-in-Either c = λ x y h sign t i j.
     let site = c.args.site in
     let v = c.in_ok-either-in-Either.field-0 in
-    subst (λ w. Answers (IsRead site h) (Ok v) (worked site.line w sign h x y)) (sym c.in-Either.is) (
+    subst (λ w. Answers (IsRead site h) (Ok v) (worked site.integers site.line w sign h x y)) (sym c.in-Either.is) (
       made.either x y,
       refl,
-      c.in_ok-either-in-Either.ensures (tested (elaborated site.line x h))
-          (tested (elaborated site.line y (behind site.line x h))) (conditions_grow site h x y) i j,
+      c.in_ok-either-in-Either.ensures (tested (elaborated site.integers site.line x h))
+          (tested (elaborated site.integers site.line y (behind site.integers site.line x h))) (conditions_grow site h x y) i j,
     )
 
 pub returns-in_ok-both-in-Both : goal.returns-in_ok-both-in-Both
 returns-in_ok-both-in-Both c = λ x y h sign t i j.
     let site = c.args.site in
     let v = c.in_ok-both-in-Both.field-0 in
-    subst (λ w. Answers (IsRead site h) (Ok v) (worked site.line w sign h x y)) (sym c.in-Both.is) (
+    subst (λ w. Answers (IsRead site h) (Ok v) (worked site.integers site.line w sign h x y)) (sym c.in-Both.is) (
       made.both x y,
       refl,
-      c.in_ok-both-in-Both.ensures (tested (elaborated site.line x h))
-          (tested (elaborated site.line y (behind site.line x h))) (conditions_grow site h x y) i j,
+      c.in_ok-both-in-Both.ensures (tested (elaborated site.integers site.line x h))
+          (tested (elaborated site.integers site.line y (behind site.integers site.line x h))) (conditions_grow site h x y) i j,
     )

@@ -18,10 +18,11 @@ returns-in-Compare c = λ x y h t i j.
     let at = c.args.sign.at in
     let z = made.compared c.in-Compare.rel at x y in
     let r = c.compared.result in
-    subst (λ w. Answers (IsRead site h) c.placed.result (worked site.line w at h x y)) (sym c.in-Compare.is)
-    (answers_of (IsRead site h) c.placed.result (placed at r) (ranged site.line at h z) c.placed.ensures
-    (ranged_answers site h z r at (c.compared.ensures (numbered site.line (elaborated site.line x h))
-    (numbered site.line (elaborated site.line y (behind_number site.line x h))) (numbers_ordered site h x y) i j)))
+    subst (λ w. Answers (IsRead site h) c.placed.result (worked site.integers site.line w at h x y)) (sym c.in-Compare.is)
+    (answers_of (IsRead site h) c.placed.result (placed at r) (ranged site.integers site.line at h z) c.placed.ensures
+    (ranged_answers site h z r at (c.compared.ensures (numbered site.integers site.line (elaborated site.integers site.line x h))
+    (numbered site.integers site.line (elaborated site.integers site.line y (behind_number site.integers site.line x h)))
+    (numbers_ordered site h x y) i j)))
 
 pub returns-in-Operate : goal.returns-in-Operate
 returns-in-Operate c = λ x y h t i j.
@@ -29,7 +30,8 @@ returns-in-Operate c = λ x y h t i j.
     let at = c.args.sign.at in
     let z = made.joined (operation_of c.in-Operate.operation) at x y in
     let r = c.operated.result in
-    subst (λ w. Answers (IsRead site h) c.placed-in-Operate.result (worked site.line w at h x y)) (sym c.in-Operate.is)
-    (answers_of (IsRead site h) c.placed-in-Operate.result (placed at r) (ranged site.line at h z) c.placed-in-Operate.ensures
-    (ranged_answers site h z r at (c.operated.ensures (numbered site.line (elaborated site.line x h))
-    (numbered site.line (elaborated site.line y (behind_number site.line x h))) (numbers_ordered site h x y) i j)))
+    subst (λ w. Answers (IsRead site h) c.placed-in-Operate.result (worked site.integers site.line w at h x y)) (sym c.in-Operate.is)
+    (answers_of (IsRead site h) c.placed-in-Operate.result (placed at r) (ranged site.integers site.line at h z) c.placed-in-Operate.ensures
+    (ranged_answers site h z r at (c.operated.ensures (numbered site.integers site.line (elaborated site.integers site.line x h))
+    (numbered site.integers site.line (elaborated site.integers site.line y (behind_number site.integers site.line x h)))
+    (numbers_ordered site h x y) i j)))

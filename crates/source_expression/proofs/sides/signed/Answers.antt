@@ -1,5 +1,5 @@
 -- Signs before operands.
-use Rattle.std.proofs.Common.{◌≡◌, Ok, refl, sym, ap, subst}
+use Rattle.std.proofs.Common.{Ok, refl, sym, ap, subst}
 use Rattle.source_tree.specs.Expressions as made
 use Rattle.source_core.specs.Elaborated.{elaborated, numbered, tested}
 use Rattle.source_meaning.specs.Expressions as meaning
@@ -16,12 +16,13 @@ use Rattle.source_expression.proofs.sides.signed.Goals as goal
 pub returns-in_ok-into_number-in-Positive : goal.returns-in_ok-into_number-in-Positive
 returns-in_ok-into_number-in-Positive c = λ x h i.
     let site = c.args.site in
-    let e = elaborated site.line x h in
-    subst (λ p. Answers (IsRead site h) (Ok c.positive.result) (meaning.prefixed site.line (prefix_of p) c.args.sign c.args.first h x))
+    let e = elaborated site.integers site.line x h in
+    subst (λ p. Answers (IsRead site h) (Ok c.positive.result) (meaning.prefixed site.integers site.line
+    (prefix_of p) c.args.sign c.args.first h x))
     (sym c.in-Positive.is) (
       made.positive c.args.sign x,
       refl,
-      c.positive.ensures site.variables (numbered site.line e) (c.in_ok-into_number-in-Positive.ensures e i),
+      c.positive.ensures site.variables (numbered site.integers site.line e) (c.in_ok-into_number-in-Positive.ensures e i),
     )
 
 pub returns-in_ok-inverse-in-Negation : goal.returns-in_ok-inverse-in-Negation
@@ -30,13 +31,13 @@ returns-in_ok-inverse-in-Negation c = λ x h i.
     let v = c.in_ok-inverse-in-Negation.field-0 in
     let t = c.in_ok-placed-in-Negation.field-0 in
     let r = c.into_condition.result in
-    let a : Answers (IsTestedOf site h) (Ok t) (as_condition site.line c.args.first h x) =
-    answers_of (IsTestedOf site h) (Ok t) (placed c.args.first r) (as_condition site.line c.args.first h x)
+    let a : Answers (IsTestedOf site h) (Ok t) (as_condition site.integers site.line c.args.first h x) =
+    answers_of (IsTestedOf site h) (Ok t) (placed c.args.first r) (as_condition site.integers site.line c.args.first h x)
     c.in_ok-placed-in-Negation.ensures
-    (tested_answers site h x r c.args.first (c.into_condition.ensures (elaborated site.line x h) i)) in
-    subst (λ p. Answers (IsRead site h) (Ok v) (meaning.prefixed site.line (prefix_of p) c.args.sign c.args.first h x))
+    (tested_answers site h x r c.args.first (c.into_condition.ensures (elaborated site.integers site.line x h) i)) in
+    subst (λ p. Answers (IsRead site h) (Ok v) (meaning.prefixed site.integers site.line (prefix_of p) c.args.sign c.args.first h x))
     (sym c.in-Negation.is) (
       made.inverse c.args.sign a.0,
       ap (λ r. r >>= λ e. Ok (made.inverse c.args.sign e)) a.1,
-      c.in_ok-inverse-in-Negation.ensures site.variables (tested (elaborated site.line a.0 h)) a.2,
+      c.in_ok-inverse-in-Negation.ensures site.variables (tested (elaborated site.integers site.line a.0 h)) a.2,
     )

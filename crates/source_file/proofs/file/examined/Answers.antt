@@ -17,7 +17,7 @@ returns-in-Whole-clause-whole c =
     c.in_ok-examine.ensures.found c.in-Whole.is
 
 pub returns-in-Unexpected-clause-fault : goal.returns-in-Unexpected-clause-fault
-returns-in-Unexpected-clause-fault c = λ n. inl (
+returns-in-Unexpected-clause-fault c = λ n integers. inl (
   c.in-Unexpected.at,
   found_scan c.in_ok-examine.field-0 (syntax.Unexpected c.in-Unexpected.at) c.in_ok-pieces.pieces.items c.as_slice.result.now
       (tokens_of c.args.text.now c.args.tokens.now) c.as_slice.ensures.value (c.in_ok-pieces.ensures c.args.text.now)
@@ -26,7 +26,7 @@ returns-in-Unexpected-clause-fault c = λ n. inl (
 )
 
 pub returns-in-Nested-clause-fault : goal.returns-in-Nested-clause-fault
-returns-in-Nested-clause-fault c = λ n. inr (inl (
+returns-in-Nested-clause-fault c = λ n integers. inr (inl (
   c.in-Nested.at,
   found_scan c.in_ok-examine.field-0 (syntax.Nested c.in-Nested.at) c.in_ok-pieces.pieces.items c.as_slice.result.now
       (tokens_of c.args.text.now c.args.tokens.now) c.as_slice.ensures.value (c.in_ok-pieces.ensures c.args.text.now)

@@ -9,10 +9,10 @@ read_in-requires-clause-tokens c = taken_in c.args.text.now c.args.tokens.now c.
 
 pub returns-clause-found : goal.returns-clause-found
 returns-clause-found c = λ front e.
-    front_found c.args.text.now (option_copied c.args.asked) c.args.tokens.now front (end_at (length c.args.text.now)) e
+    front_found c.args.integers c.args.text.now (option_copied c.args.asked) c.args.tokens.now front (end_at (length c.args.text.now)) e
     c.read_in.result c.read_in.ensures
 
 pub returns-clause-exact : goal.returns-clause-exact
 returns-clause-exact c = λ front e wanted m.
-    front_exact c.args.text.now (option_copied c.args.asked) c.args.tokens.now front (end_at (length c.args.text.now)) e
+    front_exact c.args.integers c.args.text.now (option_copied c.args.asked) c.args.tokens.now front (end_at (length c.args.text.now)) e
     c.read_in.result c.read_in.ensures wanted m

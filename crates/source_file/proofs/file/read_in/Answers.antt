@@ -58,6 +58,7 @@ returns-in-Some c =
     let h : AreFunctions text ts ds =
     subst (λ (x : List Defined). AreFunctions text ts x) (sym c.as_slice.ensures.value) c.in_ok-functions.ensures.found in
     let e : Some c.in-Some.function.now ≡ chosen asked ds = c.in-Some.ensures in
-    tells_too c.analysed.result (FunctionMeans text (tokens_of text c.item_of.result.now)) (Means text asked ts)
-    (λ r m. chosen_means text ts ds h asked (Some c.in-Some.function.now) r e
-    (subst (λ (x : List Token). FunctionMeans text (tokens_of text x) r) c.item_of.ensures m)) c.analysed.ensures
+    tells_too c.args.integers c.analysed.result (FunctionMeans c.args.integers text (tokens_of text c.item_of.result.now))
+    (Means c.args.integers text asked ts)
+    (λ r m. chosen_means text ts ds h c.args.integers asked (Some c.in-Some.function.now) r e
+    (subst (λ (x : List Token). FunctionMeans c.args.integers text (tokens_of text x) r) c.item_of.ensures m)) c.analysed.ensures

@@ -7,9 +7,11 @@ use Rattle.source_meaning.proofs.walk.Reads.{Reads, walk_reads}
 use Rattle.source_meaning.proofs.laws.functions_keep_runs.Goals as goal
 
 pub returns-clause-runs : goal.returns-clause-runs
-returns-clause-runs c = λ line f names body e.
-    runs-kept (length names) body (value_of (Reads f) (walk line f) (names, body) (walk_reads line f) e).good.0
+returns-clause-runs c = λ integers line f names body e.
+    runs-kept integers (length names) body
+    (value_of (Reads integers f) (walk integers line f) (names, body) (walk_reads integers line f) e).good.0
 
 pub returns-clause-checks : goal.returns-clause-checks
-returns-clause-checks c = λ line f names body e.
-    checks-kept (length names) body (value_of (Reads f) (walk line f) (names, body) (walk_reads line f) e).good.0
+returns-clause-checks c = λ integers line f names body e.
+    checks-kept integers (length names) body
+    (value_of (Reads integers f) (walk integers line f) (names, body) (walk_reads integers line f) e).good.0

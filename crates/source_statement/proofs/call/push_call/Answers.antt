@@ -14,6 +14,7 @@ use Rattle.source_meaning.specs.Statements.{is_end, is_error, one}
 use Rattle.source_reader.specs.Answers.{Answers}
 use Rattle.source_statement.specs.Pushed.{WasPushed}
 use Rattle.source_statement.proofs.parts.Pushed.{none_pushed, one_pushed, then_pushed}
+use Rattle.base_integers.specs.declared.integers.Integers.{Integers}
 use Rattle.source_statement.proofs.call.push_call.Goals as goal
 
 -- what is done, by what the name is
@@ -21,12 +22,13 @@ abbrev by_name : (at l : ℕ) → Bool → Bool → Statements
 by_name at l p q = if p then cons (never at l) (one (jump tree.returns l)) else (if q then one (jump tree.returns l) else nil)
 
 -- it was done
-abbrev Done : (n at l : ℕ) → State → State → List Stmt → List Stmt → Bool → Bool → Type 0
-Done n at l old new a b p q = Answers {A = Unit {0}} (λ _ st. (new ≡ st) × WasPushed n a b (by_name at l p q)) (Ok tt)
-    (counted at (nodes_in (core_in n (by_name at l p q))) old)
+abbrev Done : (integers : Integers) (n at l : ℕ) → State → State → List Stmt → List Stmt → Bool → Bool → Type 0
+Done integers n at l old new a b p q = Answers {A = Unit {0}} (λ _ st. (new ≡ st) × WasPushed integers n a b (by_name at l p q)) (Ok tt)
+    (counted at (nodes_in (core_in integers n (by_name at l p q))) old)
 
 pub returns-in_ok-push-2 : goal.returns-in_ok-push-2
 returns-in_ok-push-2 c =
+    let integers : Integers = c.args.reader.now.integers in
     let n : ℕ = c.args.reader.now.variables in
     let at : ℕ = c.args.first.now.at in
     let l : ℕ = line_at c.args.reader.now.text at in
@@ -36,22 +38,23 @@ returns-in_ok-push-2 c =
     let b : List Stmt = c.push-then-is_error.new.self.items in
     let h : c.is_error.result ≡ true = search rules in
     let e : true ≡ is_error x = sym h ∙ c.is_error.ensures ∙ ap is_error c.bytes.ensures.bytes in
-    let P : Bool → Type 0 = λ p. Done n at l c.args.known.now c.count.new.self a b p (is_end x) in
+    let P : Bool → Type 0 = λ p. Done integers n at l c.args.known.now c.count.new.self a b p (is_end x) in
     subst P e (
       c.count.new.self,
       c.in_ok-count.ensures,
       (
         refl,
-        then_pushed n a m b (one (never at l)) (one (jump tree.returns l))
-            (one_pushed n a m c.never.result (never at l) c.in_ok-push.ensures.items
-            (c.never.ensures n ∙ ap (λ l. core_of n (never at l)) c.line-line.ensures))
-            (one_pushed n m b (Return c.line-line.result) (jump tree.returns l) c.in_ok-push-2.ensures.items
+        then_pushed integers n a m b (one (never at l)) (one (jump tree.returns l))
+            (one_pushed integers n a m c.never.result (never at l) c.in_ok-push.ensures.items
+            (c.never.ensures integers n ∙ ap (λ l. core_of integers n (never at l)) c.line-line.ensures))
+            (one_pushed integers n m b (Return c.line-line.result) (jump tree.returns l) c.in_ok-push-2.ensures.items
             (ap (λ l. core.one (tree.jump tree.returns l)) c.line-line.ensures)),
       ),
     )
 
 pub returns-in_ok-push-3 : goal.returns-in_ok-push-3
 returns-in_ok-push-3 c =
+    let integers : Integers = c.args.reader.now.integers in
     let n : ℕ = c.args.reader.now.variables in
     let at : ℕ = c.args.first.now.at in
     let l : ℕ = line_at c.args.reader.now.text at in
@@ -62,19 +65,20 @@ returns-in_ok-push-3 c =
     let k : c.is_end.result ≡ true = search rules in
     let e : false ≡ is_error x = sym h ∙ c.is_error.ensures ∙ ap is_error c.bytes.ensures.bytes in
     let f : true ≡ is_end x = sym k ∙ c.is_end.ensures ∙ ap is_end c.bytes-else-is_error.ensures.bytes in
-    let P : Bool → Bool → Type 0 = λ p q. Done n at l c.args.known.now c.count-then-is_end.new.self a b p q in
+    let P : Bool → Bool → Type 0 = λ p q. Done integers n at l c.args.known.now c.count-then-is_end.new.self a b p q in
     subst (λ p. P p (is_end x)) e (subst (λ q. P false q) f (
       c.count-then-is_end.new.self,
       c.in_ok-count-2.ensures,
       (
         refl,
-        one_pushed n a b (Return c.line-line.result) (jump tree.returns l) c.in_ok-push-3.ensures.items
+        one_pushed integers n a b (Return c.line-line.result) (jump tree.returns l) c.in_ok-push-3.ensures.items
             (ap (λ l. core.one (tree.jump tree.returns l)) c.line-line.ensures),
       ),
     ))
 
 pub returns-in_ok-count-3 : goal.returns-in_ok-count-3
 returns-in_ok-count-3 c =
+    let integers : Integers = c.args.reader.now.integers in
     let n : ℕ = c.args.reader.now.variables in
     let at : ℕ = c.args.first.now.at in
     let l : ℕ = line_at c.args.reader.now.text at in
@@ -85,5 +89,5 @@ returns-in_ok-count-3 c =
     let k : c.is_end.result ≡ false = search rules in
     let e : false ≡ is_error x = sym h ∙ c.is_error.ensures ∙ ap is_error c.bytes.ensures.bytes in
     let f : false ≡ is_end x = sym k ∙ c.is_end.ensures ∙ ap is_end c.bytes-else-is_error.ensures.bytes in
-    let P : Bool → Bool → Type 0 = λ p q. Done n at l c.args.known.now now a a p q in
-    subst (λ p. P p (is_end x)) e (subst (λ q. P false q) f (now, c.in_ok-count-3.ensures, (refl, none_pushed n a)))
+    let P : Bool → Bool → Type 0 = λ p q. Done integers n at l c.args.known.now now a a p q in
+    subst (λ p. P p (is_end x)) e (subst (λ q. P false q) f (now, c.in_ok-count-3.ensures, (refl, none_pushed integers n a)))

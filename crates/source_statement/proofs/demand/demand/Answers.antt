@@ -21,25 +21,28 @@ use Rattle.source_statement.specs.Pushed.{WasPushed}
 use Rattle.source_change.specs.declared.conditions.Test.{Test}
 use Rattle.source_change.proofs.lists.Deeds.{length_deeds}
 use Rattle.source_change.proofs.results.Answered.{err_given, err_then, ok_then}
+use Rattle.base_integers.specs.declared.integers.Integers.{Integers}
 use Rattle.source_statement.proofs.demand.demand.Goals as goal
 
 -- the condition was read up to tokens
-abbrev Was : (n line : ℕ) → Reading → Reading → List Token → Test → Expression → Type 0
-Was n line old new ts t x = IsTest t (condition_of n line x) × (new ≡ at_tokens old ts)
+abbrev Was : (integers : Integers) (n line : ℕ) → Reading → Reading → List Token → Test → Expression → Type 0
+Was integers n line old new ts t x = IsTest t (condition_of integers n line x) × (new ≡ at_tokens old ts)
 
 -- what is read of a reading, where the statement begins at this place
 abbrev Tests : (k : State) (new : Reading) (ts : List Token) (e : Expr) → Result Test Stop → Reading → ℕ → Type 0
-Tests k new ts e r m a = Answers (Was m.variables (line_at m.text a) m new ts) r (read_condition (line_at m.text) m.variables k a e)
+Tests k new ts e r m a = Answers (Was m.integers m.variables (line_at m.text a) m new ts) r (read_condition m.integers
+    (line_at m.text) m.variables k a e)
 
 -- there are as many statements
-as_many : (n line at k m : ℕ) (d : g.Demand) (t : Test) (x : Expression) → IsTest t (condition_of n line x)
-    → k ≡ length t.prelude.items → nodes_in (core_of n (node_of d x at line)) ≡ length (condition_of n line x).prelude + m
-    → k + m ≡ nodes_in (core_of n (node_of d x at line))
-as_many n line at k m d t x s e h = ap (λ k. k + m) (e ∙ sym (length_deeds t.prelude.items) ∙ ap length s.prelude) ∙ sym h
+as_many : (integers : Integers) (n line at k m : ℕ) (d : g.Demand) (t : Test) (x : Expression) → IsTest t (condition_of integers n line x)
+    → k ≡ length t.prelude.items → nodes_in (core_of integers n (node_of d x at line)) ≡ length (condition_of integers n line x).prelude + m
+    → k + m ≡ nodes_in (core_of integers n (node_of d x at line))
+as_many integers n line at k m d t x s e h = ap (λ k. k + m) (e ∙ sym (length_deeds t.prelude.items) ∙ ap length s.prelude) ∙ sym h
 
 pub returns-in_err-test-clause-reads : goal.returns-in_err-test-clause-reads
 returns-in_err-test-clause-reads c = λ inside a b e d i rest gr f.
     let old : Reading = c.args.reader.now in
+    let integers : Integers = old.integers in
     let n : ℕ = old.variables in
     let line : ℕ → ℕ = line_at old.text in
     let st : State = c.args.known.now in
@@ -52,9 +55,9 @@ returns-in_err-test-clause-reads c = λ inside a b e d i rest gr f.
     let raw : P (at_tokens old us) c.at-at.result = subst (λ m. P m c.at-at.result) mid
     (c.in_err-test.ensures.reads b e d ts gr (ap (λ (r : Reading). r.ahead) mid)) in
     let q : P (at_tokens old us) a = subst (λ a. P (at_tokens old us) a) place raw in
-    err_then (Was n (line a) (at_tokens old us) c.parenthesised.new.reader ts) _ c.from_residual.result c.in_err-test.field-0.0
-    (read_condition line n st a e)
-    (λ x. counted a (nodes_in (core_of n (node_of k x a (line a)))) st >>= λ now. Ok (now, one (node_of k x a (line a))))
+    err_then (Was integers n (line a) (at_tokens old us) c.parenthesised.new.reader ts) _ c.from_residual.result c.in_err-test.field-0.0
+    (read_condition integers line n st a e)
+    (λ x. counted a (nodes_in (core_of integers n (node_of k x a (line a)))) st >>= λ now. Ok (now, one (node_of k x a (line a))))
     c.from_residual.ensures.1 q
 
 pub returns-in_err-take-clause-reads : goal.returns-in_err-take-clause-reads
@@ -73,6 +76,7 @@ overflow_add-len c = search rules
 pub returns-in_err-count-clause-reads : goal.returns-in_err-count-clause-reads
 returns-in_err-count-clause-reads c = λ inside a b e d i rest gr f.
     let old : Reading = c.args.reader.now in
+    let integers : Integers = old.integers in
     let n : ℕ = old.variables in
     let line : ℕ → ℕ = line_at old.text in
     let st : State = c.args.known.now in
@@ -86,21 +90,23 @@ returns-in_err-count-clause-reads c = λ inside a b e d i rest gr f.
     (c.in_ok-test.ensures.reads b e d ts gr (ap (λ (r : Reading). r.ahead) mid)) in
     let q : P (at_tokens old us) a = subst (λ a. P (at_tokens old us) a) place raw in
     let l : c.len.result ≡ length c.in_ok-test.test.prelude.items = search rules in
-    ok_then (Was n (line a) (at_tokens old us) c.parenthesised.new.reader ts) _ c.in_ok-test.test c.from_residual-in_err-count.result
-    (read_condition line n st a e)
-    (λ x. counted a (nodes_in (core_of n (node_of k x a (line a)))) st >>= λ now. Ok (now, one (node_of k x a (line a)))) q
+    ok_then (Was integers n (line a) (at_tokens old us) c.parenthesised.new.reader ts) _ c.in_ok-test.test
+    c.from_residual-in_err-count.result
+    (read_condition integers line n st a e)
+    (λ x. counted a (nodes_in (core_of integers n (node_of k x a (line a)))) st >>= λ now. Ok (now, one (node_of k x a (line a)))) q
     (λ x s. let G : ℕ → ℕ → Type 0 = λ a m. Gives {A = Unit {0}} (λ _. c.count.new.self) (Err c.in_err-count.field-0.0)
     (counted a m st) in
     err_given {A = Unit {0}} (λ _. c.count.new.self) _ c.from_residual-in_err-count.result c.in_err-count.field-0.0
-    (counted a (nodes_in (core_of n (node_of k x a (line a)))) st) (λ now. Ok (now, one (node_of k x a (line a))))
+    (counted a (nodes_in (core_of integers n (node_of k x a (line a)))) st) (λ now. Ok (now, one (node_of k x a (line a))))
     c.from_residual-in_err-count.ensures.1
-    (subst (λ m. G a m) (as_many n (line a) a c.len.result c.size.result k c.in_ok-test.test x s.0 l
-    (c.size.ensures.nodes n (line a) a x))
+    (subst (λ m. G a m) (as_many integers n (line a) a c.len.result c.size.result k c.in_ok-test.test x s.0 l
+    (c.size.ensures.nodes integers n (line a) a x))
     (subst (λ a. G a (c.len.result + c.size.result)) place c.in_err-count.ensures)))
 
 pub returns-clause-reads : goal.returns-clause-reads
 returns-clause-reads c = λ inside a b e d i rest gr f.
     let old : Reading = c.args.reader.now in
+    let integers : Integers = old.integers in
     let n : ℕ = old.variables in
     let line : ℕ → ℕ = line_at old.text in
     let st : State = c.args.known.now in
@@ -119,16 +125,16 @@ returns-clause-reads c = λ inside a b e d i rest gr f.
     let s = q.2 in
     let end : c.take.new.self ≡ at_tokens old rest = c.in_ok-take.ensures.2 ∙ ap passed s.1 in
     let G : ℕ → ℕ → Type 0 = λ a m. Gives {A = Unit {0}} (λ _. now) (Ok tt) (counted a m st) in
-    let given : G a (nodes_in (core_of n (node_of k x a (line a)))) =
-    subst (λ m. G a m) (as_many n (line a) a c.len.result c.size.result k c.in_ok-test.test x s.0 l
-    (c.size.ensures.nodes n (line a) a x))
+    let given : G a (nodes_in (core_of integers n (node_of k x a (line a)))) =
+    subst (λ m. G a m) (as_many integers n (line a) a c.len.result c.size.result k c.in_ok-test.test x s.0 l
+    (c.size.ensures.nodes integers n (line a) a x))
     (subst (λ a. G a (c.len.result + c.size.result)) place c.in_ok-count.ensures) in
     let lined : c.line.result ≡ line a = c.line.ensures ∙ ap₂ (λ (r : Reading) k. line_at r.text k) end place in
-    let W : ℕ → ℕ → Type 0 = λ a l. WasPushed n c.args.out.now.items c.push_demand.new.out.items (one (node_of k x a l)) in
-    let T : ℕ → Type 0 = λ l. IsTest c.in_ok-test.test (condition_of n l x) in
-    let pushed : W c.at-at.result c.line.result = c.in_ok-push_demand.ensures n x (subst T (sym lined) s.0) in (
+    let W : ℕ → ℕ → Type 0 = λ a l. WasPushed integers n c.args.out.now.items c.push_demand.new.out.items (one (node_of k x a l)) in
+    let T : ℕ → Type 0 = λ l. IsTest c.in_ok-test.test (condition_of integers n l x) in
+    let pushed : W c.at-at.result c.line.result = c.in_ok-push_demand.ensures integers n x (subst T (sym lined) s.0) in (
       (now, one (node_of k x a (line a))),
-      ap (λ v. v >>= λ x. counted a (nodes_in (core_of n (node_of k x a (line a)))) st >>= λ now. Ok (
+      ap (λ v. v >>= λ x. counted a (nodes_in (core_of integers n (node_of k x a (line a)))) st >>= λ now. Ok (
         now,
         one (node_of k x a
             (line a)),

@@ -12,20 +12,20 @@ use Rattle.source_statement.proofs.demand.size.Goals as goal
 pub returns-in-Assumes : goal.returns-in-Assumes
 returns-in-Assumes c = record {
   few = omega arith;
-  nodes = λ n line at e.
-      let P : code_demand.Demand → Type 0 = λ d. nodes_in (core_of n (node_of (demand_of d) e at line))
-      ≡ length (condition_of n line e).prelude + 1 in
-      subst P (sym c.in-Assumes.is) (nodes_behind (condition_of n line e).prelude
-      (one (tree.assume (condition_of n line e).condition line)));
+  nodes = λ integers n line at e.
+      let P : code_demand.Demand → Type 0 = λ d. nodes_in (core_of integers n (node_of (demand_of d) e at line))
+      ≡ length (condition_of integers n line e).prelude + 1 in
+      subst P (sym c.in-Assumes.is) (nodes_behind (condition_of integers n line e).prelude
+      (one (tree.assume (condition_of integers n line e).condition line)));
 }
 
 pub returns-in-Asserts : goal.returns-in-Asserts
 returns-in-Asserts c = record {
   few = omega arith;
-  nodes = λ n line at e.
-      let P : code_demand.Demand → Type 0 = λ d. nodes_in (core_of n (node_of (demand_of d) e at line))
-      ≡ length (condition_of n line e).prelude + 2 in
-      subst P (sym c.in-Asserts.is) (nodes_behind (condition_of n line e).prelude
-      (tree.cons (tree.check record { kind = Assert; at = at } (condition_of n line e).condition line)
-      (one (tree.only_where (condition_of n line e).condition line))));
+  nodes = λ integers n line at e.
+      let P : code_demand.Demand → Type 0 = λ d. nodes_in (core_of integers n (node_of (demand_of d) e at line))
+      ≡ length (condition_of integers n line e).prelude + 2 in
+      subst P (sym c.in-Asserts.is) (nodes_behind (condition_of integers n line e).prelude
+      (tree.cons (tree.check record { kind = Assert; at = at } (condition_of integers n line e).condition line)
+      (one (tree.only_where (condition_of integers n line e).condition line))));
 }

@@ -19,16 +19,18 @@ returns c = λ f h v.
       text = c.args.text.now;
       ahead = tokens_of c.args.text.now c.args.tokens.now;
       variables = c.args.variables;
+      integers = c.args.integers;
     } in
     let e : c.new-reader.result ≡ start = c.new-reader.ensures in
-    let P : Reading → Type 0 = λ m. Answers (λ (w : Whole) r. IsWhole (width_of f) w r) (Ok c.in_ok-whole.whole)
-    (walk (line_at m.text) f) in
+    let P : Reading → Type 0 = λ m. Answers (λ (w : Whole) r. IsWhole m.integers (width_of f) w r) (Ok c.in_ok-whole.whole)
+    (walk m.integers (line_at m.text) f) in
     let a : P start = subst P e (c.in_ok-whole.ensures f h.good (ap (λ (r : Reading). r.ahead) e ∙ sym h.spelled)
     (ap (λ (r : Reading). r.variables) e ∙ v)) in
-    let many : length a.0.0 ≡ width_of f = c.names_are_resolved.ensures.behind (line_at c.args.text.now) f a.0.0 a.0.1 a.1 in (
+    let many : length a.0.0 ≡ width_of f = c.names_are_resolved.ensures.behind c.args.integers
+    (line_at c.args.text.now) f a.0.0 a.0.1 a.1 in (
       a.0,
       a.1,
-      (a.2.0, c.new.ensures ∙ a.2.1 ∙ ap (λ n. core_in n a.0.1) (sym many)),
+      (a.2.0, c.new.ensures ∙ a.2.1 ∙ ap (λ n. core_in c.args.integers n a.0.1) (sym many)),
     )
 
 pub invariant_of-result : goal.invariant_of-result
@@ -40,18 +42,20 @@ invariant_of-result c =
       text = c.args.text.now;
       ahead = tokens_of c.args.text.now c.args.tokens.now;
       variables = c.args.variables;
+      integers = c.args.integers;
     } in
     let e : c.new-reader.result ≡ start = c.new-reader.ensures in
-    let P : Reading → Type 0 = λ m. Answers (λ (w : Whole) r. IsWhole (width_of f) w r) (Ok c.in_ok-whole.whole)
-    (walk (line_at m.text) f) in
+    let P : Reading → Type 0 = λ m. Answers (λ (w : Whole) r. IsWhole m.integers (width_of f) w r) (Ok c.in_ok-whole.whole)
+    (walk m.integers (line_at m.text) f) in
     let a : P start = subst P e (c.in_ok-whole.ensures f h.good (ap (λ (r : Reading). r.ahead) e ∙ sym h.spelled)
     (ap (λ (r : Reading). r.variables) e ∙ v)) in
     let line : ℕ → ℕ = line_at c.args.text.now in
-    let many : length a.0.0 ≡ width_of f = c.names_are_resolved.ensures.behind line f a.0.0 a.0.1 a.1 in
-    let body : c.new.result ≡ core_in (length a.0.0) a.0.1 = c.new.ensures ∙ a.2.1 ∙ ap (λ n. core_in n a.0.1) (sym many) in
+    let many : length a.0.0 ≡ width_of f = c.names_are_resolved.ensures.behind c.args.integers line f a.0.0 a.0.1 a.1 in
+    let body : c.new.result ≡ core_in c.args.integers (length a.0.0) a.0.1 = c.new.ensures ∙ a.2.1
+    ∙ ap (λ n. core_in c.args.integers n a.0.1) (sym many) in
     let Q : List (List ℕ) → tree.Statements → Type 0 = λ xs b. IsTrue (is_program (length xs) b) in
     record {
       within_limits = subst (λ b. Q c.in_ok-whole.whole.names b) (sym body)
-          (subst (λ xs. Q xs (core_in (length a.0.0) a.0.1)) (sym a.2.0)
-          (c.functions_are_within_limits.ensures line f a.0.0 a.0.1 a.1));
+          (subst (λ xs. Q xs (core_in c.args.integers (length a.0.0) a.0.1)) (sym a.2.0)
+          (c.functions_are_within_limits.ensures c.args.integers line f a.0.0 a.0.1 a.1));
     }

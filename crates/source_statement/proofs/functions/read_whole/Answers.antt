@@ -24,15 +24,18 @@ use Rattle.source_statement.specs.Whole.{IsWhole}
 use Rattle.source_statement.specs.declared.functions.Whole.{Whole}
 use Rattle.source_statement.proofs.parts.Functions.{no_variables, none_here, some_here, some_variables, spelled_so, walked}
 use Rattle.source_statement.proofs.parts.Pushed.{then_pushed}
+use Rattle.base_integers.specs.declared.integers.Integers.{Integers}
 use Rattle.source_statement.proofs.functions.read_whole.Goals as goal
 
 pub returns : goal.returns
 returns c = λ f g e v. on f g e v where
   on : (f : Function) → Good f → c.args.reader.now.ahead ≡ spell f → c.args.reader.now.variables ≡ width_of f
-      → Answers (λ (w : Whole) r. IsWhole (width_of f) w r) (Ok (record { names = c.in_ok-names.names; list = c.items.new.out }))
-      (walk (line_at c.args.reader.now.text) f)
+      → Answers (λ (w : Whole) r. IsWhole c.args.reader.now.integers (width_of f) w r) (Ok
+      (record { names = c.in_ok-names.names; list = c.items.new.out }))
+      (walk c.args.reader.now.integers (line_at c.args.reader.now.text) f)
   on (function ss x a ps b i is d) g e v =
       let old : Reading = c.args.reader.now in
+      let integers : Integers = old.integers in
       let line : ℕ → ℕ = line_at old.text in
       let n : ℕ = old.variables in
       let o₁ : List Stmt = c.parameters.new.out.items in
@@ -42,36 +45,38 @@ returns c = λ f g e v. on f g e v where
       let ts₂ : List Token = token left_brace i ∷ ts₃ in
       let ts₁ : List Token = token left_paren a ∷ onto_parameters ps (token right_paren b ∷ ts₂) in
       let mid₁ : c.pass_name.new.reader ≡ at_tokens old ts₁ = c.pass_name.ensures ss x ts₁ (e ∙ spelled_so ss x a ps b i is d) in
-      let P : Reading → State → Type 0 = λ m k. Answers {A = Unit {0}} (λ _ r. WasRead m.variables ts₂ m c.parameters.new.reader
-      c.parameters.new.known c.new-list.result.items o₁ r) (Ok tt) (read_parameters (line_at m.text) k ps) in
+      let P : Reading → State → Type 0 = λ m k. Answers {A = Unit {0}} (λ _ r. WasRead m.integers m.variables ts₂ m c.parameters.new.reader
+      c.parameters.new.known c.new-list.result.items o₁ r) (Ok tt) (read_parameters m.integers (line_at m.text) k ps) in
       let p : P (at_tokens old ts₁) start_state = subst (λ k. P (at_tokens old ts₁) k) c.new-known.ensures
       (subst (λ m. P m c.new-known.result) mid₁ (c.in_ok-parameters.ensures.reads a ps b ts₂ (ap (λ (r : Reading). r.ahead) mid₁))) in
       let none : c.new-list.result.items ≡ [] = search rules in
       let mid₂ : c.take.new.self ≡ at_tokens old ts₃ = c.in_ok-take.ensures.2 ∙ ap passed p.2.reader in
-      let Q : Reading → State → Type 0 = λ m k. Answers {A = Unit {0}} (λ _ r. WasRead m.variables (token right_brace d ∷ []) m
-      c.items.new.reader c.items.new.known o₁ o₂ r) (Ok tt) (read_items (line_at m.text) m.variables false k is) in
+      let Q : Reading → State → Type 0 = λ m k. Answers {A = Unit {0}} (λ _ r. WasRead m.integers m.variables (token right_brace d ∷ []) m
+      c.items.new.reader c.items.new.known o₁ o₂ r) (Ok tt) (read_items m.integers (line_at m.text) m.variables false k is) in
       let q : Q (at_tokens old ts₃) p.0.0 = subst (λ k. Q (at_tokens old ts₃) k) p.2.known
       (subst (λ m. Q m c.parameters.new.known) mid₂ (c.in_ok-items.ensures.reads is d [] g (ap (λ (r : Reading). r.ahead) mid₂))) in
-      let N : ℕ → Type 0 = λ n. read_items line n false p.0.0 is ≡ Ok q.0 in
+      let N : ℕ → Type 0 = λ n. read_items integers line n false p.0.0 is ≡ Ok q.0 in
       let met : names ≡ reverse (variables_of q.0.0.names) = c.in_ok-names.ensures
       ∙ ap (λ (k : State). reverse (variables_of k.names)) q.2.known in
       let body : Statements = followed_by p.0.1 q.0.1 in
       let some : names ≡ [] → ⊥ = λ h. some_here c.as_slice.result.now c.if-is_empty.ensures (c.as_slice.ensures ∙ h) in
-      let first : WasPushed n [] o₁ p.0.1 = p.2.out ∙ ap (λ o. core.followed_by (statements_of o) (core_in n p.0.1)) none in
-      let C : ℕ → Type 0 = λ n. statements_of o₂ ≡ core_in n body in
-      let all : C n = then_pushed n [] o₁ o₂ p.0.1 q.0.1 first q.2.out in (
+      let first : WasPushed integers n [] o₁ p.0.1 = p.2.out ∙ ap (λ o. core.followed_by (statements_of o)
+      (core_in integers n p.0.1)) none in
+      let C : ℕ → Type 0 = λ n. statements_of o₂ ≡ core_in integers n body in
+      let all : C n = then_pushed integers n [] o₁ o₂ p.0.1 q.0.1 first q.2.out in (
         (names, body),
-        walked line ss x a ps b i is d p.0 q.0 p.1 (subst N v q.1) ∙ some_variables line q.0.0 body names met some,
+        walked integers line ss x a ps b i is d p.0 q.0 p.1 (subst N v q.1) ∙ some_variables integers line q.0.0 body names met some,
         (refl, subst C v all),
       )
 
 pub returns-in_err-parameters : goal.returns-in_err-parameters
 returns-in_err-parameters c = λ f g e v. on f g e v where
   on : (f : Function) → Good f → c.args.reader.now.ahead ≡ spell f → c.args.reader.now.variables ≡ width_of f
-      → Answers (λ (w : Whole) r. IsWhole (width_of f) w r) c.from_residual.result
-      (walk (line_at c.args.reader.now.text) f)
+      → Answers (λ (w : Whole) r. IsWhole c.args.reader.now.integers (width_of f) w r) c.from_residual.result
+      (walk c.args.reader.now.integers (line_at c.args.reader.now.text) f)
   on (function ss x a ps b i is d) g e v =
       let old : Reading = c.args.reader.now in
+      let integers : Integers = old.integers in
       let line : ℕ → ℕ = line_at old.text in
       let n : ℕ = old.variables in
       let o₁ : List Stmt = c.parameters.new.out.items in
@@ -79,24 +84,26 @@ returns-in_err-parameters c = λ f g e v. on f g e v where
       let ts₂ : List Token = token left_brace i ∷ ts₃ in
       let ts₁ : List Token = token left_paren a ∷ onto_parameters ps (token right_paren b ∷ ts₂) in
       let mid₁ : c.pass_name.new.reader ≡ at_tokens old ts₁ = c.pass_name.ensures ss x ts₁ (e ∙ spelled_so ss x a ps b i is d) in
-      let P : Reading → State → Type 0 = λ m k. Answers {A = Unit {0}} (λ _ r. WasRead m.variables ts₂ m c.parameters.new.reader
-      c.parameters.new.known c.new-list.result.items o₁ r) (Err c.in_err-parameters.field-0.0) (read_parameters (line_at m.text) k ps) in
+      let P : Reading → State → Type 0 = λ m k. Answers {A = Unit {0}} (λ _ r. WasRead m.integers m.variables ts₂ m c.parameters.new.reader
+      c.parameters.new.known c.new-list.result.items o₁ r) (Err c.in_err-parameters.field-0.0) (read_parameters m.integers
+      (line_at m.text) k ps) in
       let p : P (at_tokens old ts₁) start_state = subst (λ k. P (at_tokens old ts₁) k) c.new-known.ensures
       (subst (λ m. P m c.new-known.result) mid₁ (c.in_err-parameters.ensures.reads a ps b ts₂ (ap (λ (r : Reading). r.ahead) mid₁))) in
-      err_then {A = Unit {0}} (λ _ r. WasRead n ts₂
+      err_then {A = Unit {0}} (λ _ r. WasRead integers n ts₂
       (at_tokens old ts₁) c.parameters.new.reader c.parameters.new.known c.new-list.result.items o₁ r)
-      (λ (w : Whole) r. IsWhole (width_of (function ss x a ps b i is d)) w r) c.from_residual.result c.in_err-parameters.field-0.0
-      (read_parameters line start_state ps)
-      (λ p. read_items line (width_of (function ss x a ps b i is d)) false p.0 is
-      >>= λ r. function_of line r.0 (followed_by p.1 r.1)) c.from_residual.ensures.1 p
+      (λ (w : Whole) r. IsWhole integers (width_of (function ss x a ps b i is d)) w r) c.from_residual.result c.in_err-parameters.field-0.0
+      (read_parameters integers line start_state ps)
+      (λ p. read_items integers line (width_of (function ss x a ps b i is d)) false p.0 is
+      >>= λ r. function_of integers line r.0 (followed_by p.1 r.1)) c.from_residual.ensures.1 p
 
 pub returns-in_err-take : goal.returns-in_err-take
 returns-in_err-take c = λ f g e v. on f g e v where
   on : (f : Function) → Good f → c.args.reader.now.ahead ≡ spell f → c.args.reader.now.variables ≡ width_of f
-      → Answers (λ (w : Whole) r. IsWhole (width_of f) w r) c.from_residual-in_err-take.result
-      (walk (line_at c.args.reader.now.text) f)
+      → Answers (λ (w : Whole) r. IsWhole c.args.reader.now.integers (width_of f) w r) c.from_residual-in_err-take.result
+      (walk c.args.reader.now.integers (line_at c.args.reader.now.text) f)
   on (function ss x a ps b i is d) g e v =
       let old : Reading = c.args.reader.now in
+      let integers : Integers = old.integers in
       let line : ℕ → ℕ = line_at old.text in
       let n : ℕ = old.variables in
       let o₁ : List Stmt = c.parameters.new.out.items in
@@ -104,8 +111,8 @@ returns-in_err-take c = λ f g e v. on f g e v where
       let ts₂ : List Token = token left_brace i ∷ ts₃ in
       let ts₁ : List Token = token left_paren a ∷ onto_parameters ps (token right_paren b ∷ ts₂) in
       let mid₁ : c.pass_name.new.reader ≡ at_tokens old ts₁ = c.pass_name.ensures ss x ts₁ (e ∙ spelled_so ss x a ps b i is d) in
-      let P : Reading → State → Type 0 = λ m k. Answers {A = Unit {0}} (λ _ r. WasRead m.variables ts₂ m c.parameters.new.reader
-      c.parameters.new.known c.new-list.result.items o₁ r) (Ok tt) (read_parameters (line_at m.text) k ps) in
+      let P : Reading → State → Type 0 = λ m k. Answers {A = Unit {0}} (λ _ r. WasRead m.integers m.variables ts₂ m c.parameters.new.reader
+      c.parameters.new.known c.new-list.result.items o₁ r) (Ok tt) (read_parameters m.integers (line_at m.text) k ps) in
       let p : P (at_tokens old ts₁) start_state = subst (λ k. P (at_tokens old ts₁) k) c.new-known.ensures
       (subst (λ m. P m c.new-known.result) mid₁ (c.in_ok-parameters.ensures.reads a ps b ts₂ (ap (λ (r : Reading). r.ahead) mid₁))) in
       absurd (c.in_err-take.ensures.0 (ap (λ (r : Reading). mark_in (first_kind r.ahead)) p.2.reader))
@@ -113,10 +120,11 @@ returns-in_err-take c = λ f g e v. on f g e v where
 pub returns-in_err-items : goal.returns-in_err-items
 returns-in_err-items c = λ f g e v. on f g e v where
   on : (f : Function) → Good f → c.args.reader.now.ahead ≡ spell f → c.args.reader.now.variables ≡ width_of f
-      → Answers (λ (w : Whole) r. IsWhole (width_of f) w r) c.from_residual-in_err-items.result
-      (walk (line_at c.args.reader.now.text) f)
+      → Answers (λ (w : Whole) r. IsWhole c.args.reader.now.integers (width_of f) w r) c.from_residual-in_err-items.result
+      (walk c.args.reader.now.integers (line_at c.args.reader.now.text) f)
   on (function ss x a ps b i is d) g e v =
       let old : Reading = c.args.reader.now in
+      let integers : Integers = old.integers in
       let line : ℕ → ℕ = line_at old.text in
       let n : ℕ = old.variables in
       let o₁ : List Stmt = c.parameters.new.out.items in
@@ -125,35 +133,37 @@ returns-in_err-items c = λ f g e v. on f g e v where
       let ts₂ : List Token = token left_brace i ∷ ts₃ in
       let ts₁ : List Token = token left_paren a ∷ onto_parameters ps (token right_paren b ∷ ts₂) in
       let mid₁ : c.pass_name.new.reader ≡ at_tokens old ts₁ = c.pass_name.ensures ss x ts₁ (e ∙ spelled_so ss x a ps b i is d) in
-      let P : Reading → State → Type 0 = λ m k. Answers {A = Unit {0}} (λ _ r. WasRead m.variables ts₂ m c.parameters.new.reader
-      c.parameters.new.known c.new-list.result.items o₁ r) (Ok tt) (read_parameters (line_at m.text) k ps) in
+      let P : Reading → State → Type 0 = λ m k. Answers {A = Unit {0}} (λ _ r. WasRead m.integers m.variables ts₂ m c.parameters.new.reader
+      c.parameters.new.known c.new-list.result.items o₁ r) (Ok tt) (read_parameters m.integers (line_at m.text) k ps) in
       let p : P (at_tokens old ts₁) start_state = subst (λ k. P (at_tokens old ts₁) k) c.new-known.ensures
       (subst (λ m. P m c.new-known.result) mid₁ (c.in_ok-parameters.ensures.reads a ps b ts₂ (ap (λ (r : Reading). r.ahead) mid₁))) in
       let mid₂ : c.take.new.self ≡ at_tokens old ts₃ = c.in_ok-take.ensures.2 ∙ ap passed p.2.reader in
-      let Q : Reading → State → Type 0 = λ m k. Answers {A = Unit {0}} (λ _ r. WasRead m.variables (token right_brace d ∷ []) m
-      c.items.new.reader c.items.new.known o₁ o₂ r) (Err c.in_err-items.field-0.0) (read_items (line_at m.text) m.variables false k is) in
+      let Q : Reading → State → Type 0 = λ m k. Answers {A = Unit {0}} (λ _ r. WasRead m.integers m.variables (token right_brace d ∷ []) m
+      c.items.new.reader c.items.new.known o₁ o₂ r) (Err c.in_err-items.field-0.0) (read_items m.integers
+      (line_at m.text) m.variables false k is) in
       let q : Q (at_tokens old ts₃) p.0.0 = subst (λ k. Q (at_tokens old ts₃) k) p.2.known
       (subst (λ m. Q m c.parameters.new.known) mid₂ (c.in_err-items.ensures.reads is d [] g (ap (λ (r : Reading). r.ahead) mid₂))) in
       let w : ℕ = width_of (function ss x a ps b i is d) in
-      let put : State × Statements → Result (List (List ℕ) × Statements) FunctionFault = λ r. function_of line r.0
+      let put : State × Statements → Result (List (List ℕ) × Statements) FunctionFault = λ r. function_of integers line r.0
       (followed_by p.0.1 r.1) in
-      let N : ℕ → Type 0 = λ n. Answers {A = Unit {0}} (λ _ r. WasRead n (token right_brace d ∷ []) (at_tokens old ts₃)
-      c.items.new.reader c.items.new.known o₁ o₂ r) (Err c.in_err-items.field-0.0) (read_items line n false p.0.0 is) in
-      let W : Result (List (List ℕ) × Statements) FunctionFault → Type 0 = λ t. Answers (λ (w : Whole) r. IsWhole
+      let N : ℕ → Type 0 = λ n. Answers {A = Unit {0}} (λ _ r. WasRead integers n (token right_brace d ∷ []) (at_tokens old ts₃)
+      c.items.new.reader c.items.new.known o₁ o₂ r) (Err c.in_err-items.field-0.0) (read_items integers line n false p.0.0 is) in
+      let W : Result (List (List ℕ) × Statements) FunctionFault → Type 0 = λ t. Answers (λ (w : Whole) r. IsWhole integers
       (width_of (function ss x a ps b i is d)) w r) c.from_residual-in_err-items.result t in
-      subst W (sym (ap (λ t. t >>= (λ p. read_items line (width_of (function ss x a ps b i is d)) false p.0 is
-      >>= λ r. function_of line r.0 (followed_by p.1 r.1))) p.1))
-      (err_then {A = Unit {0}} (λ _ r. WasRead w (token right_brace d ∷ []) (at_tokens old ts₃)
-      c.items.new.reader c.items.new.known o₁ o₂ r) (λ (w : Whole) r. IsWhole (width_of (function ss x a ps b i is d)) w r)
-      c.from_residual-in_err-items.result c.in_err-items.field-0.0 (read_items line w false p.0.0 is) put
+      subst W (sym (ap (λ t. t >>= (λ p. read_items integers line (width_of (function ss x a ps b i is d)) false p.0 is
+      >>= λ r. function_of integers line r.0 (followed_by p.1 r.1))) p.1))
+      (err_then {A = Unit {0}} (λ _ r. WasRead integers w (token right_brace d ∷ []) (at_tokens old ts₃)
+      c.items.new.reader c.items.new.known o₁ o₂ r) (λ (w : Whole) r. IsWhole integers (width_of (function ss x a ps b i is d)) w r)
+      c.from_residual-in_err-items.result c.in_err-items.field-0.0 (read_items integers line w false p.0.0 is) put
       c.from_residual-in_err-items.ensures.1 (subst N v q))
 
 pub returns-then-is_empty : goal.returns-then-is_empty
 returns-then-is_empty c = λ f g e v m. on f g e v where
   on : (f : Function) → Good f → c.args.reader.now.ahead ≡ spell f → c.args.reader.now.variables ≡ width_of f
-      → walk (line_at c.args.reader.now.text) f ≡ Err NoVariables
+      → walk c.args.reader.now.integers (line_at c.args.reader.now.text) f ≡ Err NoVariables
   on (function ss x a ps b i is d) g e v =
       let old : Reading = c.args.reader.now in
+      let integers : Integers = old.integers in
       let line : ℕ → ℕ = line_at old.text in
       let n : ℕ = old.variables in
       let o₁ : List Stmt = c.parameters.new.out.items in
@@ -163,18 +173,18 @@ returns-then-is_empty c = λ f g e v m. on f g e v where
       let ts₂ : List Token = token left_brace i ∷ ts₃ in
       let ts₁ : List Token = token left_paren a ∷ onto_parameters ps (token right_paren b ∷ ts₂) in
       let mid₁ : c.pass_name.new.reader ≡ at_tokens old ts₁ = c.pass_name.ensures ss x ts₁ (e ∙ spelled_so ss x a ps b i is d) in
-      let P : Reading → State → Type 0 = λ m k. Answers {A = Unit {0}} (λ _ r. WasRead m.variables ts₂ m c.parameters.new.reader
-      c.parameters.new.known c.new-list.result.items o₁ r) (Ok tt) (read_parameters (line_at m.text) k ps) in
+      let P : Reading → State → Type 0 = λ m k. Answers {A = Unit {0}} (λ _ r. WasRead m.integers m.variables ts₂ m c.parameters.new.reader
+      c.parameters.new.known c.new-list.result.items o₁ r) (Ok tt) (read_parameters m.integers (line_at m.text) k ps) in
       let p : P (at_tokens old ts₁) start_state = subst (λ k. P (at_tokens old ts₁) k) c.new-known.ensures
       (subst (λ m. P m c.new-known.result) mid₁ (c.in_ok-parameters.ensures.reads a ps b ts₂ (ap (λ (r : Reading). r.ahead) mid₁))) in
       let mid₂ : c.take.new.self ≡ at_tokens old ts₃ = c.in_ok-take.ensures.2 ∙ ap passed p.2.reader in
-      let Q : Reading → State → Type 0 = λ m k. Answers {A = Unit {0}} (λ _ r. WasRead m.variables (token right_brace d ∷ []) m
-      c.items.new.reader c.items.new.known o₁ o₂ r) (Ok tt) (read_items (line_at m.text) m.variables false k is) in
+      let Q : Reading → State → Type 0 = λ m k. Answers {A = Unit {0}} (λ _ r. WasRead m.integers m.variables (token right_brace d ∷ []) m
+      c.items.new.reader c.items.new.known o₁ o₂ r) (Ok tt) (read_items m.integers (line_at m.text) m.variables false k is) in
       let q : Q (at_tokens old ts₃) p.0.0 = subst (λ k. Q (at_tokens old ts₃) k) p.2.known
       (subst (λ m. Q m c.parameters.new.known) mid₂ (c.in_ok-items.ensures.reads is d [] g (ap (λ (r : Reading). r.ahead) mid₂))) in
-      let N : ℕ → Type 0 = λ n. read_items line n false p.0.0 is ≡ Ok q.0 in
+      let N : ℕ → Type 0 = λ n. read_items integers line n false p.0.0 is ≡ Ok q.0 in
       let met : names ≡ reverse (variables_of q.0.0.names) = c.in_ok-names.ensures
       ∙ ap (λ (k : State). reverse (variables_of k.names)) q.2.known in
-      walked line ss x a ps b i is d p.0 q.0 p.1 (subst N v q.1)
-      ∙ no_variables line q.0.0 (followed_by p.0.1 q.0.1) names met
+      walked integers line ss x a ps b i is d p.0 q.0 p.1 (subst N v q.1)
+      ∙ no_variables integers line q.0.0 (followed_by p.0.1 q.0.1) names met
       (sym c.as_slice.ensures ∙ none_here c.as_slice.result.now c.if-is_empty.ensures)

@@ -23,17 +23,19 @@ returns-in_ok-push_deeds-in_default c = record {
   shorter = c.in_ok-deeds-in_default.ensures.shorter;
 } where
   on : (f : ForFirst) (d : ℕ) (rest : List Token) → GoodFirst f → c.args.reader.now.ahead ≡ onto_first f (token semicolon d ∷ rest)
-      → Answers {A = Unit {0}} (λ _ r. WasRead c.args.reader.now.variables (token semicolon d ∷ rest) c.args.reader.now
+      → Answers {A = Unit {0}} (λ _ r. WasRead c.args.reader.now.integers c.args.reader.now.variables
+      (token semicolon d ∷ rest) c.args.reader.now
       c.updates.new.reader c.updates.new.known c.args.out.now.items c.push_deeds.new.out.items r) (Ok tt)
-      (read_first (line_at c.args.reader.now.text) c.args.reader.now.variables c.args.known.now f)
+      (read_first c.args.reader.now.integers (line_at c.args.reader.now.text) c.args.reader.now.variables c.args.known.now f)
   on (declared_first a xs) d rest g e = absurd (c.in_default.not-Int (says_int c.coming.result
       (c.coming.ensures ∙ ap (λ ts. start_in (first_kind ts)) e)))
   on (updated_first us) d rest g e =
-      ok_then (λ (v : Vec Deed Global) r. WereChanged c.args.reader.now.variables (token semicolon d ∷ rest) c.args.reader.now
+      ok_then (λ (v : Vec Deed Global) r. WereChanged c.args.reader.now.integers c.args.reader.now.variables
+      (token semicolon d ∷ rest) c.args.reader.now
       c.updates.new.reader c.updates.new.known [] v.items r)
-      (λ (u : Unit {0}) r. WasRead c.args.reader.now.variables (token semicolon d ∷ rest) c.args.reader.now
+      (λ (u : Unit {0}) r. WasRead c.args.reader.now.integers c.args.reader.now.variables (token semicolon d ∷ rest) c.args.reader.now
       c.updates.new.reader c.updates.new.known c.args.out.now.items c.push_deeds.new.out.items r) c.in_ok-deeds-in_default.deeds (Ok tt)
-      (read_updates (line_at c.args.reader.now.text) c.args.reader.now.variables c.args.known.now us)
+      (read_updates c.args.reader.now.integers (line_at c.args.reader.now.text) c.args.reader.now.variables c.args.known.now us)
       (λ r. Ok (r.0, as_statements r.1))
       (c.in_ok-deeds-in_default.ensures.reads us (token semicolon d ∷ rest) g e tt)
       (λ r w. (
@@ -41,7 +43,7 @@ returns-in_ok-push_deeds-in_default c = record {
         refl,
         record {
           known = w.known;
-          out = changes_pushed c.args.reader.now.variables c.args.out.now.items c.push_deeds.new.out.items
+          out = changes_pushed c.args.reader.now.integers c.args.reader.now.variables c.args.out.now.items c.push_deeds.new.out.items
               (deeds_of c.in_ok-deeds-in_default.deeds.items) r.1 c.in_ok-push_deeds-in_default.ensures w.deeds;
           reader = w.reader;
         },

@@ -17,14 +17,15 @@ use Rattle.source_statement.proofs.head.for_test.Goals as goal
 pub returns-in-Semicolon-clause-reads : goal.returns-in-Semicolon-clause-reads
 returns-in-Semicolon-clause-reads c = λ t d rest g e. on t d rest e where
   on : (t : Optional) (d : ℕ) (rest : List Token) → c.args.reader.now.ahead ≡ onto_optional t (token semicolon d ∷ rest)
-      → Answers (λ (r : Test) x. IsTest r (condition_of c.args.reader.now.variables (line_at c.args.reader.now.text c.args.at) x)
+      → Answers (λ (r : Test) x. IsTest r (condition_of c.args.reader.now.integers c.args.reader.now.variables
+      (line_at c.args.reader.now.text c.args.at) x)
       × (c.args.reader.now ≡ at_tokens c.args.reader.now (token semicolon d ∷ rest))) (Ok c.always.result)
-      (read_test (line_at c.args.reader.now.text) c.args.reader.now.variables c.args.known.now c.args.at t)
+      (read_test c.args.reader.now.integers (line_at c.args.reader.now.text) c.args.reader.now.variables c.args.known.now c.args.at t)
   on absent d rest e = (
     always c.args.at,
     refl,
     (
-      c.always.ensures c.args.reader.now.variables (line_at c.args.reader.now.text c.args.at) c.args.at,
+      c.always.ensures c.args.reader.now.integers c.args.reader.now.variables (line_at c.args.reader.now.text c.args.at) c.args.at,
       at_first c.args.reader.now (token semicolon d ∷ rest) e,
     ),
   )

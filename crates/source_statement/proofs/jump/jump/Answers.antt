@@ -13,11 +13,13 @@ use Rattle.source_meaning.specs.Limits.{counted}
 use Rattle.source_meaning.specs.Statements.{jump_of as node_of, one}
 use Rattle.source_reader.specs.Reading.{Reading, at_tokens, behind_first, first_place, passed}
 use Rattle.source_statement.proofs.parts.Pushed.{one_pushed}
+use Rattle.base_integers.specs.declared.integers.Integers.{Integers}
 use Rattle.source_statement.proofs.jump.jump.Goals as goal
 
 pub returns-clause-reads : goal.returns-clause-reads
 returns-clause-reads c = λ a b rest e.
     let old : Reading = c.args.reader.now in
+    let integers : Integers = old.integers in
     let n : ℕ = old.variables in
     let line : ℕ → ℕ = line_at old.text in
     let st : State = c.args.known.now in
@@ -35,8 +37,8 @@ returns-clause-reads c = λ a b rest e.
           ∙ ap (λ v. v >>= put) (ap (λ k. counted k 1 st) (sym place) ∙ c.in_ok-count.ensures),
       record {
         known = refl;
-        out = one_pushed n c.args.out.now.items c.push.new.self.items c.jump_node.result s c.in_ok-push.ensures.items
-            (c.jump_node.ensures n ∙ ap (λ l. core_of n (node_of j l))
+        out = one_pushed integers n c.args.out.now.items c.push.new.self.items c.jump_node.result s c.in_ok-push.ensures.items
+            (c.jump_node.ensures integers n ∙ ap (λ l. core_of integers n (node_of j l))
             (c.line.ensures ∙ ap₂ (λ (r : Reading) k. line_at r.text k) end place));
         reader = end;
       },

@@ -23,20 +23,22 @@ use Rattle.source_statement.proofs.parts.Pushed.{none_pushed}
 use Rattle.source_statement.proofs.parts.Pushes.{on_ok}
 use Rattle.source_statement.proofs.parts.Read.{at_first, one_evaluated}
 use Rattle.source_statement.proofs.parts.Starting.{no_expr, says_semicolon}
+use Rattle.base_integers.specs.declared.integers.Integers.{Integers}
 use Rattle.source_statement.proofs.jump.returned.Goals as goal
 
 pub returns-in-Semicolon-clause-reads : goal.returns-in-Semicolon-clause-reads
 returns-in-Semicolon-clause-reads c = λ t b rest g e. on t b rest e where
   on : (t : Optional) (b : ℕ) (rest : List Token) → c.args.reader.now.ahead ≡ onto_optional t (token semicolon b ∷ rest)
-      → Answers {A = Unit {0}} (λ _ r. WasRead c.args.reader.now.variables (token semicolon b ∷ rest) c.args.reader.now c.args.reader.now
+      → Answers {A = Unit {0}} (λ _ r. WasRead c.args.reader.now.integers c.args.reader.now.variables
+      (token semicolon b ∷ rest) c.args.reader.now c.args.reader.now
       c.args.known.now c.args.out.now.items c.args.out.now.items r) (Ok tt)
-      (read_returned (line_at c.args.reader.now.text) c.args.reader.now.variables c.args.known.now c.args.at t)
+      (read_returned c.args.reader.now.integers (line_at c.args.reader.now.text) c.args.reader.now.variables c.args.known.now c.args.at t)
   on absent b rest e = (
     (c.args.known.now, nil),
     refl,
     record {
       known = refl;
-      out = none_pushed c.args.reader.now.variables c.args.out.now.items;
+      out = none_pushed c.args.reader.now.integers c.args.reader.now.variables c.args.out.now.items;
       reader = at_first c.args.reader.now (token semicolon b ∷ rest) e;
     },
   )
@@ -50,14 +52,16 @@ returns c = record {
 } where
   on : (t : Optional) (b : ℕ) (rest : List Token) → GoodOptional t
       → c.args.reader.now.ahead ≡ onto_optional t (token semicolon b ∷ rest)
-      → Answers {A = Unit {0}} (λ _ r. WasRead c.args.reader.now.variables (token semicolon b ∷ rest) c.args.reader.now
+      → Answers {A = Unit {0}} (λ _ r. WasRead c.args.reader.now.integers c.args.reader.now.variables
+      (token semicolon b ∷ rest) c.args.reader.now
       c.expression.new.reader c.push_evaluated.new.known c.args.out.now.items c.push_evaluated.new.out.items r) c.push_evaluated.result
-      (read_returned (line_at c.args.reader.now.text) c.args.reader.now.variables c.args.known.now c.args.at t)
+      (read_returned c.args.reader.now.integers (line_at c.args.reader.now.text) c.args.reader.now.variables c.args.known.now c.args.at t)
   on absent b rest g e = absurd (c.in_default.not-Semicolon (says_semicolon c.coming.result
       (c.coming.ensures ∙ ap (λ ts. start_in (first_kind ts)) e)))
   on (present x) b rest g e =
       let old : Reading = c.args.reader.now in
       let new : Reading = c.expression.new.reader in
+      let integers : Integers = old.integers in
       let n : ℕ = old.variables in
       let line : ℕ → ℕ = line_at old.text in
       let at : ℕ = c.args.at in
@@ -66,21 +70,29 @@ returns c = record {
       let value : Value = c.in_ok-value.value in
       let all : Evaluated = record { prelude = value.prelude; next = value.next } in
       let res : Result (Unit {0}) _ = c.push_evaluated.result in
-      let A : ℕ → ℕ → Type 0 = λ l v. Answers (λ (w : Value) y. Stands v w (elaborated l y v) × (new.ahead ≡ ts)) (Ok value)
-      (read l st x v) in
-      let raw : A c.site-site.result.line c.site-site.result.variables = c.in_ok-value.ensures.reads x ts g tt e in
-      let lined : A (line at) c.site-site.result.variables = subst (λ l. A l c.site-site.result.variables) c.site-site.ensures.line raw in
-      let a : A (line at) n = subst (λ v. A (line at) v) c.site-site.ensures.variables lined in
+      let A : Integers → ℕ → ℕ → Type 0 = λ j l v. Answers (λ (w : Value) y. Stands v w (elaborated j l y v) × (new.ahead ≡ ts)) (Ok value)
+      (read j l st x v) in
+      let by : c.site-site.result.integers ≡ integers = c.site-site.ensures.integers in
+      let raw : A c.site-site.result.integers c.site-site.result.line c.site-site.result.variables = c.in_ok-value.ensures.reads x ts g
+      tt e in
+      let lined : A integers (line at) c.site-site.result.variables = subst
+      (λ l. A integers l c.site-site.result.variables) c.site-site.ensures.line
+      (subst (λ j. A j c.site-site.result.line c.site-site.result.variables) by raw) in
+      let a : A integers (line at) n = subst (λ v. A integers (line at) v) c.site-site.ensures.variables lined in
       let is : Unit {0} → State × Statements
-      → Type 0 = λ u r. WasRead n ts old new c.push_evaluated.new.known c.args.out.now.items c.push_evaluated.new.out.items r in
-      ok_then (λ (w : Value) y. Stands n w (elaborated (line at) y n) × (new.ahead ≡ ts)) is value res (read (line at) st x n)
-      (λ y. read_evaluated line n st at (evaluates (more y none) (line at))) a
+      → Type 0 = λ u r. WasRead integers n ts old new c.push_evaluated.new.known c.args.out.now.items c.push_evaluated.new.out.items r in
+      ok_then (λ (w : Value) y. Stands n w (elaborated integers (line at) y n)
+      × (new.ahead ≡ ts)) is value res (read integers (line at) st x n)
+      (λ y. read_evaluated integers line n st at (evaluates (more y none) (line at))) a
       (λ y s.
-      let B : ℕ → Type 0 = λ v. StandsEvaluated v all (evaluated (line at) (more y none) v)
-      → Answers {A = Unit {0}} (λ _ r. WasEvaluated v c.push_evaluated.new.known c.args.out.now.items c.push_evaluated.new.out.items r) res
-      (read_evaluated line v st at (evaluates (more y none) (line at))) in
-      let f : B n = subst B c.site-site.ensures.variables (c.push_evaluated.ensures line (more y none) c.site-site.ensures.line) in
-      weaker {A = Unit {0}} (λ _ r. WasEvaluated n c.push_evaluated.new.known c.args.out.now.items c.push_evaluated.new.out.items r) is res
-      (read_evaluated line n st at (evaluates (more y none) (line at)))
+      let B : Integers → ℕ → Type 0 = λ j v. StandsEvaluated v all (evaluated j (line at) (more y none) v)
+      → Answers {A = Unit {0}} (λ _ r. WasEvaluated j v c.push_evaluated.new.known c.args.out.now.items c.push_evaluated.new.out.items r)
+      res
+      (read_evaluated j line v st at (evaluates (more y none) (line at))) in
+      let f : B integers n = subst (λ v. B integers v) c.site-site.ensures.variables (subst (λ j. B j c.site-site.result.variables) by
+      (c.push_evaluated.ensures line (more y none) c.site-site.ensures.line)) in
+      weaker {A = Unit {0}} (λ _ r. WasEvaluated integers n c.push_evaluated.new.known c.args.out.now.items
+      c.push_evaluated.new.out.items r) is res
+      (read_evaluated integers line n st at (evaluates (more y none) (line at)))
       (λ u r k. record { known = k.0; out = k.1; reader = came_to old new ts c.in_ok-value.ensures.goes s.1 })
-      (f (one_evaluated n (line at) n y value s.0)))
+      (f (one_evaluated integers n (line at) n y value s.0)))

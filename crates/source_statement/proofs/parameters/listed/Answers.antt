@@ -17,6 +17,7 @@ use Rattle.source_statement.specs.Starts.{start_in, start_of, an_int, a_void}
 use Rattle.source_statement.proofs.parts.Pushed.{none_pushed, then_pushed}
 use Rattle.source_statement.proofs.parts.Read.{at_first}
 use Rattle.source_statement.proofs.parts.Starting.{says_int, says_void}
+use Rattle.base_integers.specs.declared.integers.Integers.{Integers}
 use Rattle.source_statement.proofs.parameters.listed.Goals as goal
 
 pub returns-in-Void-clause-reads : goal.returns-in-Void-clause-reads
@@ -24,17 +25,17 @@ returns-in-Void-clause-reads c = λ ps b rest e. on ps b rest e
     (sym (ap start_of c.in-Void.is) ∙ c.coming.ensures ∙ ap (λ ts. start_in (first_kind ts)) e) where
       on : (ps : Parameters) (b : ℕ) (rest : List Token) → c.args.reader.now.ahead ≡ onto_parameters ps (token right_paren b ∷ rest)
           → a_void ≡ start_in (first_kind (onto_parameters ps (token right_paren b ∷ rest)))
-          → Answers {A = Unit {0}} (λ _ r. WasRead c.args.reader.now.variables
+          → Answers {A = Unit {0}} (λ _ r. WasRead c.args.reader.now.integers c.args.reader.now.variables
           (token right_paren b ∷ rest) c.args.reader.now c.skip.new.self
           c.args.known.now c.args.out.now.items c.args.out.now.items r) (Ok tt)
-          (read_parameters (line_at c.args.reader.now.text) c.args.known.now ps)
+          (read_parameters c.args.reader.now.integers (line_at c.args.reader.now.text) c.args.known.now ps)
       on no_parameters b rest e h = absurd cc
       on (void_parameters a) b rest e h = (
         (c.args.known.now, nil),
         refl,
         record {
           known = refl;
-          out = none_pushed c.args.reader.now.variables c.args.out.now.items;
+          out = none_pushed c.args.reader.now.integers c.args.reader.now.variables c.args.out.now.items;
           reader = c.skip.ensures ∙ ap (λ ts. at_tokens c.args.reader.now (behind_first ts)) e;
         },
       )
@@ -45,13 +46,15 @@ returns-in_err-parameter-in-Int-clause-reads c = λ ps b rest e. on ps b rest e
     (sym (ap start_of c.in-Int.is) ∙ c.coming.ensures ∙ ap (λ ts. start_in (first_kind ts)) e) where
       on : (ps : Parameters) (b : ℕ) (rest : List Token) → c.args.reader.now.ahead ≡ onto_parameters ps (token right_paren b ∷ rest)
           → an_int ≡ start_in (first_kind (onto_parameters ps (token right_paren b ∷ rest)))
-          → Answers {A = Unit {0}} (λ _ r. WasRead c.args.reader.now.variables (token right_paren b ∷ rest) c.args.reader.now
+          → Answers {A = Unit {0}} (λ _ r. WasRead c.args.reader.now.integers c.args.reader.now.variables
+          (token right_paren b ∷ rest) c.args.reader.now
           c.parameter.new.reader c.parameter.new.known c.args.out.now.items c.parameter.new.out.items r) c.from_residual.result
-          (read_parameters (line_at c.args.reader.now.text) c.args.known.now ps)
+          (read_parameters c.args.reader.now.integers (line_at c.args.reader.now.text) c.args.known.now ps)
       on no_parameters b rest e h = absurd cc
       on (void_parameters a) b rest e h = absurd cc
       on (int_parameters a x k ms) b rest e h =
           let old : Reading = c.args.reader.now in
+          let integers : Integers = old.integers in
           let n : ℕ = old.variables in
           let line : ℕ → ℕ = line_at old.text in
           let st : State = c.args.known.now in
@@ -61,27 +64,29 @@ returns-in_err-parameter-in-Int-clause-reads c = λ ps b rest e. on ps b rest e
           let s : Stop = c.in_err-parameter-in-Int.field-0.0 in
           let mid : c.skip-in-Int.new.self ≡ at_tokens old us = c.skip-in-Int.ensures ∙ ap (λ ts. at_tokens old (behind_first ts)) e in
           let P : Reading → Type 0 = λ m. Answers {A =
-          Unit {0}} (λ _ r. WasRead m.variables ts m c.parameter.new.reader c.parameter.new.known
-          c.args.out.now.items c.parameter.new.out.items r) (Err s) (read_parameter (line_at m.text) st x k) in
+          Unit {0}} (λ _ r. WasRead m.integers m.variables ts m c.parameter.new.reader c.parameter.new.known
+          c.args.out.now.items c.parameter.new.out.items r) (Err s) (read_parameter m.integers (line_at m.text) st x k) in
           let q : P (at_tokens old us) = subst P mid (c.in_err-parameter-in-Int.ensures.reads x k ts (ap (λ (r : Reading). r.ahead) mid)) in
-          err_then {A = Unit {0}} (λ _ r. WasRead n ts (at_tokens old us) c.parameter.new.reader c.parameter.new.known
+          err_then {A = Unit {0}} (λ _ r. WasRead integers n ts (at_tokens old us) c.parameter.new.reader c.parameter.new.known
           c.args.out.now.items c.parameter.new.out.items r)
-          (λ (u : Unit {0}) r. WasRead n w old c.parameter.new.reader c.parameter.new.known
-          c.args.out.now.items c.parameter.new.out.items r) c.from_residual.result s (read_parameter line st x k)
-          (λ r. read_more_parameters line r.0 ms >>= λ q. Ok (q.0, followed_by r.1 q.1)) c.from_residual.ensures.1 q
+          (λ (u : Unit {0}) r. WasRead integers n w old c.parameter.new.reader c.parameter.new.known
+          c.args.out.now.items c.parameter.new.out.items r) c.from_residual.result s (read_parameter integers line st x k)
+          (λ r. read_more_parameters integers line r.0 ms >>= λ q. Ok (q.0, followed_by r.1 q.1)) c.from_residual.ensures.1 q
 
 pub returns-in_ok-parameter-in-Int-clause-reads : goal.returns-in_ok-parameter-in-Int-clause-reads
 returns-in_ok-parameter-in-Int-clause-reads c = λ ps b rest e. on ps b rest e
     (sym (ap start_of c.in-Int.is) ∙ c.coming.ensures ∙ ap (λ ts. start_in (first_kind ts)) e) where
       on : (ps : Parameters) (b : ℕ) (rest : List Token) → c.args.reader.now.ahead ≡ onto_parameters ps (token right_paren b ∷ rest)
           → an_int ≡ start_in (first_kind (onto_parameters ps (token right_paren b ∷ rest)))
-          → Answers {A = Unit {0}} (λ _ r. WasRead c.args.reader.now.variables (token right_paren b ∷ rest) c.args.reader.now
+          → Answers {A = Unit {0}} (λ _ r. WasRead c.args.reader.now.integers c.args.reader.now.variables
+          (token right_paren b ∷ rest) c.args.reader.now
           c.more_parameters.new.reader c.more_parameters.new.known c.args.out.now.items c.more_parameters.new.out.items r)
-          c.more_parameters.result (read_parameters (line_at c.args.reader.now.text) c.args.known.now ps)
+          c.more_parameters.result (read_parameters c.args.reader.now.integers (line_at c.args.reader.now.text) c.args.known.now ps)
       on no_parameters b rest e h = absurd cc
       on (void_parameters a) b rest e h = absurd cc
       on (int_parameters a x k ms) b rest e h =
           let old : Reading = c.args.reader.now in
+          let integers : Integers = old.integers in
           let n : ℕ = old.variables in
           let line : ℕ → ℕ = line_at old.text in
           let st : State = c.args.known.now in
@@ -89,28 +94,30 @@ returns-in_ok-parameter-in-Int-clause-reads c = λ ps b rest e. on ps b rest e
           let ts : List Token = onto_more_parameters ms w in
           let us : List Token = token (a_name x) k ∷ ts in
           let res : Result (Unit {0}) Stop = c.more_parameters.result in
-          let is : Unit {0} → State × Statements → Type 0 = λ _ r. WasRead n w old c.more_parameters.new.reader c.more_parameters.new.known
+          let is : Unit {0} → State × Statements → Type 0 = λ _ r. WasRead integers n w old c.more_parameters.new.reader
+          c.more_parameters.new.known
           c.args.out.now.items c.more_parameters.new.out.items r in
           let mid : c.skip-in-Int.new.self ≡ at_tokens old us = c.skip-in-Int.ensures ∙ ap (λ ts. at_tokens old (behind_first ts)) e in
           let P : Reading → Type 0 = λ m. Answers {A =
-          Unit {0}} (λ _ r. WasRead m.variables ts m c.parameter.new.reader c.parameter.new.known
-          c.args.out.now.items c.parameter.new.out.items r) (Ok tt) (read_parameter (line_at m.text) st x k) in
+          Unit {0}} (λ _ r. WasRead m.integers m.variables ts m c.parameter.new.reader c.parameter.new.known
+          c.args.out.now.items c.parameter.new.out.items r) (Ok tt) (read_parameter m.integers (line_at m.text) st x k) in
           let a : P (at_tokens old us) = subst P mid (c.in_ok-parameter-in-Int.ensures.reads x k ts (ap (λ (r : Reading). r.ahead) mid)) in
-          ok_then {A = Unit {0}} (λ _ r. WasRead n ts (at_tokens old us) c.parameter.new.reader c.parameter.new.known
-          c.args.out.now.items c.parameter.new.out.items r) is tt res (read_parameter line st x k)
-          (λ r. read_more_parameters line r.0 ms >>= λ q. Ok (q.0, followed_by r.1 q.1)) a
+          ok_then {A = Unit {0}} (λ _ r. WasRead integers n ts (at_tokens old us) c.parameter.new.reader c.parameter.new.known
+          c.args.out.now.items c.parameter.new.out.items r) is tt res (read_parameter integers line st x k)
+          (λ r. read_more_parameters integers line r.0 ms >>= λ q. Ok (q.0, followed_by r.1 q.1)) a
           (λ r v.
-          let Q : Reading → State → Type 0 = λ m k. Answers {A = Unit {0}} (λ _ q. WasRead m.variables w m c.more_parameters.new.reader
+          let Q : Reading → State → Type 0 = λ m k. Answers {A = Unit {0}}
+          (λ _ q. WasRead m.integers m.variables w m c.more_parameters.new.reader
           c.more_parameters.new.known c.parameter.new.out.items c.more_parameters.new.out.items q) res
-          (read_more_parameters (line_at m.text) k ms) in
+          (read_more_parameters m.integers (line_at m.text) k ms) in
           let q : Q (at_tokens old ts) r.0 = subst (λ k. Q (at_tokens old ts) k) v.known (subst (λ m. Q m c.parameter.new.known) v.reader
           (c.more_parameters.ensures.reads ms b rest (ap (λ (r : Reading). r.ahead) v.reader))) in
-          answers_so {A = Unit {0}} (λ _ q. WasRead n w (at_tokens old ts) c.more_parameters.new.reader c.more_parameters.new.known
-          c.parameter.new.out.items c.more_parameters.new.out.items q) is res (read_more_parameters line r.0 ms)
-          (read_more_parameters line r.0 ms >>= λ q. Ok (q.0, followed_by r.1 q.1)) (λ q. (q.0, followed_by r.1 q.1)) refl
+          answers_so {A = Unit {0}} (λ _ q. WasRead integers n w (at_tokens old ts) c.more_parameters.new.reader c.more_parameters.new.known
+          c.parameter.new.out.items c.more_parameters.new.out.items q) is res (read_more_parameters integers line r.0 ms)
+          (read_more_parameters integers line r.0 ms >>= λ q. Ok (q.0, followed_by r.1 q.1)) (λ q. (q.0, followed_by r.1 q.1)) refl
           (λ u q s. record {
             known = s.known;
-            out = then_pushed n c.args.out.now.items c.parameter.new.out.items c.more_parameters.new.out.items r.1 q.1 v.out s.out;
+            out = then_pushed integers n c.args.out.now.items c.parameter.new.out.items c.more_parameters.new.out.items r.1 q.1 v.out s.out;
             reader = s.reader;
           }) q)
 
@@ -121,15 +128,16 @@ returns-in_default c = record {
 } where
   on : (ps : Parameters) (b : ℕ) (rest : List Token) → c.args.reader.now.ahead ≡ onto_parameters ps (token right_paren b ∷ rest)
       → start_of c.coming.result ≡ start_in (first_kind (onto_parameters ps (token right_paren b ∷ rest)))
-      → Answers {A = Unit {0}} (λ _ r. WasRead c.args.reader.now.variables (token right_paren b ∷ rest) c.args.reader.now
+      → Answers {A = Unit {0}} (λ _ r. WasRead c.args.reader.now.integers c.args.reader.now.variables
+      (token right_paren b ∷ rest) c.args.reader.now
       c.args.reader.now c.args.known.now c.args.out.now.items c.args.out.now.items r) (Ok tt)
-      (read_parameters (line_at c.args.reader.now.text) c.args.known.now ps)
+      (read_parameters c.args.reader.now.integers (line_at c.args.reader.now.text) c.args.known.now ps)
   on no_parameters b rest e h = (
     (c.args.known.now, nil),
     refl,
     record {
       known = refl;
-      out = none_pushed c.args.reader.now.variables c.args.out.now.items;
+      out = none_pushed c.args.reader.now.integers c.args.reader.now.variables c.args.out.now.items;
       reader = at_first c.args.reader.now (token right_paren b ∷ rest) e;
     },
   )

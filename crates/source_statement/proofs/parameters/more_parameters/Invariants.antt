@@ -10,7 +10,8 @@ abbrev pub invariant-more : goal.invariant-more
 invariant-more l = record {
   left : (ps : MoreParameters) (b : ℕ) (rest : List Token)
       → l.initial.reader.ahead ≡ onto_more_parameters ps (token right_paren b ∷ rest)
-      → Left (line_at l.initial.reader.text) l.initial.reader.variables ps (token right_paren b ∷ rest) l.initial.reader l.reader
+      → Left l.initial.reader.integers (line_at l.initial.reader.text) l.initial.reader.variables ps
+      (token right_paren b ∷ rest) l.initial.reader l.reader
       l.initial.known l.known l.initial.out.items l.out.items;
   fewer : length l.reader.ahead ≤ length l.initial.reader.ahead;
 }

@@ -14,8 +14,8 @@ returns-clause-reads c = λ a ps b rest e.
     let w : List Token = token right_paren b ∷ rest in
     let us : List Token = onto_parameters ps w in
     let mid : c.take.new.self ≡ at_tokens old us = c.in_ok-take.ensures.2 ∙ ap (λ ts. at_tokens old (behind_first ts)) e in
-    let P : Reading → Type 0 = λ m. Answers {A = Unit {0}} (λ _ r. WasRead m.variables w m c.listed.new.reader c.listed.new.known
-    c.args.out.now.items c.listed.new.out.items r) (Ok tt) (read_parameters (line_at m.text) c.args.known.now ps) in
+    let P : Reading → Type 0 = λ m. Answers {A = Unit {0}} (λ _ r. WasRead m.integers m.variables w m c.listed.new.reader c.listed.new.known
+    c.args.out.now.items c.listed.new.out.items r) (Ok tt) (read_parameters m.integers (line_at m.text) c.args.known.now ps) in
     let q : P (at_tokens old us) = subst P mid (c.in_ok-listed.ensures.reads ps b rest (ap (λ (r : Reading). r.ahead) mid)) in (
       q.0,
       q.1,

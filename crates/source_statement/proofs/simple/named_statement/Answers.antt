@@ -21,6 +21,7 @@ use Rattle.source_statement.specs.Starts.{start_in, start_of, a_paren}
 use Rattle.source_statement.proofs.parts.Named.{same_first, fewer_then, err_on}
 use Rattle.source_statement.proofs.parts.Starting.{says_paren}
 use Rattle.source_statement.proofs.parts.Updates.{updated}
+use Rattle.base_integers.specs.declared.integers.Integers.{Integers}
 use Rattle.source_statement.proofs.simple.named_statement.Goals as goal
 
 -- no parenthesis stands behind a place
@@ -33,15 +34,18 @@ pub returns-in-Paren-clause-reads : goal.returns-in-Paren-clause-reads
 returns-in-Paren-clause-reads c = λ inside x rest g e. on inside x rest g e where
   on : (inside : Bool) (x : Core) (rest : List Token) → GoodCore x
       → token (a_name c.args.first.now.name) c.args.first.now.at ∷ c.args.reader.now.ahead ≡ onto_core x rest
-      → Answers {A = Unit {0}} (λ _ r. WasRead c.args.reader.now.variables rest c.args.reader.now c.call.new.reader c.call.new.known
+      → Answers {A = Unit {0}} (λ _ r. WasRead c.args.reader.now.integers c.args.reader.now.variables rest c.args.reader.now
+      c.call.new.reader c.call.new.known
       c.args.out.now.items c.call.new.out.items r) c.call.result
-      (read_core (line_at c.args.reader.now.text) c.args.reader.now.variables inside c.args.known.now x)
+      (read_core c.args.reader.now.integers (line_at c.args.reader.now.text) c.args.reader.now.variables inside c.args.known.now x)
   on inside (calls x a b es d i) rest g e =
       let s = same_first c.args.first.now.name x c.args.first.now.at a c.args.reader.now.ahead
       (token left_paren b ∷ (spell_arguments es ++ token right_paren d ∷ token semicolon i ∷ rest)) e in
-      let P : List ℕ → ℕ → Type 0 = λ x a. Answers {A = Unit {0}} (λ _ r. WasRead c.args.reader.now.variables rest c.args.reader.now
+      let P : List ℕ → ℕ → Type 0 = λ x a. Answers {A = Unit {0}}
+      (λ _ r. WasRead c.args.reader.now.integers c.args.reader.now.variables rest c.args.reader.now
       c.call.new.reader c.call.new.known c.args.out.now.items c.call.new.out.items r) c.call.result
-      (read_core (line_at c.args.reader.now.text) c.args.reader.now.variables inside c.args.known.now (calls x a b es d i)) in
+      (read_core c.args.reader.now.integers (line_at c.args.reader.now.text) c.args.reader.now.variables inside c.args.known.now
+      (calls x a b es d i)) in
       subst (λ y. P y a) s.0 (subst (λ k. P c.args.first.now.name k) s.1 (c.call.ensures.reads inside b es d i rest g s.2))
   on inside (updates (update (place x a i) f) d) rest g e =
       let s = same_first c.args.first.now.name x c.args.first.now.at a c.args.reader.now.ahead
@@ -58,9 +62,10 @@ returns-in_err-deeds-in_default c = record {
 } where
   on : (inside : Bool) (x : Core) (rest : List Token) → GoodCore x
       → token (a_name c.args.first.now.name) c.args.first.now.at ∷ c.args.reader.now.ahead ≡ onto_core x rest
-      → Answers {A = Unit {0}} (λ _ r. WasRead c.args.reader.now.variables rest c.args.reader.now c.update_of.new.reader
+      → Answers {A = Unit {0}} (λ _ r. WasRead c.args.reader.now.integers c.args.reader.now.variables rest c.args.reader.now
+      c.update_of.new.reader
       c.update_of.new.known c.args.out.now.items c.args.out.now.items r) c.from_residual.result
-      (read_core (line_at c.args.reader.now.text) c.args.reader.now.variables inside c.args.known.now x)
+      (read_core c.args.reader.now.integers (line_at c.args.reader.now.text) c.args.reader.now.variables inside c.args.known.now x)
   on inside (calls x a b es d i) rest g e =
       let s = same_first c.args.first.now.name x c.args.first.now.at a c.args.reader.now.ahead
       (token left_paren b ∷ (spell_arguments es ++ token right_paren d ∷ token semicolon i ∷ rest)) e in
@@ -69,15 +74,16 @@ returns-in_err-deeds-in_default c = record {
       let s = same_first c.args.first.now.name x c.args.first.now.at a c.args.reader.now.ahead
       (onto_index i (onto_effect f (token semicolon d ∷ rest))) e in
       let line : ℕ → ℕ = line_at c.args.reader.now.text in
+      let integers : Integers = c.args.reader.now.integers in
       let n : ℕ = c.args.reader.now.variables in
-      let is : Unit {0} → State × Statements → Type 0 = λ u r. WasRead n rest c.args.reader.now c.update_of.new.reader
+      let is : Unit {0} → State × Statements → Type 0 = λ u r. WasRead integers n rest c.args.reader.now c.update_of.new.reader
       c.update_of.new.known c.args.out.now.items c.args.out.now.items r in
       let P : List ℕ → ℕ → Type 0 = λ x a. Answers is c.from_residual.result
-      (read_core line n inside c.args.known.now (updates (update (place x a i) f) d)) in
+      (read_core integers line n inside c.args.known.now (updates (update (place x a i) f) d)) in
       subst (λ y. P y a) s.0 (subst (λ k. P c.args.first.now.name k) s.1
-      (err_then (λ (v : Vec Deed Global) r. WasChanged n (token semicolon d ∷ rest) c.args.reader.now c.update_of.new.reader
+      (err_then (λ (v : Vec Deed Global) r. WasChanged integers n (token semicolon d ∷ rest) c.args.reader.now c.update_of.new.reader
       c.update_of.new.known v.items r) is c.from_residual.result c.in_err-deeds-in_default.field-0.0
-      (read_update line n c.args.known.now (update (place c.args.first.now.name c.args.first.now.at i) f))
+      (read_update integers line n c.args.known.now (update (place c.args.first.now.name c.args.first.now.at i) f))
       (λ r. Ok (r.0, one (changes r.1))) c.from_residual.ensures.1
       (c.in_err-deeds-in_default.ensures.reads i f (token semicolon d ∷ rest) g.0 g.1 s.2 tt)))
   on inside (updates (step_before k a p) d) rest g e = absurd cc
@@ -91,9 +97,10 @@ returns-in_ok-deeds-in_default c = record {
 } where
   on : (inside : Bool) (x : Core) (rest : List Token) → GoodCore x
       → token (a_name c.args.first.now.name) c.args.first.now.at ∷ c.args.reader.now.ahead ≡ onto_core x rest
-      → Answers {A = Unit {0}} (λ _ r. WasRead c.args.reader.now.variables rest c.args.reader.now c.push_update.new.reader
+      → Answers {A = Unit {0}} (λ _ r. WasRead c.args.reader.now.integers c.args.reader.now.variables rest c.args.reader.now
+      c.push_update.new.reader
       c.update_of.new.known c.args.out.now.items c.push_update.new.out.items r) c.push_update.result
-      (read_core (line_at c.args.reader.now.text) c.args.reader.now.variables inside c.args.known.now x)
+      (read_core c.args.reader.now.integers (line_at c.args.reader.now.text) c.args.reader.now.variables inside c.args.known.now x)
   on inside (calls x a b es d i) rest g e =
       let s = same_first c.args.first.now.name x c.args.first.now.at a c.args.reader.now.ahead
       (token left_paren b ∷ (spell_arguments es ++ token right_paren d ∷ token semicolon i ∷ rest)) e in
@@ -102,14 +109,15 @@ returns-in_ok-deeds-in_default c = record {
       let s = same_first c.args.first.now.name x c.args.first.now.at a c.args.reader.now.ahead
       (onto_index i (onto_effect f (token semicolon d ∷ rest))) e in
       let line : ℕ → ℕ = line_at c.args.reader.now.text in
+      let integers : Integers = c.args.reader.now.integers in
       let n : ℕ = c.args.reader.now.variables in
-      let P : List ℕ → ℕ → Type 0 = λ x a. Answers {A = Unit {0}} (λ _ r. WasRead n rest c.args.reader.now c.push_update.new.reader
+      let P : List ℕ → ℕ → Type 0 = λ x a. Answers {A = Unit {0}} (λ _ r. WasRead integers n rest c.args.reader.now c.push_update.new.reader
       c.update_of.new.known c.args.out.now.items c.push_update.new.out.items r) c.push_update.result
-      (read_core line n inside c.args.known.now (updates (update (place x a i) f) d)) in
+      (read_core integers line n inside c.args.known.now (updates (update (place x a i) f) d)) in
       subst (λ y. P y a) s.0 (subst (λ k. P c.args.first.now.name k) s.1
-      (updated n d rest c.args.reader.now c.update_of.new.reader c.push_update.new.reader c.update_of.new.known
+      (updated integers n d rest c.args.reader.now c.update_of.new.reader c.push_update.new.reader c.update_of.new.known
       c.args.out.now.items c.push_update.new.out.items c.in_ok-deeds-in_default.deeds c.push_update.result
-      (read_update line n c.args.known.now (update (place c.args.first.now.name c.args.first.now.at i) f))
+      (read_update integers line n c.args.known.now (update (place c.args.first.now.name c.args.first.now.at i) f))
       (c.in_ok-deeds-in_default.ensures.reads i f (token semicolon d ∷ rest) g.0 g.1 s.2 tt) c.push_update.ensures.pushed
       (c.push_update.ensures.reads d rest)))
   on inside (updates (step_before k a p) d) rest g e = absurd cc

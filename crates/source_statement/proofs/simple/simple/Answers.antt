@@ -27,15 +27,17 @@ pub returns-in-Semicolon-clause-reads : goal.returns-in-Semicolon-clause-reads
 returns-in-Semicolon-clause-reads c = λ x rest s g e. on x rest e
     (sym (ap start_of c.in-Semicolon.is) ∙ c.coming.ensures ∙ ap (λ ts. start_in (first_kind ts)) e ∙ core_begins x rest s) where
       on : (x : Core) (rest : List Token) → c.args.reader.now.ahead ≡ onto_core x rest → a_semicolon ≡ begins x
-          → Answers {A = Unit {0}} (λ _ r. WasRead c.args.reader.now.variables rest c.args.reader.now c.skip.new.self c.args.known.now
+          → Answers {A = Unit {0}} (λ _ r. WasRead c.args.reader.now.integers c.args.reader.now.variables rest c.args.reader.now
+          c.skip.new.self c.args.known.now
           c.args.out.now.items c.args.out.now.items r) (Ok tt)
-          (read_core (line_at c.args.reader.now.text) c.args.reader.now.variables c.args.inside c.args.known.now x)
+          (read_core c.args.reader.now.integers (line_at c.args.reader.now.text) c.args.reader.now.variables c.args.inside
+          c.args.known.now x)
       on (empty a) rest e h = (
         (c.args.known.now, nil),
         refl,
         record {
           known = refl;
-          out = none_pushed c.args.reader.now.variables c.args.out.now.items;
+          out = none_pushed c.args.reader.now.integers c.args.reader.now.variables c.args.out.now.items;
           reader = c.skip.ensures ∙ ap (λ ts. at_tokens c.args.reader.now (behind_first ts)) e;
         },
       )
@@ -47,15 +49,19 @@ pub returns-in-Jump-clause-reads : goal.returns-in-Jump-clause-reads
 returns-in-Jump-clause-reads c = λ x rest s g e. on x rest e
     (sym (ap start_of c.in-Jump.is) ∙ c.coming.ensures ∙ ap (λ ts. start_in (first_kind ts)) e ∙ core_begins x rest s) where
       on : (x : Core) (rest : List Token) → c.args.reader.now.ahead ≡ onto_core x rest → a_jump (jump_of c.in-Jump.which) ≡ begins x
-          → Answers {A = Unit {0}} (λ _ r. WasRead c.args.reader.now.variables rest c.args.reader.now c.jump.new.reader c.jump.new.known
+          → Answers {A = Unit {0}} (λ _ r. WasRead c.args.reader.now.integers c.args.reader.now.variables rest c.args.reader.now
+          c.jump.new.reader c.jump.new.known
           c.args.out.now.items c.jump.new.out.items r) c.jump.result
-          (read_core (line_at c.args.reader.now.text) c.args.reader.now.variables c.args.inside c.args.known.now x)
+          (read_core c.args.reader.now.integers (line_at c.args.reader.now.text) c.args.reader.now.variables c.args.inside
+          c.args.known.now x)
       on (jumps j a b) rest e h =
           let k : jump_of c.in-Jump.which ≡ j = cc in
           let P : g.Jump → Type 0 = λ j. c.args.reader.now.ahead ≡ token (jump_word j) a ∷ token semicolon b ∷ rest
-          → Answers {A = Unit {0}} (λ _ r. WasRead c.args.reader.now.variables rest c.args.reader.now c.jump.new.reader c.jump.new.known
+          → Answers {A = Unit {0}} (λ _ r. WasRead c.args.reader.now.integers c.args.reader.now.variables rest c.args.reader.now
+          c.jump.new.reader c.jump.new.known
           c.args.out.now.items c.jump.new.out.items r) c.jump.result
-          (read_core (line_at c.args.reader.now.text) c.args.reader.now.variables c.args.inside c.args.known.now (jumps j a b)) in
+          (read_core c.args.reader.now.integers (line_at c.args.reader.now.text) c.args.reader.now.variables c.args.inside
+          c.args.known.now (jumps j a b)) in
           subst P k (λ e. c.jump.ensures.reads a b rest e) e
       on (updates (update (place x a i) f) d) rest e h = absurd cc
       on (updates (step_before k a p) d) rest e h = absurd cc
@@ -65,9 +71,11 @@ pub returns-in-Return-clause-reads : goal.returns-in-Return-clause-reads
 returns-in-Return-clause-reads c = λ x rest s g e. on x rest g e
     (sym (ap start_of c.in-Return.is) ∙ c.coming.ensures ∙ ap (λ ts. start_in (first_kind ts)) e ∙ core_begins x rest s) where
       on : (x : Core) (rest : List Token) → GoodCore x → c.args.reader.now.ahead ≡ onto_core x rest → a_return ≡ begins x
-          → Answers {A = Unit {0}} (λ _ r. WasRead c.args.reader.now.variables rest c.args.reader.now c.return_statement.new.reader
+          → Answers {A = Unit {0}} (λ _ r. WasRead c.args.reader.now.integers c.args.reader.now.variables rest c.args.reader.now
+          c.return_statement.new.reader
           c.return_statement.new.known c.args.out.now.items c.return_statement.new.out.items r) c.return_statement.result
-          (read_core (line_at c.args.reader.now.text) c.args.reader.now.variables c.args.inside c.args.known.now x)
+          (read_core c.args.reader.now.integers (line_at c.args.reader.now.text) c.args.reader.now.variables c.args.inside
+          c.args.known.now x)
       on (returns a t b) rest g e h = c.return_statement.ensures.reads c.args.inside a t b rest g e
       on (updates (update (place x a i) f) d) rest g e h = absurd cc
       on (updates (step_before k a p) d) rest g e h = absurd cc
@@ -78,16 +86,20 @@ returns-in-Demand-clause-reads c = λ x rest s ok e. on x rest ok e
     (sym (ap start_of c.in-Demand.is) ∙ c.coming.ensures ∙ ap (λ ts. start_in (first_kind ts)) e ∙ core_begins x rest s) where
       on : (x : Core) (rest : List Token) → GoodCore x → c.args.reader.now.ahead ≡ onto_core x rest
           → a_demand (demand_of c.in-Demand.which) ≡ begins x
-          → Answers {A = Unit {0}} (λ _ r. WasRead c.args.reader.now.variables rest c.args.reader.now c.demand.new.reader c.demand.new.known
+          → Answers {A = Unit {0}} (λ _ r. WasRead c.args.reader.now.integers c.args.reader.now.variables rest c.args.reader.now
+          c.demand.new.reader c.demand.new.known
           c.args.out.now.items c.demand.new.out.items r) c.demand.result
-          (read_core (line_at c.args.reader.now.text) c.args.reader.now.variables c.args.inside c.args.known.now x)
+          (read_core c.args.reader.now.integers (line_at c.args.reader.now.text) c.args.reader.now.variables c.args.inside
+          c.args.known.now x)
       on (demands k a b y d i) rest ok e h =
           let same : demand_of c.in-Demand.which ≡ k = cc in
           let P : g.Demand → Type 0 = λ k. c.args.reader.now.ahead ≡ token (demand_word k) a ∷ token left_paren b
           ∷ (spell_expr y ++ token right_paren d ∷ token semicolon i ∷ rest)
-          → Answers {A = Unit {0}} (λ _ r. WasRead c.args.reader.now.variables rest c.args.reader.now c.demand.new.reader c.demand.new.known
+          → Answers {A = Unit {0}} (λ _ r. WasRead c.args.reader.now.integers c.args.reader.now.variables rest c.args.reader.now
+          c.demand.new.reader c.demand.new.known
           c.args.out.now.items c.demand.new.out.items r) c.demand.result
-          (read_core (line_at c.args.reader.now.text) c.args.reader.now.variables c.args.inside c.args.known.now (demands k a b y d i)) in
+          (read_core c.args.reader.now.integers (line_at c.args.reader.now.text) c.args.reader.now.variables c.args.inside
+          c.args.known.now (demands k a b y d i)) in
           subst P same (λ e. c.demand.ensures.reads c.args.inside a b y d i rest ok e) e
       on (updates (update (place x a i) f) d) rest ok e h = absurd cc
       on (updates (step_before k a p) d) rest ok e h = absurd cc
@@ -97,23 +109,28 @@ pub returns-in_err-first-in-Name-clause-reads : goal.returns-in_err-first-in-Nam
 returns-in_err-first-in-Name-clause-reads c = λ x rest s g e. on x rest e
     (sym (ap start_of c.in-Name.is) ∙ c.coming.ensures ∙ ap (λ ts. start_in (first_kind ts)) e ∙ core_begins x rest s) where
       on : (x : Core) (rest : List Token) → c.args.reader.now.ahead ≡ onto_core x rest → begins_name ≡ begins x
-          → Answers {A = Unit {0}} (λ _ r. WasRead c.args.reader.now.variables rest c.args.reader.now c.take_name.new.reader
+          → Answers {A = Unit {0}} (λ _ r. WasRead c.args.reader.now.integers c.args.reader.now.variables rest c.args.reader.now
+          c.take_name.new.reader
           c.args.known.now
           c.args.out.now.items c.args.out.now.items r) c.from_residual.result
-          (read_core (line_at c.args.reader.now.text) c.args.reader.now.variables c.args.inside c.args.known.now x)
+          (read_core c.args.reader.now.integers (line_at c.args.reader.now.text) c.args.reader.now.variables c.args.inside
+          c.args.known.now x)
       on (calls x a b es d i) rest e h =
           let ts : List Token = token left_paren b ∷ (spell_arguments es ++ token right_paren d ∷ token semicolon i ∷ rest) in
           err_never (λ (n : Named) p. WasTaken ts c.args.reader.now c.take_name.new.reader n p)
-          (λ (u : Unit {0}) r. WasRead c.args.reader.now.variables rest c.args.reader.now c.take_name.new.reader c.args.known.now
+          (λ (u : Unit {0}) r. WasRead c.args.reader.now.integers c.args.reader.now.variables rest c.args.reader.now
+          c.take_name.new.reader c.args.known.now
           c.args.out.now.items c.args.out.now.items r) c.from_residual.result c.in_err-first-in-Name.field-0.0 (x, a)
-          (read_core (line_at c.args.reader.now.text) c.args.reader.now.variables c.args.inside c.args.known.now (calls x a b es d i))
+          (read_core c.args.reader.now.integers (line_at c.args.reader.now.text) c.args.reader.now.variables c.args.inside
+          c.args.known.now (calls x a b es d i))
           c.from_residual.ensures.1 (c.in_err-first-in-Name.ensures.reads x a ts e)
       on (updates (update (place x a i) f) d) rest e h =
           let ts : List Token = onto_index i (onto_effect f (token semicolon d ∷ rest)) in
           err_never (λ (n : Named) p. WasTaken ts c.args.reader.now c.take_name.new.reader n p)
-          (λ (u : Unit {0}) r. WasRead c.args.reader.now.variables rest c.args.reader.now c.take_name.new.reader c.args.known.now
+          (λ (u : Unit {0}) r. WasRead c.args.reader.now.integers c.args.reader.now.variables rest c.args.reader.now
+          c.take_name.new.reader c.args.known.now
           c.args.out.now.items c.args.out.now.items r) c.from_residual.result c.in_err-first-in-Name.field-0.0 (x, a)
-          (read_core (line_at c.args.reader.now.text) c.args.reader.now.variables c.args.inside c.args.known.now
+          (read_core c.args.reader.now.integers (line_at c.args.reader.now.text) c.args.reader.now.variables c.args.inside c.args.known.now
           (updates (update (place x a i) f) d))
           c.from_residual.ensures.1 (c.in_err-first-in-Name.ensures.reads x a ts e)
       on (updates (step_before k a p) d) rest e h = absurd cc
@@ -125,26 +142,30 @@ returns-in_ok-first-in-Name-clause-reads c = λ x rest s g e. on x rest g e
       -- what it begins is read behind it
       named : (x : List ℕ) (a : ℕ) (ts : List Token) (y : Core) (rest : List Token) → GoodCore y → c.args.reader.now.ahead
           ≡ token (a_name x) a ∷ ts → token (a_name x) a ∷ ts ≡ onto_core y rest
-          → Answers {A = Unit {0}} (λ _ r. WasRead c.args.reader.now.variables rest c.args.reader.now c.named_statement.new.reader
+          → Answers {A = Unit {0}} (λ _ r. WasRead c.args.reader.now.integers c.args.reader.now.variables rest c.args.reader.now
+          c.named_statement.new.reader
           c.named_statement.new.known c.args.out.now.items c.named_statement.new.out.items r) c.named_statement.result
-          (read_core (line_at c.args.reader.now.text) c.args.reader.now.variables c.args.inside c.args.known.now y)
+          (read_core c.args.reader.now.integers (line_at c.args.reader.now.text) c.args.reader.now.variables c.args.inside
+          c.args.known.now y)
       named x a ts y rest g e f =
           let old : Reading = c.args.reader.now in
           let t = taken_is ts old c.take_name.new.reader c.in_ok-first-in-Name.first x a (c.in_ok-first-in-Name.ensures.reads x a ts e) in
-          let P : Reading → Type 0 = λ m. Answers {A = Unit {0}} (λ _ r. WasRead m.variables rest m c.named_statement.new.reader
+          let P : Reading → Type 0 = λ m. Answers {A = Unit {0}} (λ _ r. WasRead m.integers m.variables rest m c.named_statement.new.reader
           c.named_statement.new.known c.args.out.now.items c.named_statement.new.out.items r) c.named_statement.result
-          (read_core (line_at m.text) m.variables c.args.inside c.args.known.now y) in
+          (read_core m.integers (line_at m.text) m.variables c.args.inside c.args.known.now y) in
           let q : P (at_tokens old ts) = subst P t.2 (c.named_statement.ensures.reads c.args.inside y rest g
           (ap₂ (λ x a. token (a_name x) a ∷ c.take_name.new.reader.ahead) t.0 t.1
           ∙ ap (λ (r : Reading). token (a_name x) a ∷ r.ahead) t.2 ∙ f)) in
-          same_read old.variables ts rest old c.named_statement.new.reader c.named_statement.new.known c.args.out.now.items
+          same_read old.integers old.variables ts rest old c.named_statement.new.reader c.named_statement.new.known c.args.out.now.items
           c.named_statement.new.out.items c.named_statement.result
-          (read_core (line_at old.text) old.variables c.args.inside c.args.known.now y) q
+          (read_core old.integers (line_at old.text) old.variables c.args.inside c.args.known.now y) q
 
       on : (x : Core) (rest : List Token) → GoodCore x → c.args.reader.now.ahead ≡ onto_core x rest → begins_name ≡ begins x
-          → Answers {A = Unit {0}} (λ _ r. WasRead c.args.reader.now.variables rest c.args.reader.now c.named_statement.new.reader
+          → Answers {A = Unit {0}} (λ _ r. WasRead c.args.reader.now.integers c.args.reader.now.variables rest c.args.reader.now
+          c.named_statement.new.reader
           c.named_statement.new.known c.args.out.now.items c.named_statement.new.out.items r) c.named_statement.result
-          (read_core (line_at c.args.reader.now.text) c.args.reader.now.variables c.args.inside c.args.known.now x)
+          (read_core c.args.reader.now.integers (line_at c.args.reader.now.text) c.args.reader.now.variables c.args.inside
+          c.args.known.now x)
       on (calls x a b es d i) rest g e h =
           named x a (token left_paren b ∷ (spell_arguments es ++ token right_paren d ∷ token semicolon i ∷ rest)) (calls x a b es d i) rest
           g e refl
@@ -160,9 +181,10 @@ returns-in_default c = record {
 } where
   on : (x : Core) (rest : List Token) → IsSimple x → GoodCore x → c.args.reader.now.ahead ≡ onto_core x rest
       → start_of c.coming.result ≡ begins x
-      → Answers {A = Unit {0}} (λ _ r. WasRead c.args.reader.now.variables rest c.args.reader.now c.update_statement.new.reader
+      → Answers {A = Unit {0}} (λ _ r. WasRead c.args.reader.now.integers c.args.reader.now.variables rest c.args.reader.now
+      c.update_statement.new.reader
       c.update_statement.new.known c.args.out.now.items c.update_statement.new.out.items r) c.update_statement.result
-      (read_core (line_at c.args.reader.now.text) c.args.reader.now.variables c.args.inside c.args.known.now x)
+      (read_core c.args.reader.now.integers (line_at c.args.reader.now.text) c.args.reader.now.variables c.args.inside c.args.known.now x)
   on (empty a) rest s g e h = absurd (c.in_default.not-Semicolon (says_semicolon c.coming.result h))
   on (jumps j a b) rest s g e h = let k = says_jump c.coming.result j h in absurd (c.in_default.not-Jump k.0 k.1)
   on (returns a t b) rest s g e h = absurd (c.in_default.not-Return (says_return c.coming.result h))

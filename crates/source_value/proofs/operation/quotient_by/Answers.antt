@@ -18,11 +18,11 @@ pub returns-in_err-constant_form : goal.returns-in_err-constant_form
 returns-in_err-constant_form c = λ d s.
     let n = c.args.site.variables in
     let line = c.args.site.line in
-    let f = c.args.form in
+    let f = c.args.form.now in
     let z = c.args.divisor in
     let v = c.ranges.divisor in
     let whole = constant_form (int_div f.constant z) in
-    let fw : FitsSigned w64 c.args.form.constant = search rules in
+    let fw : FitsSigned w64 c.args.form.now.constant = search rules in
     let w : FitsSigned w128 c.quotient_of-quotient.result = search rules in
     let same : c.quotient_of-quotient.result ≡ int_div f.constant z = simp to_z-of_z at c.quotient_of-quotient.ensures in
     let unit : is_unit z ≡ false = sym (simp to_z-of_z at c.is_unit.ensures) ∙ c.if-is_unit.false in
@@ -35,16 +35,16 @@ returns-in_err-constant_form c = λ d s.
     simp to_z-of_z at (c.in_err-constant_form.ensures m) in
     form_unfit d.prelude whole (ap (λ x. has_numbers (constant_form x)) (sym same) ∙ e)))
 
-pub returns-then-is_constant : goal.returns-then-is_constant
-returns-then-is_constant c = λ d s.
+pub returns-in_ok-constant_form : goal.returns-in_ok-constant_form
+returns-in_ok-constant_form c = λ d s.
     let n = c.args.site.variables in
     let line = c.args.site.line in
-    let f = c.args.form in
+    let f = c.args.form.now in
     let z = c.args.divisor in
     let v = c.ranges.divisor in
     let whole = constant_form (int_div f.constant z) in
     let form = c.in_ok-constant_form.field-0 in
-    let fw : FitsSigned w64 c.args.form.constant = search rules in
+    let fw : FitsSigned w64 c.args.form.now.constant = search rules in
     let w : FitsSigned w128 c.quotient_of-quotient.result = search rules in
     let same : c.quotient_of-quotient.result ≡ int_div f.constant z = simp to_z-of_z at c.quotient_of-quotient.ensures in
     let unit : is_unit z ≡ false = sym (simp to_z-of_z at c.is_unit.ensures) ∙ c.if-is_unit.false in

@@ -18,11 +18,11 @@ pub returns-in_err-constant_form-2 : goal.returns-in_err-constant_form-2
 returns-in_err-constant_form-2 c = λ d s.
     let n = c.args.site.variables in
     let line = c.args.site.line in
-    let f = c.args.form in
+    let f = c.args.form.now in
     let z = c.args.divisor in
     let v = c.ranges.divisor in
     let whole = constant_form (int_rem f.constant z) in
-    let fw : FitsSigned w64 c.args.form.constant = search rules in
+    let fw : FitsSigned w64 c.args.form.now.constant = search rules in
     let w : FitsSigned w128 c.remainder_of-remainder.result = search rules in
     let same : c.remainder_of-remainder.result ≡ int_rem f.constant z = simp to_z-of_z at c.remainder_of-remainder.ensures in
     let unit : is_unit z ≡ false = sym (simp to_z-of_z at c.is_unit.ensures) ∙ c.if-is_unit.false in
@@ -35,16 +35,16 @@ returns-in_err-constant_form-2 c = λ d s.
     simp to_z-of_z at (c.in_err-constant_form-2.ensures m) in
     form_unfit d.prelude whole (ap (λ x. has_numbers (constant_form x)) (sym same) ∙ e)))
 
-pub returns-then-is_constant : goal.returns-then-is_constant
-returns-then-is_constant c = λ d s.
+pub returns-in_ok-constant_form-2 : goal.returns-in_ok-constant_form-2
+returns-in_ok-constant_form-2 c = λ d s.
     let n = c.args.site.variables in
     let line = c.args.site.line in
-    let f = c.args.form in
+    let f = c.args.form.now in
     let z = c.args.divisor in
     let v = c.ranges.divisor in
     let whole = constant_form (int_rem f.constant z) in
     let form = c.in_ok-constant_form-2.field-0 in
-    let fw : FitsSigned w64 c.args.form.constant = search rules in
+    let fw : FitsSigned w64 c.args.form.now.constant = search rules in
     let w : FitsSigned w128 c.remainder_of-remainder.result = search rules in
     let same : c.remainder_of-remainder.result ≡ int_rem f.constant z = simp to_z-of_z at c.remainder_of-remainder.ensures in
     let unit : is_unit z ≡ false = sym (simp to_z-of_z at c.is_unit.ensures) ∙ c.if-is_unit.false in
@@ -60,7 +60,7 @@ pub returns-in_err-left : goal.returns-in_err-left
 returns-in_err-left c = λ d s.
     let n = c.args.site.variables in
     let line = c.args.site.line in
-    let f = c.args.form in
+    let f = c.args.form.now in
     let z = c.args.divisor in
     let v = c.ranges.divisor in
     let whole = left line d.prelude d.next f z in
@@ -74,11 +74,11 @@ returns-in_err-left c = λ d s.
     (λ m. let e : has_numbers (minus f (scaled z c.in_ok-hidden.hidden)) ≡ false = simp to_z-of_z at (c.in_err-left.ensures m) in
     form_unfit behind whole (ap (λ x. has_numbers (minus f (scaled z x))) (sym hide) ∙ e)))
 
-pub returns : goal.returns
-returns c = λ d s.
+pub returns-in_ok-after : goal.returns-in_ok-after
+returns-in_ok-after c = λ d s.
     let n = c.args.site.variables in
     let line = c.args.site.line in
-    let f = c.args.form in
+    let f = c.args.form.now in
     let z = c.args.divisor in
     let v = c.ranges.divisor in
     let whole = left line d.prelude d.next f z in
