@@ -85,6 +85,13 @@ static int tmpl_divisor(int check, int value) {
     return value;
 }
 
+// An element that is written, wherever it is.
+static int *tmpl_place(int index) {
+    static int place;
+    place = tmpl_any();
+    return &place + 0 * index;
+}
+
 static int tmpl_element(int index) {
     (void)index;
     return tmpl_any();

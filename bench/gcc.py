@@ -2,9 +2,9 @@
 """Functions of C against C itself: each is compiled by gcc with a harness that draws its inputs, and what its runs pass is held against what
 `tmpl` prints of it. `bench/gcc.sh` calls it.
 
-    bench/gcc.py [RUNS]     RUNS for each function, 20,000 if absent
+    bench/gcc.py [RUNS [FILES]]     RUNS for each function, 20,000 if absent, and FILES whole files made at random, 30 if absent
 
-Of each function of crates/test_run/src/functions/ and of examples/functions/: in every state at a loop's head, at a label and at the
+Of each function of crates/test_run/src/functions/, of examples/functions/ and examples/files/, and of whole files that are made here: in every state at a loop's head, at a label and at the
 exit the values of the variables that C knows there are within the bounds of `solve`, over intervals and over octagons; and no check that
 `verify` calls proved is violated. A run ends where an assumption is false, where a check is, and where an operation overflows (`-ftrapv`),
 since the bounds are about whole numbers. What is called answers anything, and so does an element of an array.
@@ -18,6 +18,7 @@ import tempfile
 from fractions import Fraction
 
 from ctree import Reader
+from whole_files import generated
 
 TOP = os.path.dirname(os.path.dirname(os.path.realpath(__file__)))
 DOMAINS = ("intervals", "octagons")
@@ -27,9 +28,11 @@ HARNESS = os.path.join(TOP, "bench", "gcc.c")
 class Printed:
     """A function printed as C, with calls of the harness at its points and round what its checks ask of."""
 
-    def __init__(self, text, points, checks):
-        self.name, self.parameters, items, _ = Reader(text).function()
-        self.variables, self.scopes, self.sizes, self.called = [], [[]], {}, set()
+    def __init__(self, text, points, checks, asked=None):
+        self.name, parameters, items, _ = Reader(text, asked).function()
+        self.variables, self.scopes, self.sizes = [], [[]], {}
+        self.parameters = [name for name, sizes in parameters if not sizes]
+        self.sizes.update({name: sizes for name, sizes in parameters if sizes})
         self.loops = iter([k for k, point in enumerate(points) if point["kind"] == "loop"])
         self.labels = iter([k for k, point in enumerate(points) if point["kind"] == "label"])
         self.exit = len(points) - 1
@@ -42,7 +45,8 @@ class Printed:
         self.text = f"static int analysed({head}) {{\n{body}{self.see(self.exit)}; return 0;\n}}\n"
 
     def declare(self, name):
-        self.variables.append(name)
+        if name not in self.variables:
+            self.variables.append(name)
         self.scopes[-1].append(name)
 
     def see(self, point):
@@ -88,12 +92,16 @@ class Printed:
     def call(self, it):
         """A call that is a statement: some end the run, and some aren't to be reached."""
         _, name, arguments, place = it
-        given = "".join(f"(void)({self.value(argument)}); " for argument in arguments)
+        given = self.given(arguments, "; ")
         if place in self.checks:
             return f"{{ {given}tmpl_holds({self.checks[place]}, 0); }}"
         if name in ("abort", "exit"):
             return f"{{ {given}{self.see(self.exit)}; return 0; }}"
         return f"{{ {given}}}"
+
+    def given(self, arguments, end):
+        """Arguments, evaluated; an array's name alone is nothing to evaluate."""
+        return "".join(f"(void)({self.value(it)}){end}" for it in arguments if it[0] != "variable" or it[1] not in self.sizes)
 
     def loop(self, it):
         point = next(self.loops)
@@ -113,24 +121,26 @@ class Printed:
 
     def declared(self, declarators):
         text = ""
-        for name, value, size in declarators:
-            if size is not None:
-                self.sizes[name] = size
-                text += f"static int {name}[{size}]; "
+        for name, value, sizes in declarators:
+            if sizes:
+                self.sizes[name] = sizes
+                text += "".join(f"(void)({self.value(it)}); " for it in value)
                 continue
             text += f"int {name} = {'tmpl_any()' if value is None else self.value(value)}; "
             self.declare(name)
         return text
 
     def change(self, change):
-        (name, bracket, index), sign, at, right = change
-        target = name if bracket is None else f"{name}[{self.index(name, bracket, index)}]"
+        (name, indexes), sign, at, right = change
+        target = f"*tmpl_place({self.indexed(name, indexes)})" if indexes else name
         if right is None:
-            return f"{target}{sign}"
+            return f"{target} {sign}= 1".replace("++=", "+=").replace("--=", "-=")
         return f"{target} {sign} {self.divisor(at, self.value(right))}"
 
-    def index(self, name, bracket, index):
-        return f"tmpl_index_of({self.checks[bracket]}, {self.sizes[name]}, {self.value(index)})"
+    def indexed(self, name, indexes):
+        """The indexes of an element, each held against its check; where a size isn't known there is an element at each index from 0 on."""
+        sizes = zip(indexes, self.sizes[name])
+        return " + ".join(f"0 * tmpl_index_of({self.checks[at]}, {size or 2**40}, {self.value(it)})" for (at, it), size in sizes)
 
     def divisor(self, at, value):
         return f"tmpl_divisor({self.checks[at]}, {value})" if at in self.checks else f"({value})"
@@ -138,13 +148,13 @@ class Printed:
     def value(self, it):
         kind = it[0]
         if kind == "number":
-            return it[1] if int(it[1]) < 2**31 else it[1] + "L"
+            return f"({it[1]}L)" if it[1] >= 2**31 else f"({it[1]})" if it[1] > -(2**31) else f"({it[1] + 1} - 1)"
         if kind == "variable":
             return it[1]
         if kind == "element":
-            return f"tmpl_element({self.index(it[1], it[2], it[3])})"
+            return f"tmpl_element({self.indexed(it[1], it[2])})"
         if kind == "call":
-            return "(" + "".join(f"(void)({self.value(argument)}), " for argument in it[2]) + "tmpl_any())"
+            return "(" + self.given(it[2], ", ") + "tmpl_any())"
         if kind == "grouped":
             return f"({self.value(it[1])})"
         if kind == "prefixed":
@@ -155,9 +165,9 @@ class Printed:
         return f"({self.value(left)} {sign} {self.divisor(at, self.value(right))})"
 
 
-def answer(command, file, domain):
-    """What `tmpl` writes of a file in JSON; None where it refuses it."""
-    words = [f"{TOP}/tmpl", command, file, "--format", "json", "--domain", domain]
+def answer(command, file, domain, asked):
+    """What `tmpl` writes of a function of a file in JSON; None where it refuses it."""
+    words = [f"{TOP}/tmpl", command, file, "--format", "json", "--domain", domain] + (["--function", asked] if asked else [])
     ran = subprocess.run(words, capture_output=True, check=False)
     return json.loads(ran.stdout) if ran.returncode in (0, 10) else None
 
@@ -183,15 +193,15 @@ def bounds_in_c(report):
     return "static const struct row rows[] = {" + ", ".join([*rows, "{-1, 0, {0}, {0}, 0, 0}"]) + "};"
 
 
-def tried(text, domain, runs, room):
+def tried(text, asked, domain, runs, room):
     """What the compiled function says of its runs, and whether it is as it is to be; None where `tmpl` refuses the text."""
     file = f"{room}/function.c"
     with open(file, "w", encoding="utf-8") as it:
         it.write(text)
-    report, verdicts = answer("solve", file, domain), answer("verify", file, domain)
+    report, verdicts = answer("solve", file, domain, asked), answer("verify", file, domain, asked)
     if report is None or verdicts is None:
         return None
-    printed = Printed(text, report["points"], verdicts["checks"])
+    printed = Printed(text, report["points"], verdicts["checks"], asked)
     if printed.variables != report["variables"]:
         return "its variables are others", False
     proved = ", ".join("1" if check["verdict"] == "proved" else "0" for check in verdicts["checks"]) or "0"
@@ -216,25 +226,34 @@ def tried(text, domain, runs, room):
     return (ran.stdout + ran.stderr).strip(), ran.returncode == 0
 
 
-def texts():
-    """The functions that are tried, with their names."""
+FILES = {"ring.c": ("ring_copy",), "date.c": ("month_of", "weekday_behind"), "classes.c": ("rounded", "class_of")}
+
+
+def texts(files):
+    """The functions that are tried: what they are called here, their texts, and which of these is asked about."""
     for table in ("judged", "reports"):
         with open(f"{TOP}/crates/test_run/src/functions/{table}.rt", encoding="utf-8") as it:
             for name, text in re.findall(r'const (\w+): &\[u8\] =\s*b"((?:int|void) (?:[^"\\]|\\.)*)";', it.read()):
-                yield name.lower(), text.replace('\\"', '"').replace("\\\\", "\\")
+                yield name.lower(), text.replace('\\"', '"').replace("\\\\", "\\"), None
     folder = f"{TOP}/examples/functions"
     for name in sorted(os.listdir(folder)):
         with open(f"{folder}/{name}", encoding="utf-8") as it:
-            yield name, it.read()
+            yield name, it.read(), None
+    for name, functions in FILES.items():
+        with open(f"{TOP}/examples/files/{name}", encoding="utf-8") as it:
+            text = it.read()
+        yield from ((f"{name} {asked}", text, asked) for asked in functions)
+    for seed in range(files):
+        yield (f"made {seed}", *generated(seed))
 
 
 def main():
-    runs = int(sys.argv[1]) if len(sys.argv) > 1 else 20000
+    runs, files = (int(word) for word in (sys.argv[1:] + ["20000", "30"][len(sys.argv) - 1:])[:2])
     wrong = 0
     with tempfile.TemporaryDirectory() as room:
-        for name, text in texts():
+        for name, text, asked in texts(files):
             for domain in DOMAINS:
-                said = tried(text, domain, runs, room)
+                said = tried(text, asked, domain, runs, room)
                 if said is None:
                     print(f"{name}, {domain}: refused")
                     continue

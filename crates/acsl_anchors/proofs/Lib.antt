@@ -1,3 +1,4 @@
+pub mod Variables
 pub mod machine
 pub mod standing
 pub mod walked

@@ -1,11 +1,14 @@
 -- The loops, the labels and the end of a function in the order of its text, and the variables that are known there.
-use Rattle.std.specs.Prelude.{◌+◌, ◌++◌, ℕ, List, [], ◌∷◌}
-use Rattle.source_grammar.specs.Grammar.{Initialiser, bare, given, sized, Declarator, declarator, MoreDeclarators, last_declarator}
+use Rattle.std.specs.Prelude.{◌+◌, ◌++◌, ℕ, suc, List, [], ◌∷◌, if◌then◌else◌}
+use Rattle.std.specs.Str.{bytes_eq}
+use Rattle.source_grammar.specs.Tokens.{Name}
+use Rattle.source_grammar.specs.Grammar.{Initialiser, bare, given, sized, filled, Declarator, declarator, MoreDeclarators, last_declarator}
 use Rattle.source_grammar.specs.Grammar.{next_declarator, Declarators, declares, ForFirst, declared_first, updated_first}
 use Rattle.source_grammar.specs.Grammar.{Core, empty, block, if_alone, if_else, repeat, repeat_after, repeat_for, jumps, returns, demands}
 use Rattle.source_grammar.specs.Grammar.{calls, updates, Sub, labelled, plain, Items, no_items, label, declaration, item}
 use Rattle.source_grammar.specs.Grammar.{MoreParameters, last_parameter, next_parameter, Parameters, no_parameters, void_parameters}
-use Rattle.source_grammar.specs.Grammar.{int_parameters, Function, function}
+use Rattle.source_grammar.specs.Grammar.{some_parameters, Parameter, number_parameter, pointer_parameter, array_parameter, Function}
+use Rattle.source_grammar.specs.Grammar.{function}
 
 -- what stands at an anchor
 pub data What : Type 0 where
@@ -21,24 +24,35 @@ pub record Anchor : Type 0 where
   pub place : ℕ
   pub known : List ℕ
 
--- how many variables have been declared, and the numbers of those that are known
+-- the variables in the order of their first declarations, and the numbers of those that are known
 pub record Scope : Type 0 where
-  pub declared : ℕ
+  pub variables : List (List ℕ)
   pub known : List ℕ
 
--- one variable more
-abbrev pub declared_one : Scope → Scope
-declared_one s = record { declared = s.declared + 1; known = s.known ++ s.declared ∷ [] }
+-- the number of the variable with this name, or of the next one where none has it
+abbrev pub number_among : List ℕ → List (List ℕ) → ℕ
+number_among x [] = 0
+number_among x (y ∷ ys) = if bytes_eq x y then 0 else suc (number_among x ys)
+
+-- the variables, with this one behind them where it is none of them
+abbrev pub with_one : List ℕ → List (List ℕ) → List (List ℕ)
+with_one x [] = x ∷ []
+with_one x (y ∷ ys) = if bytes_eq x y then y ∷ ys else y ∷ with_one x ys
+
+-- a variable is declared: one that was declared before is known again
+abbrev pub declared : List ℕ → Scope → Scope
+declared x s = record { variables = with_one x s.variables; known = s.known ++ number_among x s.variables ∷ [] }
 
 -- the scope after a name that is declared: an array is no variable
-abbrev pub scope_by : Initialiser → Scope → Scope
-scope_by bare s = declared_one s
-scope_by (given a e) s = declared_one s
-scope_by (sized a n b c) s = s
+abbrev pub scope_by : List ℕ → Initialiser → Scope → Scope
+scope_by x bare s = declared x s
+scope_by x (given a e) s = declared x s
+scope_by x (sized ss) s = s
+scope_by x (filled ss a b vs c) s = s
 
 -- the scope after a declarator
 abbrev pub scope_declarator : Declarator → Scope → Scope
-scope_declarator (declarator x a i) s = scope_by i s
+scope_declarator (declarator x a i) s = scope_by x.text i s
 
 -- the scope after the declarators behind the first
 abbrev pub scope_more_declarators : MoreDeclarators → Scope → Scope
@@ -51,12 +65,12 @@ scope_declarators (declares x xs) s = scope_more_declarators xs (scope_declarato
 
 -- the scope after the first part of a `for`'s head
 abbrev pub scope_first : ForFirst → Scope → Scope
-scope_first (declared_first a xs) s = scope_declarators xs s
+scope_first (declared_first t xs) s = scope_declarators xs s
 scope_first (updated_first us) s = s
 
 -- behind a block what was known before it is known
 abbrev pub closing : Scope → Scope → Scope
-closing before behind = record { declared = behind.declared; known = before.known }
+closing before behind = record { variables = behind.variables; known = before.known }
 
 abbrev mutual
   -- the scope behind a statement; a loop with a declaration in its head is a block
@@ -83,7 +97,7 @@ abbrev mutual
   pub scope_items : Items → Scope → Scope
   scope_items no_items s = s
   scope_items (label x a b is) s = scope_items is s
-  scope_items (declaration a xs b is) s = scope_items is (scope_declarators xs s)
+  scope_items (declaration t xs b is) s = scope_items is (scope_declarators xs s)
   scope_items (item c is) s = scope_items is (scope_core c s)
 
 -- the anchor of a loop stands before its first token
@@ -91,8 +105,8 @@ abbrev pub loop_at : ℕ → Scope → Anchor
 loop_at first s = record { what = a_loop; first = first; place = first; known = s.known }
 
 -- that of a label stands behind its colon
-abbrev pub label_at : List ℕ → (first colon : ℕ) → Scope → Anchor
-label_at name first colon s = record { what = a_label name; first = first; place = colon + 1; known = s.known }
+abbrev pub label_at : Name → (first colon : ℕ) → Scope → Anchor
+label_at name first colon s = record { what = a_label name.text; first = first; place = colon + 1; known = s.known }
 
 abbrev mutual
   -- the anchors in a statement; what is declared in the head of a `for` is known at the loop
@@ -119,23 +133,29 @@ abbrev mutual
   pub anchors_items : Items → Scope → List Anchor
   anchors_items no_items s = []
   anchors_items (label x a b is) s = label_at x a b s ∷ anchors_items is s
-  anchors_items (declaration a xs b is) s = anchors_items is (scope_declarators xs s)
+  anchors_items (declaration t xs b is) s = anchors_items is (scope_declarators xs s)
   anchors_items (item c is) s = anchors_core c s ++ anchors_items is (scope_core c s)
 
 -- nothing has been declared
 abbrev pub no_scope : Scope
-no_scope = record { declared = 0; known = [] }
+no_scope = record { variables = []; known = [] }
+
+-- the scope after a parameter: an array is no variable
+abbrev pub scope_parameter : Parameter → Scope → Scope
+scope_parameter (number_parameter t x a) s = declared x.text s
+scope_parameter (pointer_parameter t a x b) s = s
+scope_parameter (array_parameter t x a bs) s = s
 
 -- the scope after the parameters behind the first
 abbrev pub scope_more_parameters : MoreParameters → Scope → Scope
 scope_more_parameters last_parameter s = s
-scope_more_parameters (next_parameter a b x c ps) s = scope_more_parameters ps (declared_one s)
+scope_more_parameters (next_parameter a p ps) s = scope_more_parameters ps (scope_parameter p s)
 
 -- the scope after parameters
 abbrev pub scope_parameters : Parameters → Scope → Scope
 scope_parameters no_parameters s = s
 scope_parameters (void_parameters a) s = s
-scope_parameters (int_parameters a x b ps) s = scope_more_parameters ps (declared_one s)
+scope_parameters (some_parameters p ps) s = scope_more_parameters ps (scope_parameter p s)
 
 -- the place of the end where a statement is the last one: that of a `return`, or of the brace
 abbrev pub core_end : Core → (brace : ℕ) → ℕ
@@ -146,7 +166,7 @@ core_end _ brace = brace
 abbrev pub end_behind : (last : ℕ) → Items → (brace : ℕ) → ℕ
 end_behind last no_items brace = last
 end_behind last (label x a b is) brace = end_behind brace is brace
-end_behind last (declaration a xs b is) brace = end_behind brace is brace
+end_behind last (declaration t xs b is) brace = end_behind brace is brace
 end_behind last (item c is) brace = end_behind (core_end c brace) is brace
 
 -- the end stands before a `return` that is the last item of the body, or else before the brace

@@ -1,7 +1,7 @@
 -- A machine that finds the anchors of a function, token by token: a stack of what has still to come.
 use Rattle.std.specs.Prelude.{◌++◌, ◌+◌, ℕ, List, [], ◌∷◌, length, take}
 use Rattle.source_grammar.specs.Tokens.{Token, token}
-use Rattle.acsl_anchors.specs.Anchors.{Scope, declared_one}
+use Rattle.acsl_anchors.specs.Anchors.{Scope, declared}
 use Rattle.acsl_anchors.specs.Parts.{part_of}
 use Rattle.acsl_anchors.specs.declared.part.Part.{Part}
 use Rattle.acsl_anchors.specs.declared.part.Part.TheVariants as part
@@ -41,11 +41,12 @@ ending_entry f _ = enters.Drops
 
 -- what a statement's first token leaves to come, where n variables are known
 abbrev pub statement_entry : Place → Part → (a n : ℕ) → Entry
-statement_entry p part.Name a n = enters.Takes effect.Nothing (next.One (goal.AfterName p a)) p
+statement_entry p (part.Name x) a n = enters.Takes effect.Nothing (next.One (goal.AfterName p a)) p
 statement_entry p part.Semicolon a n = enters.Takes effect.Nothing next.Zero p
 statement_entry p part.LeftBrace a n = enters.Takes effect.Nothing (next.One (goal.Statement (place.Block n))) p
 statement_entry p part.RightBrace a n = close_entry p a
 statement_entry p part.Int a n = enters.Takes effect.Nothing (next.One goal.Declaring) p
+statement_entry p part.Const a n = enters.Takes effect.Nothing (next.One goal.Declaring) p
 statement_entry p part.Return a n = return_entry p a
 statement_entry p part.If a n = enters.Takes effect.Nothing (next.Three goal.Condition (goal.Statement place.Sub) goal.MaybeElse) p
 statement_entry p part.While a n = enters.Takes (effect.Loop a) (next.Two goal.Condition (goal.Statement place.Sub)) p
@@ -74,19 +75,31 @@ abbrev pub rest_entry : Part → Entry
 rest_entry part.Semicolon = taken next.Zero
 rest_entry _ = taken (next.One goal.Rest)
 
--- behind a name that is declared: an array is no variable
-abbrev pub named_entry : Part → Entry
-named_entry part.LeftBracket = taken (next.One goal.Declared)
-named_entry part.Semicolon = enters.Takes effect.Declares next.Zero place.Sub
-named_entry part.Comma = enters.Takes effect.Declares (next.One goal.Declaring) place.Sub
-named_entry _ = enters.Takes effect.Declares (next.One goal.Declared) place.Sub
+-- the name that is declared, behind `int`
+abbrev pub declaring_entry : Part → Entry
+declaring_entry (part.Name x) = taken (next.One (goal.Named x))
+declaring_entry _ = taken (next.One goal.Declaring)
+
+-- behind this name, which is declared: an array is no variable
+abbrev pub named_entry : List ℕ → Part → Entry
+named_entry x part.LeftBracket = taken (next.One goal.Declared)
+named_entry x part.Semicolon = enters.Takes (effect.Declares x) next.Zero place.Sub
+named_entry x part.Comma = enters.Takes (effect.Declares x) (next.One goal.Declaring) place.Sub
+named_entry x _ = enters.Takes (effect.Declares x) (next.One goal.Declared) place.Sub
 
 -- behind that: a comma declares one more
 abbrev pub declared_entry : Part → Entry
 declared_entry part.Semicolon = taken next.Zero
 declared_entry part.Comma = taken (next.One goal.Declaring)
 declared_entry part.LeftParen = taken (next.Two goal.Paren goal.Declared)
+declared_entry part.LeftBrace = taken (next.Two goal.Brace goal.Declared)
 declared_entry _ = taken (next.One goal.Declared)
+
+-- up to the brace that closes
+abbrev pub brace_entry : Part → Entry
+brace_entry part.LeftBrace = taken (next.Two goal.Brace goal.Brace)
+brace_entry part.RightBrace = taken next.Zero
+brace_entry _ = taken (next.One goal.Brace)
 
 -- up to the parenthesis that closes
 abbrev pub paren_entry : Part → Entry
@@ -99,6 +112,7 @@ abbrev pub first_entry : (start : ℕ) → Part → Entry
 first_entry f part.LeftParen = taken (next.One (goal.First f))
 first_entry f part.Semicolon = taken (next.One (goal.Test f))
 first_entry f part.Int = taken (next.Two goal.Declaring (goal.Test f))
+first_entry f part.Const = taken (next.Two goal.Declaring (goal.Test f))
 first_entry f _ = taken (next.Two goal.Rest (goal.Test f))
 
 -- its condition; behind it what the head declares is known, and the loop is found
@@ -111,24 +125,37 @@ abbrev pub front_entry : Part → Entry
 front_entry part.LeftParen = taken (next.One goal.Parameters)
 front_entry _ = taken (next.One goal.Front)
 
--- each parameter is a variable; the brace opens the body
+-- each `int` begins a parameter; the brace opens the body
 abbrev pub parameters_entry : Part → Entry
 parameters_entry part.LeftBrace = taken (next.One (goal.Statement place.Body))
-parameters_entry part.Int = enters.Takes effect.Declares (next.One goal.Parameters) place.Sub
+parameters_entry part.Int = taken (next.One goal.Parameter)
 parameters_entry _ = taken (next.One goal.Parameters)
+
+-- its name stands behind `int` at once where it is no pointer
+abbrev pub parameter_entry : Part → Entry
+parameter_entry (part.Name x) = taken (next.One (goal.NamedParameter x))
+parameter_entry _ = taken (next.One goal.Parameters)
+
+-- behind this name, which is a variable where it is no array
+abbrev pub named_parameter_entry : List ℕ → Part → Entry
+named_parameter_entry x part.LeftBracket = taken (next.One goal.Parameters)
+named_parameter_entry x _ = enters.Takes (effect.Declares x) (next.One goal.Parameters) place.Sub
 
 -- what a goal makes of a token at this place, where n variables are known
 abbrev pub entry : Goal → Part → (a n : ℕ) → Entry
 entry goal.Front k a n = front_entry k
 entry goal.Parameters k a n = parameters_entry k
+entry goal.Parameter k a n = parameter_entry k
+entry (goal.NamedParameter x) k a n = named_parameter_entry x k
 entry (goal.Statement p) k a n = statement_entry p k a n
 entry (goal.AfterName p f) k a n = name_entry p f k a
 entry goal.MaybeElse k a n = else_entry k
 entry goal.Rest k a n = rest_entry k
 entry (goal.Ending f) k a n = ending_entry f k
-entry goal.Declaring k a n = taken (next.One goal.Named)
-entry goal.Named k a n = named_entry k
+entry goal.Declaring k a n = declaring_entry k
+entry (goal.Named x) k a n = named_entry x k
 entry goal.Declared k a n = declared_entry k
+entry goal.Brace k a n = brace_entry k
 entry goal.Condition k a n = taken (next.One goal.Paren)
 entry goal.Paren k a n = paren_entry k
 entry (goal.First f) k a n = first_entry f k
@@ -151,7 +178,7 @@ before (next.Three g h i) gs = g ∷ h ∷ i ∷ gs
 -- what a token declares
 abbrev pub scope_with : Effect → Scope → Scope
 scope_with effect.Nothing s = s
-scope_with effect.Declares s = declared_one s
+scope_with (effect.Declares x) s = declared x s
 scope_with (effect.Loop a) s = s
 scope_with (effect.Label a b) s = s
 scope_with (effect.End a) s = s
@@ -159,14 +186,14 @@ scope_with (effect.End a) s = s
 -- the anchor of a token, behind those that were found before
 abbrev pub anchors_with : Effect → Scope → List Anchor → List Anchor
 anchors_with effect.Nothing s found = found
-anchors_with effect.Declares s found = found
+anchors_with (effect.Declares x) s found = found
 anchors_with (effect.Loop a) s found = found ++ record { what = what.Loop; first = a; place = a; known = s.known } ∷ []
 anchors_with (effect.Label a b) s found = found ++ record { what = what.Label; first = a; place = b + 1; known = s.known } ∷ []
 anchors_with (effect.End a) s found = found ++ record { what = what.End; first = a; place = a; known = s.known } ∷ []
 
 -- only the first n variables are known
 abbrev pub kept : ℕ → Scope → Scope
-kept n s = record { declared = s.declared; known = take n s.known }
+kept n s = record { variables = s.variables; known = take n s.known }
 
 -- what has still to come, what has been declared, and the anchors so far
 pub record State : Type 0 where
@@ -194,4 +221,4 @@ run st (token k a ∷ ts) = run (step st.goals (part_of k) a st.scope st.found) 
 
 -- a whole function has to come
 abbrev pub start : State
-start = state (goal.Front ∷ []) (record { declared = 0; known = [] }) []
+start = state (goal.Front ∷ []) (record { variables = []; known = [] }) []

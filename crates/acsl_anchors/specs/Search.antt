@@ -13,7 +13,7 @@ stack_of goals = reverse goals
 
 -- the scope of the search
 abbrev pub scope_in : Search → Scope
-scope_in search = record { declared = search.declared; known = search.known.items }
+scope_in search = record { variables = search.variables.items; known = search.known.items }
 
 -- the state of the machine that the search stands for
 abbrev pub state_of : Search → State

@@ -1,10 +1,13 @@
 //! What has to come next, and what it makes of a token.
 
 ghost use Rattle.std.specs.Prelude.{◌≡◌, ◌<◌};
-ghost use Rattle.acsl_anchors.specs.Machine.{entry, close_entry, declared_entry, else_entry, ending_entry, first_entry, front_entry};
-ghost use Rattle.acsl_anchors.specs.Machine.{label_next, named_entry, paren_entry, parameters_entry, return_entry, statement_entry};
+ghost use Rattle.acsl_anchors.specs.Machine.{brace_entry, close_entry, declared_entry, declaring_entry, else_entry, ending_entry};
+ghost use Rattle.acsl_anchors.specs.Machine.{entry, first_entry, front_entry, label_next, name_entry, named_entry, named_parameter_entry};
+ghost use Rattle.acsl_anchors.specs.Machine.{paren_entry, parameter_entry, parameters_entry, rest_entry, return_entry, statement_entry};
+ghost use Rattle.acsl_anchors.specs.Machine.{test_entry};
 
 use crate::part::Part;
+use lang_tree::Name;
 
 /// Where a statement stands.
 #[derive(Clone, Copy)]
@@ -18,12 +21,16 @@ pub enum Place {
 }
 
 /// What has to come.
-#[derive(Clone, Copy)]
+#[derive(Drop)]
 pub enum Goal {
     /// All up to the parenthesis of the parameters.
     Front,
     /// The parameters, and all up to the brace of the body.
     Parameters,
+    /// The name of a parameter behind its `int`, if it is no pointer.
+    Parameter,
+    /// What follows that name.
+    NamedParameter(Name),
     Statement(Place),
     /// What follows the name, which begins at this byte, that a statement begins with.
     AfterName(Place, u32),
@@ -35,9 +42,11 @@ pub enum Goal {
     /// A name that is declared.
     Declaring,
     /// What follows that name.
-    Named,
+    Named(Name),
     /// What follows that, up to the `;`.
     Declared,
+    /// All up to the brace that closes.
+    Brace,
     /// The parenthesis of a condition, and what it holds.
     Condition,
     /// All up to the parenthesis that closes.
@@ -50,11 +59,11 @@ pub enum Goal {
 }
 
 /// What a token tells besides what has to come.
-#[derive(Clone, Copy)]
+#[derive(Drop)]
 pub enum Effect {
     Nothing,
-    /// A variable is declared.
-    Declares,
+    /// The variable of this name is declared.
+    Declares(Name),
     /// An anchor, by the byte at which it begins.
     Loop(u32),
     /// The same, and the byte of its colon.
@@ -63,7 +72,7 @@ pub enum Effect {
 }
 
 /// What has to come, the first first.
-#[derive(Clone, Copy)]
+#[derive(Drop)]
 pub enum Next {
     Zero,
     One(Goal),
@@ -72,7 +81,7 @@ pub enum Next {
 }
 
 /// What a goal makes of a token.
-#[derive(Clone, Copy)]
+#[derive(Drop)]
 pub enum Entry {
     /// The token is taken. What is listed has to come next, and then the further statements of the place.
     Takes(Effect, Next, Place),
@@ -115,8 +124,8 @@ fn finish(place: Place, at: u32) -> Entry
 }
 
 // Behind the last `return` so far, which begins at this byte.
-fn ending(start: u32, part: Part) -> Entry
-    ensures { result ≡ ending_entry start part }
+fn ending(start: u32, part: &Part) -> Entry
+    ensures { result ≡ ending_entry start part.now }
 {
     match part {
         Part::RightBrace => Entry::Takes(Effect::End(start), Next::Zero, Place::Sub),
@@ -124,36 +133,63 @@ fn ending(start: u32, part: Part) -> Entry
     }
 }
 
-// Behind a declared name: an array is no variable.
-fn named(part: Part) -> Entry
-    ensures { result ≡ named_entry part }
+// The name that is declared, behind `int`.
+fn declaring(part: &Part) -> Entry
+    ensures { result ≡ declaring_entry part.now }
+{
+    match part {
+        Part::Name(name) => taken(Next::One(Goal::Named(name.again()))),
+        _ => taken(Next::One(Goal::Declaring)),
+    }
+}
+
+// Behind this name, which is declared: an array is no variable.
+fn named(name: Name, part: &Part) -> Entry
+    ensures { result ≡ named_entry name part.now }
 {
     match part {
         Part::LeftBracket => taken(Next::One(Goal::Declared)),
-        Part::Semicolon => Entry::Takes(Effect::Declares, Next::Zero, Place::Sub),
-        Part::Comma => Entry::Takes(Effect::Declares, Next::One(Goal::Declaring), Place::Sub),
-        _ => Entry::Takes(Effect::Declares, Next::One(Goal::Declared), Place::Sub),
+        Part::Semicolon => Entry::Takes(Effect::Declares(name), Next::Zero, Place::Sub),
+        Part::Comma => {
+            let next = Next::One(Goal::Declaring);
+            Entry::Takes(Effect::Declares(name), next, Place::Sub)
+        }
+        _ => {
+            let next = Next::One(Goal::Declared);
+            Entry::Takes(Effect::Declares(name), next, Place::Sub)
+        }
     }
 }
 
 // Behind that, up to the end of the declaration.
-fn declared(part: Part) -> Entry
-    ensures { result ≡ declared_entry part }
+fn declared(part: &Part) -> Entry
+    ensures { result ≡ declared_entry part.now }
 {
     match part {
         Part::Semicolon => taken(Next::Zero),
         Part::Comma => taken(Next::One(Goal::Declaring)),
         Part::LeftParen => taken(Next::Two(Goal::Paren, Goal::Declared)),
+        Part::LeftBrace => taken(Next::Two(Goal::Brace, Goal::Declared)),
         _ => taken(Next::One(Goal::Declared)),
     }
 }
 
-fn statement(place: Place, part: Part, at: u32, known: usize) -> Entry
-    ensures { result ≡ statement_entry place part at known }
+fn brace(part: &Part) -> Entry
+    ensures { result ≡ brace_entry part.now }
+{
+    match part {
+        Part::LeftBrace => taken(Next::Two(Goal::Brace, Goal::Brace)),
+        Part::RightBrace => taken(Next::Zero),
+        _ => taken(Next::One(Goal::Brace)),
+    }
+}
+
+fn statement(place: Place, part: &Part, at: u32, known: usize) -> Entry
+    ensures { result ≡ statement_entry place part.now at known }
 {
     let body = Goal::Statement(Place::Sub);
     match part {
-        Part::Name => Entry::Takes(
+        Part::Name(_) => Entry::Takes(
             Effect::Nothing,
             Next::One(Goal::AfterName(place, at)),
             place,
@@ -164,7 +200,9 @@ fn statement(place: Place, part: Part, at: u32, known: usize) -> Entry
             Entry::Takes(Effect::Nothing, Next::One(inner), place)
         }
         Part::RightBrace => close(place, at),
-        Part::Int => Entry::Takes(Effect::Nothing, Next::One(Goal::Declaring), place),
+        Part::Int | Part::Const => {
+            Entry::Takes(Effect::Nothing, Next::One(Goal::Declaring), place)
+        }
         Part::Return => finish(place, at),
         Part::If => {
             let next = Next::Three(Goal::Condition, body, Goal::MaybeElse);
@@ -190,19 +228,19 @@ fn behind_label(place: Place) -> Next
     }
 }
 
-fn first(start: u32, part: Part) -> Entry
-    ensures { result ≡ first_entry start part }
+fn first(start: u32, part: &Part) -> Entry
+    ensures { result ≡ first_entry start part.now }
 {
     match part {
         Part::LeftParen => taken(Next::One(Goal::First(start))),
         Part::Semicolon => taken(Next::One(Goal::Test(start))),
-        Part::Int => taken(Next::Two(Goal::Declaring, Goal::Test(start))),
+        Part::Int | Part::Const => taken(Next::Two(Goal::Declaring, Goal::Test(start))),
         _ => taken(Next::Two(Goal::Rest, Goal::Test(start))),
     }
 }
 
-fn paren(part: Part) -> Entry
-    ensures { result ≡ paren_entry part }
+fn paren(part: &Part) -> Entry
+    ensures { result ≡ paren_entry part.now }
 {
     match part {
         Part::LeftParen => taken(Next::Two(Goal::Paren, Goal::Paren)),
@@ -211,8 +249,8 @@ fn paren(part: Part) -> Entry
     }
 }
 
-fn maybe_else(part: Part) -> Entry
-    ensures { result ≡ else_entry part }
+fn maybe_else(part: &Part) -> Entry
+    ensures { result ≡ else_entry part.now }
 {
     match part {
         Part::Else => taken(Next::One(Goal::Statement(Place::Sub))),
@@ -221,8 +259,8 @@ fn maybe_else(part: Part) -> Entry
 }
 
 // Before the parameters.
-fn front(part: Part) -> Entry
-    ensures { result ≡ front_entry part }
+fn front(part: &Part) -> Entry
+    ensures { result ≡ front_entry part.now }
 {
     match part {
         Part::LeftParen => taken(Next::One(Goal::Parameters)),
@@ -231,46 +269,90 @@ fn front(part: Part) -> Entry
 }
 
 // Before the body.
-fn parameters(part: Part) -> Entry
-    ensures { result ≡ parameters_entry part }
+fn parameters(part: &Part) -> Entry
+    ensures { result ≡ parameters_entry part.now }
 {
     match part {
         Part::LeftBrace => taken(Next::One(Goal::Statement(Place::Body))),
-        Part::Int => Entry::Takes(Effect::Declares, Next::One(Goal::Parameters), Place::Sub),
+        Part::Int => taken(Next::One(Goal::Parameter)),
         _ => taken(Next::One(Goal::Parameters)),
     }
 }
 
-/// What the goal makes of the token at this byte, where so many variables are known.
-pub fn enter(goal: Goal, part: Part, at: u32, known: usize) -> Entry
-    ensures { result ≡ entry goal part at known }
+// Behind `int` among the parameters.
+fn parameter(part: &Part) -> Entry
+    ensures { result ≡ parameter_entry part.now }
 {
-    match (goal, part) {
-        (Goal::Front, _) => front(part),
-        (Goal::Parameters, _) => parameters(part),
-        (Goal::Statement(place), _) => statement(place, part, at, known),
-        (Goal::AfterName(place, name), Part::Colon) => Entry::Takes(
-            Effect::Label(name, at),
-            behind_label(place),
-            Place::Sub,
-        ),
-        (Goal::AfterName(_, _), _) => taken(Next::One(Goal::Rest)),
-        (Goal::MaybeElse, _) => maybe_else(part),
-        (Goal::Rest, Part::Semicolon) => taken(Next::Zero),
-        (Goal::Rest, _) => taken(Next::One(Goal::Rest)),
-        (Goal::Ending(start), _) => ending(start, part),
-        (Goal::Declaring, _) => taken(Next::One(Goal::Named)),
-        (Goal::Named, _) => named(part),
-        (Goal::Declared, _) => declared(part),
-        (Goal::Condition, _) => taken(Next::One(Goal::Paren)),
-        (Goal::Paren, _) => paren(part),
-        (Goal::First(start), _) => first(start, part),
-        (Goal::Test(start), Part::Semicolon) => Entry::Takes(
-            Effect::Loop(start),
-            Next::One(Goal::Paren),
-            Place::Sub,
-        ),
-        (Goal::Test(start), _) => taken(Next::One(Goal::Test(start))),
-        (Goal::Known(before), _) => Entry::Keeps(before),
+    match part {
+        Part::Name(name) => taken(Next::One(Goal::NamedParameter(name.again()))),
+        _ => taken(Next::One(Goal::Parameters)),
+    }
+}
+
+// Behind the name of a parameter: an array is no variable.
+fn named_parameter(name: Name, part: &Part) -> Entry
+    ensures { result ≡ named_parameter_entry name part.now }
+{
+    match part {
+        Part::LeftBracket => taken(Next::One(Goal::Parameters)),
+        _ => {
+            let next = Next::One(Goal::Parameters);
+            Entry::Takes(Effect::Declares(name), next, Place::Sub)
+        }
+    }
+}
+
+// Behind the name, at this byte, that a statement begins with.
+fn behind_name(place: Place, name: u32, part: &Part, at: u32) -> Entry
+    ensures { result ≡ name_entry place name part.now at }
+{
+    match part {
+        Part::Colon => Entry::Takes(Effect::Label(name, at), behind_label(place), Place::Sub),
+        _ => taken(Next::One(Goal::Rest)),
+    }
+}
+
+fn rest(part: &Part) -> Entry
+    ensures { result ≡ rest_entry part.now }
+{
+    match part {
+        Part::Semicolon => taken(Next::Zero),
+        _ => taken(Next::One(Goal::Rest)),
+    }
+}
+
+// The condition of the `for` at this byte.
+fn test(start: u32, part: &Part) -> Entry
+    ensures { result ≡ test_entry start part.now }
+{
+    match part {
+        Part::Semicolon => Entry::Takes(Effect::Loop(start), Next::One(Goal::Paren), Place::Sub),
+        _ => taken(Next::One(Goal::Test(start))),
+    }
+}
+
+/// What the goal makes of the token at this byte, where so many variables are known.
+pub fn enter(goal: Goal, part: &Part, at: u32, known: usize) -> Entry
+    ensures { result ≡ entry goal part.now at known }
+{
+    match goal {
+        Goal::Front => front(part),
+        Goal::Parameters => parameters(part),
+        Goal::Parameter => parameter(part),
+        Goal::NamedParameter(name) => named_parameter(name, part),
+        Goal::Statement(place) => statement(place, part, at, known),
+        Goal::AfterName(place, name) => behind_name(place, name, part, at),
+        Goal::MaybeElse => maybe_else(part),
+        Goal::Rest => rest(part),
+        Goal::Ending(start) => ending(start, part),
+        Goal::Declaring => declaring(part),
+        Goal::Named(name) => named(name, part),
+        Goal::Declared => declared(part),
+        Goal::Brace => brace(part),
+        Goal::Condition => taken(Next::One(Goal::Paren)),
+        Goal::Paren => paren(part),
+        Goal::First(start) => first(start, part),
+        Goal::Test(start) => test(start, part),
+        Goal::Known(before) => Entry::Keeps(before),
     }
 }

@@ -1,18 +1,21 @@
 //! What the search for anchors sees of a token.
 
-ghost use Rattle.std.specs.Prelude.{◌≡◌, ℕ, List};
+ghost use Rattle.std.specs.Prelude.{◌≡◌, ℕ, ℤ, Option};
 ghost use Rattle.source_grammar.specs.Symbols.{symbol_kind};
-ghost use Rattle.source_tokens.specs.View.{kind_of};
+ghost use Rattle.lang_tokens.specs.declared.token.Kind.TheVariants.{Name as NameKind};
+ghost use Rattle.source_tokens.specs.Texts.{IsTokenIn};
+ghost use Rattle.source_tokens.specs.View.{bytes_of, kind_of};
 ghost use Rattle.acsl_anchors.specs.Parts.{part_of};
 
-use lang_tokens::Token;
+use lang_tokens::{Kind, Token};
+use lang_tree::Name;
 use source_grammar::Symbol;
-use source_tokens::symbol_of;
+use source_tokens::{name_of, symbol_of};
 
 /// A token by what it does to the statements round it.
-#[derive(Clone, Copy)]
+#[derive(Drop)]
 pub enum Part {
-    Name,
+    Name(Name),
     Comma,
     Semicolon,
     Colon,
@@ -22,6 +25,7 @@ pub enum Part {
     RightBrace,
     LeftBracket,
     Int,
+    Const,
     If,
     Else,
     While,
@@ -31,11 +35,11 @@ pub enum Part {
     Other,
 }
 
+// A symbol that is no name.
 fn symbol_part(symbol: Symbol) -> Part
-    ensures { result ≡ part_of (symbol_kind symbol) }
+    ensures { (symbol ≡ Symbol.Name → ⊥) → result ≡ part_of (symbol_kind symbol) }
 {
     match symbol {
-        Symbol::Name => Part::Name,
         Symbol::Comma => Part::Comma,
         Symbol::Semicolon => Part::Semicolon,
         Symbol::Colon => Part::Colon,
@@ -45,6 +49,7 @@ fn symbol_part(symbol: Symbol) -> Part
         Symbol::RightBrace => Part::RightBrace,
         Symbol::LeftBracket => Part::LeftBracket,
         Symbol::Int => Part::Int,
+        Symbol::Const => Part::Const,
         Symbol::If => Part::If,
         Symbol::Else => Part::Else,
         Symbol::While => Part::While,
@@ -55,9 +60,13 @@ fn symbol_part(symbol: Symbol) -> Part
     }
 }
 
-/// What the search sees of a token, whatever its name or number.
-pub fn part_seen(token: &Token) -> Part
-    ensures { (bytes : List ℕ) → result ≡ part_of (kind_of bytes token.now.kind) }
+/// What the search sees of a token of a text, whatever its number, and whatever a name stands for.
+pub fn part_seen(text: &[u8], token: &Token) -> Part
+    requires { token.now.kind ≡ NameKind → IsTokenIn text.now token.now }
+    ensures { (value : Option ℤ) → result ≡ part_of (kind_of (bytes_of text.now token.now) value token.now.kind) }
 {
-    symbol_part(symbol_of(token))
+    match token.kind {
+        Kind::Name => Part::Name(name_of(text, token)),
+        _ => symbol_part(symbol_of(token)),
+    }
 }

@@ -1,12 +1,16 @@
 -- What is written: the text of a C file with the annotations of the least vector of the function that is asked about.
 use Rattle.std.specs.Prelude.{◌≡◌, ◌++◌, ◌∷◌, ℕ, ℤ, List, [], Contains, Ok, length, map}
 use Rattle.lang_tokens.specs.Lines.{line_at}
+use Rattle.lang_tokens.specs.declared.lexicon.Lexicon.TheVariants.{C}
 use Rattle.lang_tokens.specs.Reading as lex
 use Rattle.lang_tokens.specs.declared.token.Token as lex_token
 use Rattle.lang_tree.specs.Tree.{Statements}
 use Rattle.source_grammar.specs.Grammar.{Function, Reads}
 use Rattle.source_tree.specs.Statements as c
 use Rattle.source_meaning.specs.Walk.{walk}
+use Rattle.source_tokens.specs.View.{tokens_of}
+use Rattle.source_tokens.specs.declared.definition.Definition.{Definition}
+use Rattle.source_constants.specs.Directives.{code_of}
 use Rattle.source_file.specs.Meaning.{IsChosen, item_of}
 use Rattle.source_file.specs.declared.functions.Defined.{Defined}
 use Rattle.flow_edges.specs.Points.{points_of_program}
@@ -32,13 +36,15 @@ use Rattle.top_status.specs.declared.status.Status.{Status}
 use Rattle.top_texts.specs.Meanings.{Meanings}
 use Rattle.top_texts.specs.Texts.{HasCore, IsReady, IsSolvable, Program}
 
--- the tree of the function of a file that is asked about: that of its tokens, which means these names and statements of C
+-- the tree of the function of a file that is asked about: that of its tokens by what the file defines, which means these names and
+-- statements of C
 pub record IsTreeOf (program : Program) (names : List (List ℕ)) (statements : c.Statements) (tree : Function) : Type 0 where
   pub front : List lex_token.Token
-  pub reads : lex.Reads program.text (front ++ lex.end_at (length program.text) ∷ [])
+  pub reads : lex.Reads C program.text (front ++ lex.end_at (length program.text) ∷ [])
+  pub definitions : List Definition
   pub defined : Defined
-  pub is_chosen : IsChosen program.text program.function front defined
-  pub tree_is : Reads (item_of program.text front defined) tree
+  pub is_chosen : IsChosen program.integers program.text program.function front definitions defined
+  pub tree_is : Reads (tokens_of definitions program.text (item_of (code_of front) defined)) tree
   pub means : walk program.integers (line_at program.text) tree ≡ Ok (names, statements)
 
 -- the comments that say at the anchors of a function what a vector says at the points of its core

@@ -4,9 +4,12 @@ ghost use Rattle.std.specs.Prelude.{◌≡◌, ◌≤◌, ◌<◌, ◌++◌, ◌
 ghost use Rattle.std.specs.List.{All};
 ghost use Rattle.base_limits.specs.declared.limits.TheConstants.{MOST_TEXT_BYTES};
 ghost use Rattle.lang_tokens.specs.Reading.{Reads, end_at};
+ghost use Rattle.lang_tokens.specs.declared.lexicon.Lexicon.TheVariants.{C};
 ghost use Rattle.lang_tokens.specs.TokenLists.{AreTokensOf};
 ghost use Rattle.lang_tokens.specs.declared.token.Token.{Token as Lexed};
 ghost use Rattle.lang_tree.specs.Word.{is_word};
+ghost use Rattle.source_tokens.specs.View.{tokens_of};
+ghost use Rattle.source_constants.specs.Directives.{code_of};
 ghost use Rattle.source_file.specs.Meaning.{Answer, FunctionMeans, IsChosen, Means, item_of};
 ghost use Rattle.ask_words.specs.Request.{source_text};
 ghost use Rattle.ask_words.specs.declared.request.Domain.{Domain};
@@ -19,9 +22,10 @@ use acsl_comments::{comments_come_out, programs_stay, with_comments};
 use acsl_notes::{clauses_hold, comments, comments_may_stand};
 use ask_words::Source;
 use flow_systems::{System, post_solutions_hold};
-use lang_tokens::{Token, lex, one_reading};
+use lang_tokens::{Lexicon, Token, lex, one_reading};
 use lang_tree::Name;
-use source_file::{Defined, defined};
+use source_constants::code_of;
+use source_file::{Chosen, defined};
 use std::alloc::{AllocError, Global};
 use top_texts::LeastBounds;
 
@@ -44,34 +48,44 @@ fn has_rows(system: &System)
 // The tokens of a text. One that was read as a program has some.
 fn text_tokens(alloc: Global, text: &[u8]) -> Result<Vec<Token>, AllocError>
     requires { length text.now ≤ MOST_TEXT_BYTES }
-    ensures reads { IfOk result (λ tokens. Reads text.now tokens.items) }
+    ensures reads { IfOk result (λ tokens. Reads C text.now tokens.items) }
     ensures placed { IfOk result (λ tokens. AreTokensOf text.now tokens.items) }
 {
-    match lex(alloc, text) {
+    match lex(alloc, text, Lexicon::C) {
         Ok(tokens) => Ok(tokens),
         Err(_) => Err(AllocError),
     }
 }
 
-// Which tokens are the function that is asked about. A file that was read as a program has one.
+// Which tokens of code are the function that is asked about, with what the file defines. A file that was read as a program has one.
 fn function_asked(
     alloc: Global,
     tokens: &[Token],
     program: Source<&[u8]>,
-) -> Result<Defined, AllocError>
+) -> Result<Chosen, AllocError>
     requires size { length program.text.now ≤ MOST_TEXT_BYTES }
     requires tokens { AreTokensOf program.text.now tokens.now }
-    ensures order { IfOk result (λ d. d.first ≤ d.end) }
-    ensures within { IfOk result (λ d. d.end < length tokens.now) }
-    ensures found { IfOk result (λ d. (front : List Lexed) → front ++ end_at (length program.entry.text.now) ∷ [] ≡ tokens.now
-        → IsChosen program.entry.text.now (source_text program.entry).function front d) }
-    ensures means { IfOk result (λ d. (front : List Lexed) → front ++ end_at (length program.entry.text.now) ∷ [] ≡ tokens.now
+    ensures order { IfOk result (λ c. c.function.first ≤ c.function.end) }
+    ensures within { IfOk result (λ c. c.function.end ≤ length c.code.items) }
+    ensures code { IfOk result (λ c. (front : List Lexed) → front ++ end_at (length program.entry.text.now) ∷ [] ≡ tokens.now
+        → c.code.items ≡ code_of front) }
+    ensures found { IfOk result (λ c. (front : List Lexed) → front ++ end_at (length program.entry.text.now) ∷ [] ≡ tokens.now
+        → IsChosen program.entry.integers program.entry.text.now (source_text program.entry).function front c.definitions.items
+        c.function) }
+    ensures means { IfOk result (λ c. (front : List Lexed) → front ++ end_at (length program.entry.text.now) ∷ [] ≡ tokens.now
         → (wanted : Answer)
         → Means program.entry.integers program.entry.text.now (source_text program.entry).function front wanted
-        → FunctionMeans program.entry.integers program.entry.text.now (item_of program.entry.text.now front d) wanted) }
+        → FunctionMeans program.entry.integers program.entry.text.now
+        (tokens_of c.definitions.items program.entry.text.now (item_of c.code.items c.function)) wanted) }
 {
-    match defined(alloc, tokens, program.text, program.function) {
-        Ok(function) => Ok(function),
+    match defined(
+        alloc,
+        tokens,
+        program.text,
+        program.function,
+        program.integers,
+    ) {
+        Ok(chosen) => Ok(chosen),
         Err(_) => Err(AllocError),
     }
 }
@@ -99,8 +113,10 @@ pub(crate) fn annotated_text(
     are_words(system.flow.names.as_slice());
     has_rows(system);
     let tokens = text_tokens(alloc, program.text)?;
-    let function = function_asked(alloc, &tokens, program)?;
-    let places = anchors(alloc, &tokens, program.text, function.first, function.end)?;
+    let chosen = function_asked(alloc, &tokens, program)?;
+    let code = code_of(alloc, &tokens)?;
+    let function = &chosen.function;
+    let places = anchors(alloc, &code, program.text, function.first, function.end)?;
     let list = comments(alloc, program.text, &places, system, &least.solved.bounds)?;
     with_comments(alloc, program.text, &list)
 }

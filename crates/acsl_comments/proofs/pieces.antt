@@ -1,3 +1,4 @@
+pub mod Quoted
 pub mod Plain
 pub mod Rests
 pub mod Edges
@@ -11,5 +12,8 @@ pub mod Whole
 pub mod Stay
 pub mod Out
 pub mod Written
+pub mod Together
+pub mod Numbers
 pub mod Files
+pub mod Defined
 pub mod Programs

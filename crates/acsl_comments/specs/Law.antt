@@ -2,7 +2,9 @@
 use Rattle.std.specs.Prelude.{◌≡◌, ◌++◌, ◌∷◌, ℕ, List, [], Option, Ok, length, map}
 use Rattle.source_tokens.specs.View.{bytes_of, tokens_of}
 use Rattle.lang_tokens.specs.Reading.{Reads, end_at}
+use Rattle.lang_tokens.specs.declared.lexicon.Lexicon.TheVariants.{C}
 use Rattle.lang_tokens.specs.declared.token.Token.{Token}
+use Rattle.source_tokens.specs.declared.definition.Definition.{Definition}
 use Rattle.source_tree.specs.Statements.{Statements}
 use Rattle.source_core.specs.Core.{core_in}
 use Rattle.source_file.specs.Meaning.{Means}
@@ -17,6 +19,10 @@ use Rattle.base_integers.specs.declared.integers.Integers.{Integers}
 abbrev pub token_moved_by : List Comment → Token → Token
 token_moved_by comments token = record { kind = token.kind; at = moved_by comments token.at; len = token.len }
 
+-- the same definition where it stands then
+abbrev pub definition_moved_by : List Comment → Definition → Definition
+definition_moved_by comments d = record d { at = moved_by comments d.at }
+
 -- Taking out what was put in gives the text back.
 abbrev pub CommentsComeOut : Type 0
 CommentsComeOut = (text : List ℕ) (comments : List Comment) → Ascend 0 (length text) (map (λ c. c.place) comments)
@@ -24,16 +30,17 @@ CommentsComeOut = (text : List ℕ) (comments : List Comment) → Ascend 0 (leng
 
 -- what a text with comments reads as: the same tokens at the places where they stand then
 pub record ReadsWith (text : List ℕ) (tokens : List Token) (comments : List Comment) : Type 0 where
-  pub reads : Reads (with_comments 0 text comments) (map (token_moved_by comments) tokens)
+  pub reads : Reads C (with_comments 0 text comments) (map (token_moved_by comments) tokens)
   -- with the same bytes
   pub bytes : map (bytes_of (with_comments 0 text comments)) (map (token_moved_by comments) tokens) ≡ map (bytes_of text) tokens
-  -- and the same to the grammar of functions, but for their places
-  pub same : tokens_of (with_comments 0 text comments) (map (token_moved_by comments) tokens)
-      ≡ moved (moved_by comments) (tokens_of text tokens)
+  -- and the same to the grammar of functions, but for their places, by whichever definitions, where these stand then
+  pub same : (constants : List Definition)
+      → tokens_of (map (definition_moved_by comments) constants) (with_comments 0 text comments) (map (token_moved_by comments) tokens)
+      ≡ moved (moved_by comments) (tokens_of constants text tokens)
 
 -- A text with comments has the same tokens, where comments may stand.
 abbrev pub TokensStay : Type 0
-TokensStay = (text : List ℕ) (tokens : List Token) (comments : List Comment) → Reads text tokens → MayStand text tokens comments
+TokensStay = (text : List ℕ) (tokens : List Token) (comments : List Comment) → Reads C text tokens → MayStand text tokens comments
     → ReadsWith text tokens comments
 
 -- a text means the same function as before, but for its lines and the places of its tokens
@@ -44,7 +51,7 @@ pub record MeansWith (integers : Integers) (text : List ℕ) (comments : List Co
   pub front : List Token
   -- what it means
   pub now : Statements
-  pub reads : Reads (with_comments 0 text comments) (front ++ end_at (length (with_comments 0 text comments)) ∷ [])
+  pub reads : Reads C (with_comments 0 text comments) (front ++ end_at (length (with_comments 0 text comments)) ∷ [])
   pub means : Means integers (with_comments 0 text comments) asked front (Ok (names, now))
   -- it is the same without its lines and places
   pub same : without_places now ≡ without_places body
@@ -55,6 +62,6 @@ pub record MeansWith (integers : Integers) (text : List ℕ) (comments : List Co
 abbrev pub ProgramsStay : Type 0
 ProgramsStay = (integers : Integers) (text : List ℕ) (tokens front : List Token) (comments : List Comment) (asked : Option (List ℕ))
     (names : List (List ℕ))
-    (body : Statements) → Reads text tokens → front ++ end_at (length text) ∷ [] ≡ tokens
+    (body : Statements) → Reads C text tokens → front ++ end_at (length text) ∷ [] ≡ tokens
     → Means integers text asked front (Ok (names, body))
     → MayStand text tokens comments → MeansWith integers text comments asked names body

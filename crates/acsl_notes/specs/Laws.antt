@@ -6,6 +6,9 @@ use Rattle.flow_systems.specs.Solutions.{Holds, equations_of_program}
 use Rattle.flow_edges.specs.declared.point.Point.{Point}
 use Rattle.source_grammar.specs.Grammar.{Function, Reads}
 use Rattle.source_tokens.specs.View.{tokens_of}
+use Rattle.source_tokens.specs.declared.definition.Definition.{Definition}
+use Rattle.source_constants.specs.Directives.{code_of}
+use Rattle.lang_tokens.specs.declared.lexicon.Lexicon.TheVariants.{C}
 use Rattle.lang_tokens.specs.Reading as lex
 use Rattle.lang_tokens.specs.declared.token.Token as lex_token
 use Rattle.lang_tree.specs.Runs.{Configuration, IsAt, IsRun}
@@ -16,11 +19,13 @@ use Rattle.acsl_anchors.specs.Anchors.{anchors_of}
 use Rattle.acsl_notes.specs.Clauses.{Clause, IsTrueAt, clauses}
 use Rattle.acsl_notes.specs.Texts.{comments_from}
 
--- The comments of a function may be put into its text: its tokens are some of the text's, in which `front` are all but the end.
+-- The comments of a function may be put into its text: its tokens are some of those of the text that stand in no directive, in which
+-- `front` are all but the end.
 abbrev pub CommentsMayStand : Type 0
-CommentsMayStand = (text : List ℕ) (tokens front : List lex_token.Token) (first end : ℕ) (f : Function) (names : List (List ℕ))
-    (points : List Point) (template : List (List ℤ)) (v : Vector) → lex.Reads text tokens → front ++ lex.end_at (length text) ∷ [] ≡ tokens
-    → Reads (tokens_of text (slice_range front first end)) f → All (λ name. IsTrue (is_word name)) names
+CommentsMayStand = (constants : List Definition) (text : List ℕ) (tokens front : List lex_token.Token) (first end : ℕ) (f : Function)
+    (names : List (List ℕ)) (points : List Point) (template : List (List ℤ)) (v : Vector) → lex.Reads C text tokens
+    → front ++ lex.end_at (length text) ∷ [] ≡ tokens
+    → Reads (tokens_of constants text (slice_range (code_of front) first end)) f → All (λ name. IsTrue (is_word name)) names
     → MayStand text tokens (comments_from text names template v 0 points (anchors_of f))
 
 -- each condition that a vector gives at a point is true in every run, at every configuration that is there

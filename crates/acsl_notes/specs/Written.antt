@@ -3,6 +3,7 @@ use Rattle.std.specs.Prelude.{◌≡◌, ◌↔◌, ◌==◌, ◌<◌, ◌+◌, 
 use Rattle.std.specs.Prelude.{nat_abs}
 use Rattle.std.specs.List.{All, list_any, slice_get}
 use Rattle.lang_tokens.specs.Lexemes.{IsName, greatest_literal}
+use Rattle.lang_tokens.specs.declared.lexicon.Lexicon.TheVariants.{Own, C}
 use Rattle.lang_tokens.specs.Reading as lex
 use Rattle.lang_tokens.specs.declared.token.Token as lex_token
 use Rattle.lang_grammar.specs.View.{tokens_of}
@@ -27,7 +28,7 @@ pub record AreNames (names : List (List ℕ)) : Type 0 where
 abbrev pub ProgramNamesAreNames : Type 0
 ProgramNamesAreNames = (integers : Integers) (text : List ℕ) (tokens front : List lex_token.Token) (asked : Option (List ℕ))
     (names : List (List ℕ))
-    (body : Statements) → lex.Reads text tokens → front ++ lex.end_at (length text) ∷ [] ≡ tokens
+    (body : Statements) → lex.Reads C text tokens → front ++ lex.end_at (length text) ∷ [] ≡ tokens
     → Means integers text asked front (Ok (names, body)) → AreNames names
 
 -- A row with a coefficient for each name, of which one isn't 0; its numbers, the factor and their products are numbers of the language.
@@ -50,7 +51,7 @@ pub record SaysClause (names : List (List ℕ)) (clause : Clause) : Type 0 where
   pub tokens : List lex_token.Token
   pub condition : Condition
   pub size : ℕ
-  pub reads : lex.Reads (clause_text names clause) tokens
+  pub reads : lex.Reads Own (clause_text names clause) tokens
   pub whole : length tokens ≡ size + 1
   pub means : ExpressionMeans (clause_text names clause) (tokens_of (clause_text names clause) tokens) 0 names
       (Ok (a_condition condition, size))

@@ -1,7 +1,7 @@
 -- Statements of C without their lines and without the places of their tokens.
 use Rattle.std.specs.Prelude.{map}
 use Rattle.source_tree.specs.Expressions.{Expression, Expressions, number, variable, unknown, call, element, grouped, negative, positive}
-use Rattle.source_tree.specs.Expressions.{inverse, joined, compared, both, either, chosen, none, more}
+use Rattle.source_tree.specs.Expressions.{inverse, joined, compared, both, either, chosen, none, more, Subscripts, no_subscript, subscript}
 use Rattle.source_tree.specs.Statements.{Change, sets, evaluates, LoopKind, while_loop, for_loop, do_loop}
 use Rattle.source_tree.specs.Statements.{Statement, Statements, declares, changes, assumes, asserts, never, branch, loop, jump, label, nil}
 use Rattle.source_tree.specs.Statements.{cons}
@@ -13,7 +13,7 @@ abbrev mutual
   expression_without (variable i at) = variable i 0
   expression_without (unknown at) = unknown 0
   expression_without (call es at) = call (expressions_without es) 0
-  expression_without (element size bracket e at) = element size 0 (expression_without e) 0
+  expression_without (element is at) = element (subscripts_without is) 0
   expression_without (grouped at e) = grouped 0 (expression_without e)
   expression_without (negative at e) = negative 0 (expression_without e)
   expression_without (positive at e) = positive 0 (expression_without e)
@@ -28,6 +28,11 @@ abbrev mutual
   pub expressions_without : Expressions → Expressions
   expressions_without none = none
   expressions_without (more e es) = more (expression_without e) (expressions_without es)
+
+  -- indexes of such expressions
+  pub subscripts_without : Subscripts → Subscripts
+  subscripts_without no_subscript = no_subscript
+  subscripts_without (subscript extent bracket e is) = subscript extent 0 (expression_without e) (subscripts_without is)
 
 -- a change without its line and its places
 abbrev pub change_without : Change → Change

@@ -4,6 +4,7 @@ use Rattle.std.specs.Prelude.{position}
 use Rattle.std.specs.Prelude.{Option, Some, None, Result, Ok, Err}
 use Rattle.std.specs.List.{All}
 use Rattle.std.specs.Str.{bytes_eq}
+use Rattle.lang_tokens.specs.declared.lexicon.Lexicon.TheVariants.{Own}
 use Rattle.lang_tokens.specs.Faults.{HasFault}
 use Rattle.lang_tokens.specs.Reading.{Reads}
 use Rattle.lang_tokens.specs.declared.fault.LexFault.{LexFault}
@@ -158,8 +159,8 @@ ClaimsMean text names points tokens (Err f) =
 -- What a text says over a program's variables and points: its first fault as tokens, or what its tokens say.
 abbrev pub FileMeans : List ℕ → List (List ℕ) → List Point → StatedClaims → Type 0
 FileMeans text names points r =
-    ((f : LexFault) × HasFault text f × (r ≡ Err (fault.Lex f)))
-    ⊎ ((tokens : List lex_token.Token) × Reads text tokens × ClaimsMean text names points (tokens_of text tokens) r)
+    ((f : LexFault) × HasFault Own text f × (r ≡ Err (fault.Lex f)))
+    ⊎ ((tokens : List lex_token.Token) × Reads Own text tokens × ClaimsMean text names points (tokens_of text tokens) r)
 
 -- ---- the code's claims
 abbrev pub stated_of : Claim → Stated

@@ -27,7 +27,7 @@ use crate::claim::Claim;
 use crate::fault::ClaimFault;
 use flow_edges::{Cases, CasesFault, Flow, Place, Point, cases};
 use lang_parser::{Expr, ParseFault, Read, condition, expression};
-use lang_tokens::{Kind, LexFault, Sign, Token, Word, lex};
+use lang_tokens::{Kind, LexFault, Lexicon, Sign, Token, Word, lex};
 use lang_tree::{Cond, Name};
 use std::alloc::Global;
 
@@ -326,7 +326,7 @@ fn file(alloc: Global, text: &[u8], flow: &Flow) -> Result<Vec<Claim>, ClaimFaul
     ensures found { Answers (λ claims. map stated_of claims.items) (FileMeans text.now flow.now.names flow.now.points) result }
     ensures stands { IfOk result (λ claims. All (Stands flow.now.names flow.now.points) claims.items) }
 {
-    match lex(alloc, text) {
+    match lex(alloc, text, Lexicon::Own) {
         Ok(tokens) => claims_of(alloc, tokens.as_slice(), text, flow),
         Err(LexFault::NoMemory) => Err(ClaimFault::NoMemory),
         Err(fault) => Err(ClaimFault::Lex(fault)),

@@ -13,7 +13,7 @@ use flow_edges::{Flow, flow};
 use flow_systems::{Bounds, PartFault, System};
 use flow_templates::zones;
 use lang_parser::parse;
-use lang_tokens::lex;
+use lang_tokens::{Lexicon, lex};
 use solve_transformer::{Paths, Value, compose_all, operator};
 use std::alloc::Global;
 use std::env;
@@ -37,7 +37,7 @@ const PROGRAM: &[u8] = b"int main() {
 
 /// The program's points and edges.
 fn flow_of_program(alloc: Global) -> anyhow::Result<Flow> {
-    let tokens = match lex(alloc, PROGRAM) {
+    let tokens = match lex(alloc, PROGRAM, Lexicon::Own) {
         Ok(tokens) => tokens,
         Err(_) => bail!("the text has no tokens"),
     };

@@ -1,5 +1,6 @@
 -- The equations of a text, or its first fault.
 use Rattle.std.specs.Prelude.{◌≡◌, ◌⊎◌, ◌++◌, ℕ, List, [], ◌∷◌, map, slice_get, Some, Result, Ok, Err}
+use Rattle.lang_tokens.specs.declared.lexicon.Lexicon.TheVariants.{Own}
 use Rattle.lang_tokens.specs.declared.token.Token.{Token}
 use Rattle.lang_tokens.specs.declared.fault.LexFault.{LexFault}
 use Rattle.lang_tokens.specs.Reading.{Reads}
@@ -34,7 +35,7 @@ equations_of es = map (equation_of es) es
 -- The text's tokens spell these equations.
 pub record ReadsWritten (text : List ℕ) (es : List Written) : Type 0 where
   pub tokens : List Token
-  pub reads : Reads text tokens
+  pub reads : Reads Own text tokens
   pub spelled : Spells (symbols_of text tokens) es
 
 -- The tokens before one at this place begin a text of equations, and with it they begin none.
@@ -42,14 +43,14 @@ pub record HasUnexpected (text : List ℕ) (at : ℕ) : Type 0 where
   pub front : List Token
   pub token : Token
   pub rest : List Token
-  pub reads : Reads text (front ++ token ∷ rest)
+  pub reads : Reads Own text (front ++ token ∷ rest)
   pub begins : Begins (symbols_of text front)
   pub stops : Begins (symbols_of text (front ++ token ∷ [])) → ⊥
   pub place : token.at ≡ at
 
 -- What a text is: these equations, or this fault.
 pub data Answers (text : List ℕ) (answer : Result (List Equation) EquFault) : Type 0 where
-  a_lexical_fault : (fault : LexFault) → answer ≡ Err (Lex fault) → HasFault text fault → Answers text answer
+  a_lexical_fault : (fault : LexFault) → answer ≡ Err (Lex fault) → HasFault Own text fault → Answers text answer
   an_unexpected : (at : ℕ) → answer ≡ Err (Unexpected at) → HasUnexpected text at → Answers text answer
   a_fault : (fault : EquFault) → answer ≡ Err fault → (es : List Written) → ReadsWritten text es → slice_get (faults_of es) 0 ≡ Some fault
       → Answers text answer

@@ -44,6 +44,8 @@ symbol_with (kind.Number value) bytes at = Number (literal value) at
 symbol_with (kind.Sign s) bytes at = sign_symbol s at
 symbol_with kind.End bytes at = End
 symbol_with (kind.Word word) bytes at = Other
+symbol_with (kind.Foreign sort) bytes at = Other
+symbol_with (kind.Aside sort) bytes at = Other
 
 -- the symbol of a token of this text
 abbrev pub symbol_of : List ℕ → Token → Symbol

@@ -2,6 +2,7 @@
 
 ghost use Rattle.std.specs.Prelude.{◌≡◌, ◌≢◌, ◌≤◌, ◌+◌, List, Result, length, IfOk, IfErr, Ok, Err};
 ghost use Rattle.base_limits.specs.declared.limits.TheConstants.{MOST_TEXT_BYTES};
+ghost use Rattle.lang_tokens.specs.declared.lexicon.Lexicon.TheVariants.{Own};
 ghost use Rattle.lang_tokens.specs.Reading.{Reads};
 ghost use Rattle.flow_rationals.specs.declared.fault.EquFault.{EquFault};
 ghost use Rattle.flow_rationals.specs.declared.fault.EquFault.TheVariants.{NoMemory};
@@ -13,7 +14,7 @@ ghost use Rattle.flow_rationals.specs.EquationTexts.{ReadsWritten, Answers, Give
 
 use crate::equations::Equations;
 use crate::fault::EquFault;
-use lang_tokens::{LexFault, Token, lex};
+use lang_tokens::{LexFault, Lexicon, Token, lex};
 use std::alloc::Global;
 
 mod checks;
@@ -38,14 +39,14 @@ use written::Written;
 // The tokens of a text.
 fn tokens_of(alloc: Global, text: &[u8]) -> Result<Vec<Token>, EquFault>
     requires { length text.now ≤ MOST_TEXT_BYTES }
-    ensures reads { IfOk result (λ tokens. Reads text.now tokens.items) }
+    ensures reads { IfOk result (λ tokens. Reads Own text.now tokens.items) }
     ensures within { IfOk result (λ tokens. AllWithin text.now tokens.items) }
     ensures few { IfOk result (λ tokens. length tokens.items ≤ 65537) }
     ensures refused { IfErr result (λ fault. fault ≢ NoMemory → Answers text.now (Err fault)) }
     ensures alone { IfErr result (λ fault. fault ≢ NoMemory → (right : Result (List Equation) EquFault) → Answers text.now right
         → right ≡ Err fault) }
 {
-    match lex(alloc, text) {
+    match lex(alloc, text, Lexicon::Own) {
         Ok(tokens) => Ok(tokens),
         Err(fault) => match fault {
             LexFault::NoMemory => Err(EquFault::NoMemory),

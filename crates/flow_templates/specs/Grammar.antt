@@ -3,6 +3,7 @@ use Rattle.std.specs.Prelude.{◌≡◌, ◌==◌, ◌+◌, ◌++◌, ◌⊎◌,
 use Rattle.std.specs.Prelude.{slice_range, Option}
 use Rattle.std.specs.Prelude.{Some, None, unwrap_or}
 use Rattle.std.specs.List.{list_any}
+use Rattle.lang_tokens.specs.declared.lexicon.Lexicon.TheVariants.{Own}
 use Rattle.lang_tokens.specs.declared.token.Token.{Token}
 use Rattle.lang_tokens.specs.declared.token.Kind.{Kind}
 use Rattle.lang_tokens.specs.declared.token.Kind.TheVariants as kind
@@ -29,6 +30,8 @@ symbol_with (kind.Number value) bytes = number value
 symbol_with kind.Name bytes = named bytes
 symbol_with kind.End bytes = end
 symbol_with (kind.Word word) bytes = other
+symbol_with (kind.Foreign sort) bytes = other
+symbol_with (kind.Aside sort) bytes = other
 
 -- the symbol of a token of this line
 abbrev pub symbol_of : List ℕ → Token → Symbol
@@ -88,7 +91,7 @@ amount t = (signed t.negative (unwrap_or t.factor (pos 1)), t.name)
 pub record ReadsTerms (line : List ℕ) (amounts : List Amount) : Type 0 where
   pub no_slash : IsFalse (list_any (λ b. b == 47) line)
   pub tokens : List Token
-  pub reads : Reads line tokens
+  pub reads : Reads Own line tokens
   pub terms : List Written
   pub spelled : Spells (symbols_of line tokens) terms
   pub stand_for : map amount terms ≡ amounts

@@ -30,6 +30,8 @@ IsUnsigned (kind.Number value) = pos 0 ≤ℤ value
 IsUnsigned (kind.Word word) = Unit {0}
 IsUnsigned kind.Name = Unit {0}
 IsUnsigned (kind.Sign sign) = Unit {0}
+IsUnsigned (kind.Foreign sort) = Unit {0}
+IsUnsigned (kind.Aside sort) = Unit {0}
 IsUnsigned kind.End = Unit {0}
 
 -- a token of this line

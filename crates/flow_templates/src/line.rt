@@ -2,6 +2,7 @@
 
 ghost use Rattle.std.specs.Prelude.{◌≡◌, ◌≢◌, ◌≤◌, ℕ, List, find, not, length, map, IfOk, IfErr, IsTrue, MatchOption, MatchResult};
 ghost use Rattle.base_limits.specs.declared.limits.TheConstants.{MOST_TEXT_BYTES};
+ghost use Rattle.lang_tokens.specs.declared.lexicon.Lexicon.TheVariants.{Own};
 ghost use Rattle.lang_tokens.specs.declared.token.Token.{Token};
 ghost use Rattle.lang_tokens.specs.Reading.{Reads};
 ghost use Rattle.flow_templates.specs.declared.fault.RowFault.TheVariants.{NoMemory};
@@ -14,7 +15,7 @@ use crate::given::is_row;
 use crate::row::{are_known, row_of};
 use crate::sums::sums;
 use crate::term::{Term, terms};
-use lang_tokens::{LexFault, Token, lex};
+use lang_tokens::{LexFault, Lexicon, Token, lex};
 use lang_tree::{Coeffs, Name};
 use std::alloc::Global;
 
@@ -46,11 +47,11 @@ fn is_skipped(line: &[u8]) -> bool
 fn tokens_of(alloc: Global, line: &[u8]) -> Result<Option<Vec<Token>>, RowFault>
     requires { length line.now ≤ MOST_TEXT_BYTES }
     ensures { MatchResult result
-        (λ found. MatchOption found ((tokens : List Token) → Reads line.now tokens → ⊥)
-        (λ tokens. Reads line.now tokens.items × AllFit line.now tokens.items))
+        (λ found. MatchOption found ((tokens : List Token) → Reads Own line.now tokens → ⊥)
+        (λ tokens. Reads Own line.now tokens.items × AllFit line.now tokens.items))
         (λ fault. fault ≡ NoMemory) }
 {
-    match lex(alloc, line) {
+    match lex(alloc, line, Lexicon::Own) {
         Ok(tokens) => Ok(Some(tokens)),
         Err(fault) => match fault {
             LexFault::NoMemory => Err(RowFault::NoMemory),

@@ -2,6 +2,7 @@
 use Rattle.std.specs.Prelude.{◌≡◌, ◌+◌, ◌++◌, ℕ, zero, suc, Bool, true, if◌then◌else◌, List, [], ◌∷◌, length, map, codes, nat_le, nat_lt}
 use Rattle.std.specs.Prelude.{Option, Some, None, Result, Ok, Err}
 use Rattle.std.specs.Str.{bytes_eq}
+use Rattle.lang_tokens.specs.declared.lexicon.Lexicon.TheVariants.{Own}
 use Rattle.lang_tokens.specs.declared.token.Token.{Token}
 use Rattle.lang_tokens.specs.declared.fault.LexFault.{LexFault}
 use Rattle.lang_tokens.specs.Reading.{Reads}
@@ -254,8 +255,8 @@ start = progress [] [] [] at_vars
 
 -- Token by token the text is read as this answer.
 pub data IsRead (text : List ℕ) (answer : AutoAnswer) : Type 0 where
-  no_tokens : (f : LexFault) → HasFault text f → answer ≡ Err (fault.Lex f) → IsRead text answer
-  some_tokens : (tokens : List Token) → Reads text tokens → ReadsTo text tokens (Ok start) 0 answer → IsRead text answer
+  no_tokens : (f : LexFault) → HasFault Own text f → answer ≡ Err (fault.Lex f) → IsRead text answer
+  some_tokens : (tokens : List Token) → Reads Own text tokens → ReadsTo text tokens (Ok start) 0 answer → IsRead text answer
 
 -- the form has one coefficient for each of n variables, if there is one
 abbrev pub is_side : ℕ → Option Form → Bool

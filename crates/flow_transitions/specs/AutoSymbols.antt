@@ -37,6 +37,8 @@ symbol_of (kind.Word w) = word_symbol w
 symbol_of (kind.Sign s) = sign_symbol s
 symbol_of kind.End = End
 symbol_of (kind.Number n) = Other
+symbol_of (kind.Foreign f) = Other
+symbol_of (kind.Aside a) = Other
 
 -- a token as the reading sees it: its symbol, its bytes, its line and its place
 pub record Seen : Type 0 where

@@ -2,6 +2,7 @@
 
 ghost use Rattle.std.specs.Prelude.{◌≡◌, ◌≢◌, ◌≤◌, Err, IfErr, IfOk, Ok, length};
 ghost use Rattle.base_limits.specs.declared.limits.TheConstants.{MOST_TEXT_BYTES};
+ghost use Rattle.lang_tokens.specs.declared.lexicon.Lexicon.TheVariants.{Own};
 ghost use Rattle.lang_tokens.specs.Reading.{Reads};
 ghost use Rattle.flow_transitions.specs.declared.fault.AutoFault.TheVariants.{NoMemory};
 ghost use Rattle.flow_transitions.specs.AutoSymbols.{IsSource};
@@ -13,7 +14,7 @@ use crate::auto::Auto;
 use crate::auto_edge::AutoEdges;
 use crate::fault::AutoFault;
 use flow_edges::{Place, Point, Points};
-use lang_tokens::{LexFault, Token, lex};
+use lang_tokens::{LexFault, Lexicon, Token, lex};
 use lang_tree::Names;
 use std::alloc::{AllocError, Global};
 
@@ -59,11 +60,11 @@ fn answer(alloc: Global, text: &[u8]) -> Result<Auto, AutoFault>
 /// The tokens of a text.
 fn tokens_of(alloc: Global, text: &[u8]) -> Result<Vec<Token>, AutoFault>
     requires { length text.now ≤ MOST_TEXT_BYTES }
-    ensures reads { IfOk result (λ tokens. Reads text.now tokens.items) }
+    ensures reads { IfOk result (λ tokens. Reads Own text.now tokens.items) }
     ensures source { IfOk result (λ tokens. IsSource text.now tokens.items) }
     ensures refused { IfErr result (λ fault. fault ≢ NoMemory → IsRead text.now (Err fault)) }
 {
-    match lex(alloc, text) {
+    match lex(alloc, text, Lexicon::Own) {
         Ok(tokens) => Ok(tokens),
         Err(fault) => match fault {
             LexFault::NoMemory => Err(AutoFault::NoMemory),

@@ -67,6 +67,8 @@ kind_of bytes (lex_kind.TheVariants.Word w) = word_kind w
 kind_of bytes lex_kind.TheVariants.Name = g.a_name bytes
 kind_of bytes (lex_kind.TheVariants.Number n) = g.a_number (literal n)
 kind_of bytes (lex_kind.TheVariants.Sign s) = sign_kind s
+kind_of bytes (lex_kind.TheVariants.Foreign f) = g.other_word
+kind_of bytes (lex_kind.TheVariants.Aside a) = g.other_word
 kind_of bytes lex_kind.TheVariants.End = g.the_end
 
 -- a token of this text
@@ -83,6 +85,8 @@ plain_kind (lex_kind.TheVariants.Word w) = word_kind w
 plain_kind lex_kind.TheVariants.Name = g.a_name []
 plain_kind (lex_kind.TheVariants.Number n) = g.a_number 0
 plain_kind (lex_kind.TheVariants.Sign s) = sign_kind s
+plain_kind (lex_kind.TheVariants.Foreign f) = g.other_word
+plain_kind (lex_kind.TheVariants.Aside a) = g.other_word
 plain_kind lex_kind.TheVariants.End = g.the_end
 
 -- a token without its name or number

@@ -154,6 +154,7 @@ pub fn symbol_of(kind: Kind) -> Symbol
         Kind::Name => Symbol::Name,
         Kind::Number(_) => Symbol::Number,
         Kind::Sign(sign) => sign_symbol(sign),
+        Kind::Foreign(_) | Kind::Aside(_) => Symbol::Other,
         Kind::End => Symbol::End,
     }
 }

@@ -2,6 +2,10 @@ pub mod Once
 pub mod Growth
 pub mod Placed
 pub mod Standing
+pub mod AtComments
+pub mod AtOwn
+pub mod AtC
 pub mod Total
 pub mod Outside
 pub mod LineStarts
+pub mod FaultsOfC

@@ -1,1 +1,3 @@
 pub mod Longest
+pub mod Marks
+pub mod Best

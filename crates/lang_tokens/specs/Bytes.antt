@@ -28,3 +28,16 @@ is_on_line b = not (b == 10)
 -- space, tab, carriage return, form feed and vertical tab: what a C compiler skips between a backslash and the end of its line
 abbrev pub is_line_blank : ℕ → Bool
 is_line_blank b = (b == 32) || (b == 9) || (b == 13) || (b == 12) || (b == 11)
+
+-- `"` and `'`
+abbrev pub is_quote : ℕ → Bool
+is_quote b = (b == 34) || (b == 39)
+
+-- `e`, `E`, `p` and `P`: a sign behind one of these belongs to a number of C
+abbrev pub is_exponent : ℕ → Bool
+is_exponent b = (b == 101) || (b == 69) || (b == 112) || (b == 80)
+
+-- no blank, no quote, and nothing that a word, a number or a sign of C starts with: `#`, `$`, `@`, `\`, a backquote, and what is no
+-- printable character of ASCII
+abbrev pub is_stray : ℕ → Bool
+is_stray b = not (is_blank b) && (nat_le b 31 || nat_le 127 b || (b == 35) || (b == 36) || (b == 64) || (b == 92) || (b == 96))

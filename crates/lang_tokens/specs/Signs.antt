@@ -1,5 +1,7 @@
 -- How the signs are spelled.
-use Rattle.std.specs.Prelude.{ℕ, List, codes}
+use Rattle.std.specs.Prelude.{ℕ, Bool, true, false, List, codes}
+use Rattle.lang_tokens.specs.declared.foreign.ForeignSign.{ForeignSign}
+use Rattle.lang_tokens.specs.declared.foreign.ForeignSign.TheVariants as foreign
 use Rattle.lang_tokens.specs.declared.sign.Sign.{Sign}
 use Rattle.lang_tokens.specs.declared.sign.Sign.TheVariants.{LeftParen, RightParen, LeftBrace, RightBrace, Comma, Semicolon, Colon, Assign}
 use Rattle.lang_tokens.specs.declared.sign.Sign.TheVariants.{PlusAssign}
@@ -42,3 +44,34 @@ sign_bytes RightBracket = codes "]"
 sign_bytes StarAssign = codes "*="
 sign_bytes SlashAssign = codes "/="
 sign_bytes PercentAssign = codes "%="
+
+-- the bytes of a sign that only C has
+abbrev pub foreign_bytes : ForeignSign → List ℕ
+foreign_bytes foreign.Dot = codes "."
+foreign_bytes foreign.Arrow = codes "->"
+foreign_bytes foreign.And = codes "&"
+foreign_bytes foreign.Or = codes "|"
+foreign_bytes foreign.Caret = codes "^"
+foreign_bytes foreign.Tilde = codes "~"
+foreign_bytes foreign.ShiftLeft = codes "<<"
+foreign_bytes foreign.ShiftRight = codes ">>"
+foreign_bytes foreign.Ellipsis = codes "..."
+foreign_bytes foreign.AndAssign = codes "&="
+foreign_bytes foreign.OrAssign = codes "|="
+foreign_bytes foreign.CaretAssign = codes "^="
+foreign_bytes foreign.ShiftLeftAssign = codes "<<="
+foreign_bytes foreign.ShiftRightAssign = codes ">>="
+foreign_bytes foreign.LessColon = codes "<:"
+foreign_bytes foreign.ColonGreater = codes ":>"
+foreign_bytes foreign.LessPercent = codes "<%"
+foreign_bytes foreign.PercentGreater = codes "%>"
+foreign_bytes foreign.PercentColon = codes "%:"
+
+-- C writes `[ ] { } #` so, too
+abbrev pub is_second_spelling : ForeignSign → Bool
+is_second_spelling foreign.LessColon = true
+is_second_spelling foreign.ColonGreater = true
+is_second_spelling foreign.LessPercent = true
+is_second_spelling foreign.PercentGreater = true
+is_second_spelling foreign.PercentColon = true
+is_second_spelling sign = false

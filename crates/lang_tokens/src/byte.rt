@@ -1,7 +1,8 @@
 //! Classes of bytes.
 
 ghost use Rattle.std.specs.Prelude.{◌≡◌};
-ghost use Rattle.lang_tokens.specs.Bytes.{is_blank, is_space, is_line_blank, is_letter, is_digit, is_word_byte};
+ghost use Rattle.lang_tokens.specs.Bytes.{is_blank, is_space, is_line_blank, is_letter, is_digit, is_word_byte, is_quote, is_exponent};
+ghost use Rattle.lang_tokens.specs.Bytes.{is_stray};
 
 /// Space, tab, carriage return and line feed.
 pub fn is_blank(byte: u8) -> bool
@@ -43,4 +44,25 @@ pub fn is_word_byte(byte: u8) -> bool
     ensures { result ≡ is_word_byte byte }
 {
     is_letter(byte) || is_digit(byte)
+}
+
+/// `"` and `'`.
+pub fn is_quote(byte: u8) -> bool
+    ensures { result ≡ is_quote byte }
+{
+    matches!(byte, b'"' | b'\'')
+}
+
+/// `e`, `E`, `p` and `P`.
+pub fn is_exponent(byte: u8) -> bool
+    ensures { result ≡ is_exponent byte }
+{
+    matches!(byte, b'e' | b'E' | b'p' | b'P')
+}
+
+/// No blank, no quote, and nothing that a word, a number or a sign of C starts with.
+pub fn is_stray(byte: u8) -> bool
+    ensures { result ≡ is_stray byte }
+{
+    !is_blank(byte) && matches!(byte, 0..=31 | 127..=255 | b'#' | b'$' | b'@' | b'\\' | b'`')
 }

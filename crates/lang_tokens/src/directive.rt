@@ -3,13 +3,14 @@
 ghost use Rattle.std.specs.Prelude.{◌≡◌, ◌≤◌, length};
 ghost use Rattle.std.specs.List.{prefix_len};
 ghost use Rattle.lang_tokens.specs.Bytes.{is_space};
-ghost use Rattle.lang_tokens.specs.Directives.{is_joint, starts_comment, is_directive_word, starts_with_digit, names_directive};
-ghost use Rattle.lang_tokens.specs.Directives.{is_directive};
-ghost use Rattle.lang_tokens.specs.Reading.{is_blank_at};
+ghost use Rattle.lang_tokens.specs.Directives.{is_joint, starts_comment, is_directive_word, starts_with_digit, starts_with_letter};
+ghost use Rattle.lang_tokens.specs.Directives.{behind_spaces, names_definition, names_directive, is_directive};
+ghost use Rattle.lang_tokens.specs.Reading.{is_own_blank, is_blank_at};
 
 use crate::before::Before;
-use crate::byte::{is_blank, is_digit, is_space};
+use crate::byte::{is_blank, is_digit, is_letter, is_space};
 use crate::joint::is_joint;
+use crate::lexicon::Lexicon;
 use crate::words::word_len;
 
 /// Whether a comment starts with the `/` that stands first.
@@ -26,11 +27,18 @@ fn is_directive_word(word: &[u8]) -> bool
     word == b"include".as_slice() || word == b"pragma".as_slice() || word == b"line".as_slice()
 }
 
-// Whether a digit stands first.
-fn starts_with_digit(rest: &[u8]) -> bool
+/// Whether a digit stands first.
+pub fn starts_with_digit(rest: &[u8]) -> bool
     ensures { result ≡ starts_with_digit rest.now }
 {
     !rest.is_empty() && is_digit(rest[0])
+}
+
+/// Whether a letter or `_` stands first.
+pub fn starts_with_letter(rest: &[u8]) -> bool
+    ensures { result ≡ starts_with_letter rest.now }
+{
+    !rest.is_empty() && is_letter(rest[0])
 }
 
 // How many spaces, tabs and carriage returns stand first.
@@ -41,34 +49,59 @@ fn spaces_len(rest: &[u8]) -> usize
     rest.iter().take_while(|byte| is_space(**byte)).count()
 }
 
-// Whether a digit or the word of a directive stands first.
-fn names_directive(rest: &[u8]) -> bool
-    ensures { result ≡ names_directive rest.now }
+// Whether `define` stands first, and a word behind it and spaces, tabs and carriage returns, in a C
+// file.
+fn names_definition(lexicon: Lexicon, rest: &[u8]) -> bool
+    ensures { result ≡ names_definition lexicon rest.now }
 {
-    starts_with_digit(rest) || is_directive_word(&rest[..word_len(rest)])
+    let len = word_len(rest);
+    let behind = &rest[len..];
+    lexicon == Lexicon::C
+        && &rest[..len] == b"define".as_slice()
+        && starts_with_letter(&behind[spaces_len(behind)..])
 }
 
-// Whether a directive starts with what stands first, as far as what follows it tells.
-fn is_directive(rest: &[u8]) -> bool
-    ensures { result ≡ is_directive rest.now }
+// Whether a digit or the word of a directive stands first.
+fn names_directive(lexicon: Lexicon, rest: &[u8]) -> bool
+    ensures { result ≡ names_directive lexicon rest.now }
+{
+    starts_with_digit(rest)
+        || is_directive_word(&rest[..word_len(rest)])
+        || names_definition(lexicon, rest)
+}
+
+/// Whether a directive starts with what stands first, as far as what follows it tells.
+pub fn is_directive(lexicon: Lexicon, rest: &[u8]) -> bool
+    ensures { result ≡ is_directive lexicon rest.now }
 {
     if rest.is_empty() || rest[0] != b'#' {
         return false;
     }
     let behind = &rest[1..];
-    names_directive(&behind[spaces_len(behind)..])
+    names_directive(lexicon, &behind[spaces_len(behind)..])
 }
 
-/// Whether the byte that stands first is a blank, behind what stands before it in its line.
-pub fn is_blank_at(before: Before, rest: &[u8]) -> bool
-    ensures { result ≡ is_blank_at before rest.now }
+// Whether the byte that stands first is a blank of the tool's own formats, behind what stands before
+// it in its line.
+fn is_own_blank(before: Before, rest: &[u8]) -> bool
+    ensures { result ≡ is_own_blank before rest.now }
 {
     if rest.is_empty() {
         return false;
     }
     match before {
-        Before::Blanks => is_blank(rest[0]) || is_directive(rest),
+        Before::Blanks => is_blank(rest[0]) || is_directive(Lexicon::Own, rest),
         Before::Others => is_blank(rest[0]),
         Before::Directive => !(starts_comment(rest) || is_joint(rest)),
+    }
+}
+
+/// Whether the byte that stands first is a blank, behind what stands before it in its line.
+pub fn is_blank_at(lexicon: Lexicon, before: Before, rest: &[u8]) -> bool
+    ensures { result ≡ is_blank_at lexicon before rest.now }
+{
+    match lexicon {
+        Lexicon::Own => is_own_blank(before, rest),
+        Lexicon::C => !rest.is_empty() && is_blank(rest[0]),
     }
 }

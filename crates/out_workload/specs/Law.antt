@@ -1,6 +1,7 @@
 -- Every generated text reads, as a program within the limits.
 use Rattle.std.specs.Prelude.{◌≡◌, ◌≤◌, ◌+◌, ◌*◌, ℕ, List, length, None, Ok}
 use Rattle.base_limits.specs.declared.limits.TheConstants.{MOST_CELLS, MOST_TEXT_BYTES}
+use Rattle.lang_tokens.specs.declared.lexicon.Lexicon.TheVariants.{Own}
 use Rattle.lang_tokens.specs.declared.token.Token.{Token}
 use Rattle.lang_tokens.specs.Reading.{Reads}
 use Rattle.lang_grammar.specs.View.{tokens_of}
@@ -29,7 +30,7 @@ generated_equations seed loops = record {
 pub record IsSolvable (seed loops : ℕ) : Type 0 where
   pub tokens : List Token
   pub short : length (generated_text seed loops) ≤ MOST_TEXT_BYTES
-  pub reads : Reads (generated_text seed loops) tokens
+  pub reads : Reads Own (generated_text seed loops) tokens
   pub means : Means (generated_text seed loops) (tokens_of (generated_text seed loops) tokens)
       (Ok (generated_names, generated_body seed loops))
   pub within : fault_of_program (generated_body seed loops) ≡ None

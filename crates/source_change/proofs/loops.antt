@@ -1,2 +1,3 @@
 pub mod Declarators
 pub mod Updates
+pub mod Sizes

@@ -1,6 +1,7 @@
 -- Places and changes that were read.
-use Rattle.std.specs.Prelude.{◌≡◌, ℕ, List, Option, Some, None, Result, Ok, length}
+use Rattle.std.specs.Prelude.{◌≡◌, ℕ, Option, Some, None, Result, Ok, length}
 use Rattle.source_grammar.specs.Tokens as g
+use Rattle.source_grammar.specs.Tokens.{Name}
 use Rattle.source_grammar.specs.Grammar.{Index, no_index, index, Effect}
 use Rattle.source_tree.specs.Expressions.{Expression, variable, none, more, Operation, plus, minus, times, over, remainder}
 use Rattle.source_tree.specs.Statements.{Change, sets, evaluates}
@@ -46,10 +47,10 @@ module _ (integers : Integers) (n line : ℕ) where
     pub old : Stands n t.old (elaborated integers line (old_of a) n)
     pub var : t.var ≡ var_of a
 
-  -- what the place is that this name at this place, with this index, stands for
-  abbrev pub aim : State → List ℕ → (at : ℕ) → Index → Result Aim FunctionFault
+  -- what the place is that this name at this place, with these indexes, stands for
+  abbrev pub aim : State → Name → (at : ℕ) → Index → Result Aim FunctionFault
   aim st x a no_index = variable_of x a st >>= λ i. Ok (a_variable i a)
-  aim st x a (index b e c) = read_element integers n line st x a b e >>= λ old. Ok (an_element old)
+  aim st x a (index is) = read_element integers n line st x a is >>= λ old. Ok (an_element old)
 
   -- what is done to a place
   abbrev pub done_to : State → Aim → Effect → Result Change FunctionFault

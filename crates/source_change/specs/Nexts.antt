@@ -38,6 +38,16 @@ abbrev pub is_comma : Kind → Bool
 is_comma g.comma = true
 is_comma k = false
 
+-- whether a token of this kind is a `[`
+abbrev pub is_bracket : Kind → Bool
+is_bracket g.left_bracket = true
+is_bracket k = false
+
+-- whether it is the sign of an assignment
+abbrev pub is_assignment : Kind → Bool
+is_assignment (g.change_sign c) = true
+is_assignment k = false
+
 -- the step that a token of this kind is, if it is one
 abbrev pub step_in : Kind → Option g.Direction
 step_in (g.step_sign d) = Some d

@@ -2,7 +2,7 @@
 use Rattle.std.specs.Prelude.{◌≡◌, ◌++◌, ℕ, List}
 use Rattle.lang_tree.specs.View.{statements_of, deeds_of, condition_of}
 use Rattle.lang_tree.specs.declared.stmt.Stmt.{Stmt}
-use Rattle.source_grammar.specs.Tokens.{Token}
+use Rattle.source_grammar.specs.Tokens.{Name, Token}
 use Rattle.lang_tree.specs.declared.deed.Deed.{Deed}
 use Rattle.source_tree.specs.Statements.{Change, Statements}
 use Rattle.source_core.specs.Elaborated as core
@@ -45,6 +45,10 @@ pub record WereChanged (integers : Integers) (n : ℕ) (rest : List Token) (old 
 abbrev pub WasCounted : (integers : Integers) (n : ℕ) (known : State) (deeds : List Deed) → State × Change → Type 0
 WasCounted integers n known deeds r = (known ≡ r.0) × (deeds_of deeds ≡ change_deeds integers n r.1)
 
+-- the name that the code has
+abbrev pub name_of : Named → Name
+name_of n = record { text = n.name; value = n.value }
+
 -- a name was taken with its place
-abbrev pub WasTaken : (rest : List Token) (old new : Reading) → Named → List ℕ × ℕ → Type 0
-WasTaken rest old new n p = (n.name ≡ p.0) × (n.at ≡ p.1) × (new ≡ at_tokens old rest)
+abbrev pub WasTaken : (rest : List Token) (old new : Reading) → Named → Name × ℕ → Type 0
+WasTaken rest old new n p = (name_of n ≡ p.0) × (n.at ≡ p.1) × (new ≡ at_tokens old rest)

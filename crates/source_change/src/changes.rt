@@ -11,7 +11,7 @@ ghost use Rattle.source_meaning.specs.Changes.{read_update};
 ghost use Rattle.source_meaning.specs.Statements.{read_more_updates, read_updates};
 ghost use Rattle.source_reader.specs.Answers.{Answers};
 ghost use Rattle.source_reader.specs.Reading.{first_kind};
-ghost use Rattle.source_change.specs.Tests.{WasChanged, WereChanged};
+ghost use Rattle.source_change.specs.Tests.{WasChanged, WereChanged, name_of};
 ghost use Rattle.source_change.specs.Onto.{onto_index, onto_place, onto_effect, onto_update, onto_more_updates, onto_updates};
 
 use crate::deeds::counted_change;
@@ -31,7 +31,7 @@ pub fn update_of(reader: &mut Reader, known: &mut Known, first: &Named) -> Resul
         → reader.old.ahead ≡ onto_index i (onto_effect f rest) → AfterPart (first_kind rest)
         → Answers (λ deeds r. WasChanged reader.old.integers reader.old.variables rest reader.old reader.new known.new deeds.items r) result
         (read_update reader.old.integers (line_at reader.old.text) reader.old.variables known.old
-        (update (place first.now.name first.now.at i) f)) }
+        (update (place (name_of first.now) first.now.at i) f)) }
     ensures shorter { OnOk result (length reader.new.ahead ≤ length reader.old.ahead) }
 {
     let site = reader.site(first.at);

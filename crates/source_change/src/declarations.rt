@@ -3,15 +3,17 @@
 ghost use Rattle.std.specs.Prelude.{◌≡◌, ◌<◌, ◌≤◌, ◌++◌, ◌∷◌, ℕ, List, length, OnOk};
 ghost use Rattle.lang_tokens.specs.Lines.{line_at};
 ghost use Rattle.source_grammar.specs.Tokens.{Token, token, change_sign, replaces};
-ghost use Rattle.source_grammar.specs.Grammar.{Expr, Groups, Initialiser, GoodInitialiser, bare, given, sized, Declarator, GoodDeclarator};
+ghost use Rattle.source_grammar.specs.Grammar.{Expr, Groups, Initialiser, GoodInitialiser, bare, given};
+ghost use Rattle.source_grammar.specs.Grammar.{Declarator, GoodDeclarator};
 ghost use Rattle.source_grammar.specs.Grammar.{declarator, MoreDeclarators, GoodMoreDeclarators, Declarators, GoodDeclarators, spell_expr};
 ghost use Rattle.source_grammar.proofs.grammar.Follow.{AfterPart, AfterList};
 ghost use Rattle.source_meaning.specs.Statements.{read_declarator, read_more_declarators, read_declarators};
 ghost use Rattle.source_reader.specs.Answers.{Answers};
 ghost use Rattle.source_reader.specs.Reading.{first_kind};
 ghost use Rattle.source_change.specs.Onto.{onto_initialiser, onto_declarator, onto_more_declarators, onto_declarators};
-ghost use Rattle.source_change.specs.Tests.{WasRead};
+ghost use Rattle.source_change.specs.Tests.{WasRead, name_of};
 
+use crate::arrays::array;
 use crate::deeds::{Changed, counted_change};
 use crate::names::{Named, take_name};
 use crate::nexts::{Next, coming, has_comma};
@@ -19,7 +21,7 @@ use crate::pushed::push_deeds;
 use lang_tree::Stmt;
 use source_expression::expression;
 use source_names::Known;
-use source_reader::{Mark, Reader, Stop};
+use source_reader::{Reader, Stop};
 use source_value::declared;
 
 /// A name that is declared without a value, or a parameter: the variable takes any of the integers.
@@ -32,10 +34,9 @@ pub fn bare(
     ensures { Answers (λ _ r. WasRead reader.now.integers reader.now.variables reader.now.ahead reader.now reader.now
         known.new out.old.items out.new.items r)
         result (read_declarator reader.now.integers (line_at reader.now.text) reader.now.variables known.old
-        (declarator first.now.name first.now.at bare)) }
+        (declarator (name_of first.now) first.now.at bare)) }
 {
-    let var = known.variables();
-    known.add_variable(&first.name, first.at)?;
+    let var = known.add_variable(&first.name, first.value, first.at)?;
     let deeds = declared(reader.alloc(), reader.site(first.at), var)?;
     known.count(first.at, deeds.len())?;
     push_deeds(out, deeds)?;
@@ -55,35 +56,16 @@ fn given(
         → Answers (λ _ r. WasRead reader.old.integers reader.old.variables rest reader.old reader.new
         known.new out.old.items out.new.items r)
         result (read_declarator reader.old.integers (line_at reader.old.text) reader.old.variables known.old
-        (declarator first.now.name first.now.at (given b e))) }
+        (declarator (name_of first.now) first.now.at (given b e))) }
     ensures shorter { OnOk result (length reader.new.ahead ≤ length reader.old.ahead) }
 {
     reader.skip();
     let site = reader.site(first.at);
     let value = expression(reader, known, site, site.variables)?;
-    let var = known.variables();
-    known.add_variable(&first.name, first.at)?;
+    let var = known.add_variable(&first.name, first.value, first.at)?;
     let changed = Changed::Sets { var, value };
     let deeds = counted_change(reader.alloc(), known, site, first.at, changed)?;
     push_deeds(out, deeds)?;
-    Ok(())
-}
-
-// The brackets of an array that is declared.
-fn sized(reader: &mut Reader, known: &mut Known, first: &Named) -> Result<(), Stop>
-    ensures reads { (b size c d : ℕ) (rest : List Token) → reader.old.ahead ≡ onto_initialiser (sized b size c d) rest
-        → (out : List Stmt) → Answers (λ _ r. WasRead reader.old.integers reader.old.variables rest reader.old reader.new
-        known.new out out r)
-        result (read_declarator reader.old.integers (line_at reader.old.text) reader.old.variables known.old
-        (declarator first.now.name first.now.at (sized b size c d))) }
-    ensures shorter { OnOk result (length reader.new.ahead ≤ length reader.old.ahead) }
-{
-    reader.take(Mark::LeftBracket)?;
-    let place = reader.at();
-    let size = reader.number();
-    reader.skip();
-    reader.take(Mark::RightBracket)?;
-    known.add_array(&first.name, first.at, size, place)?;
     Ok(())
 }
 
@@ -99,12 +81,12 @@ fn initialiser(
         → Answers (λ _ r. WasRead reader.old.integers reader.old.variables rest reader.old reader.new
         known.new out.old.items out.new.items r)
         result (read_declarator reader.old.integers (line_at reader.old.text) reader.old.variables known.old
-        (declarator first.now.name first.now.at i)) }
+        (declarator (name_of first.now) first.now.at i)) }
     ensures shorter { OnOk result (length reader.new.ahead ≤ length reader.old.ahead) }
 {
     match coming(reader) {
         Next::Change(_) => given(reader, known, first, out),
-        Next::Bracket => sized(reader, known, first),
+        Next::Bracket => array(reader, known, first, out),
         _ => bare(reader, known, first, out),
     }
 }

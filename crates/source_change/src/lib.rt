@@ -2,6 +2,7 @@
 //! (docs/MEANING.md, "Functions of C").
 #![tactic(auto)]
 
+mod arrays;
 mod changes;
 mod conditions;
 mod declarations;
@@ -14,9 +15,9 @@ mod places;
 mod pushed;
 mod ranges;
 
+pub use arrays::sizes;
 pub use changes::{update, update_of, updates};
 pub use conditions::{Test, parenthesised, read_test};
 pub use declarations::{bare, declarators};
-pub use limits::evaluated;
 pub use names::{Named, take_name};
-pub use pushed::push_deeds;
+pub use pushed::{push_deeds, push_evaluated};

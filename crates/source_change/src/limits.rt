@@ -42,8 +42,8 @@ pub(crate) fn limited_deeds(
     }
 }
 
-/// The deeds of what the statement that begins at `at` evaluates, within its limits (docs/FORMATS.md, "Functions").
-pub fn evaluated(site: Site, at: u32, evaluated: Evaluated) -> Result<Vec<Deed>, Stop>
+// The deeds of what the statement that begins at `at` evaluates, within its limits (docs/FORMATS.md, "Functions").
+pub(crate) fn evaluated(site: Site, at: u32, evaluated: Evaluated) -> Result<Vec<Deed>, Stop>
     ensures { (e : core.Evaluated) → StandsEvaluated site.variables evaluated e
         → Answers (λ deeds ds. deeds_of deeds.items ≡ ds) result (limited site.variables at e.next e.prelude [] e.prelude) }
 {

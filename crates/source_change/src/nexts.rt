@@ -4,7 +4,7 @@ ghost use Rattle.std.specs.Prelude.{◌≡◌};
 ghost use Rattle.std.specs.Option.{option_map};
 ghost use Rattle.source_grammar.specs.Symbols.{direction_of, symbol_kind};
 ghost use Rattle.source_reader.specs.Reading.{first_kind};
-ghost use Rattle.source_change.specs.Nexts.{begins_change, is_comma, next_in, next_of, step_in};
+ghost use Rattle.source_change.specs.Nexts.{begins_change, is_assignment, is_bracket, is_comma, next_in, next_of, step_in};
 
 use source_grammar::{Change, Direction, Symbol};
 use source_reader::Reader;
@@ -45,6 +45,20 @@ pub(crate) fn has_comma(reader: &Reader) -> bool
     ensures { result ≡ is_comma (first_kind reader.now.ahead) }
 {
     matches!(coming(reader), Next::Comma)
+}
+
+// Whether a `[` comes next.
+pub(crate) fn has_bracket(reader: &Reader) -> bool
+    ensures { result ≡ is_bracket (first_kind reader.now.ahead) }
+{
+    matches!(coming(reader), Next::Bracket)
+}
+
+// Whether the sign of an assignment comes next.
+pub(crate) fn has_assignment(reader: &Reader) -> bool
+    ensures { result ≡ is_assignment (first_kind reader.now.ahead) }
+{
+    matches!(coming(reader), Next::Change(_))
 }
 
 fn step_in(symbol: Symbol) -> Option<Direction>

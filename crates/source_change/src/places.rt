@@ -1,9 +1,8 @@
 //! Places: variables, and elements of arrays.
 
-ghost use Rattle.std.specs.Prelude.{◌≡◌, ◌≤◌, ◌++◌, ◌∷◌, ℕ, List, length, OnOk};
-ghost use Rattle.lang_tokens.specs.Lines.{line_at};
-ghost use Rattle.source_grammar.specs.Tokens.{Token, token, left_bracket, right_bracket};
-ghost use Rattle.source_grammar.specs.Grammar.{Expr, Groups, Index, GoodIndex, spell_expr};
+ghost use Rattle.std.specs.Prelude.{◌≡◌, ◌≤◌, ◌++◌, List, length, OnOk};
+ghost use Rattle.source_grammar.specs.Tokens.{Token};
+ghost use Rattle.source_grammar.specs.Grammar.{Subscripts, GoodSubscripts, spell_subscripts, Index, GoodIndex};
 ghost use Rattle.source_grammar.proofs.grammar.Follow.{AfterPlace};
 ghost use Rattle.source_core.specs.Elaborated.{elaborated};
 ghost use Rattle.source_meaning.specs.Changes.{read_element};
@@ -12,14 +11,14 @@ ghost use Rattle.source_reader.specs.Answers.{Answers};
 ghost use Rattle.source_reader.specs.Reading.{at_tokens, first_kind};
 ghost use Rattle.source_change.specs.Onto.{onto_index};
 ghost use Rattle.source_change.specs.Changed.{StandsTarget, aim};
+ghost use Rattle.source_change.specs.Tests.{name_of};
 
 use crate::names::Named;
 use crate::nexts::{Next, coming};
-use crate::ranges::ranged;
-use source_expression::expression;
+use source_expression::element;
 use source_names::Known;
-use source_reader::{Mark, Reader, Stop};
-use source_value::{Site, Value, element};
+use source_reader::{Reader, Stop};
+use source_value::{Site, Value};
 
 // A place: its value, which is any for an element, behind the check of its index; and its variable, if it is one.
 #[derive(Drop)]
@@ -35,30 +34,24 @@ fn read_element(
     site: Site,
     named: &Named,
 ) -> Result<Value, Stop>
-    ensures reads { (b : ℕ) (e : Expr) (c : ℕ) (rest : List Token) → Groups 0 e
-        → reader.old.ahead ≡ token left_bracket b ∷ (spell_expr e ++ token right_bracket c ∷ rest)
+    ensures reads { (is : Subscripts) (rest : List Token) → GoodSubscripts is → reader.old.ahead ≡ spell_subscripts is ++ rest
+        → AfterPlace (first_kind rest)
         → Answers (λ v x. Stands site.variables v (elaborated site.integers site.line x site.variables) ×
         (reader.new ≡ at_tokens reader.old rest))
-        result (read_element site.integers site.variables site.line known.now named.now.name named.now.at b e) }
+        result (read_element site.integers site.variables site.line known.now (name_of named.now) named.now.at is) }
     ensures shorter { OnOk result (length reader.new.ahead ≤ length reader.old.ahead) }
 {
-    let size = known.array(named.name.bytes(), named.at)?;
-    let bracket = reader.take(Mark::LeftBracket)?;
-    let index = expression(reader, known, site, site.variables)?;
-    reader.take(Mark::RightBracket)?;
-    let number = index.into_number(reader.alloc(), site)?;
-    ranged(
-        element(reader.alloc(), site, size, bracket, number),
-        bracket,
-    )
+    let count = reader.subscripts();
+    let extents = known.array(named.name.bytes(), named.value, named.at, count)?;
+    element(reader, known, site, site.variables, extents)
 }
 
 // The variable with this name.
 fn variable(reader: &Reader, known: &Known, site: Site, named: &Named) -> Result<Target, Stop>
     ensures { Answers (λ t a. StandsTarget site.integers site.variables site.line t a) result
-        (aim site.integers site.variables site.line known.now named.now.name named.now.at Index.no_index) }
+        (aim site.integers site.variables site.line known.now (name_of named.now) named.now.at Index.no_index) }
 {
-    let var = known.variable(named.name.bytes(), named.at)?;
+    let var = known.variable(named.name.bytes(), named.value, named.at)?;
     Ok(Target {
         old: Value::variable(reader.alloc(), site, site.variables, var)?,
         var: Some(var),
@@ -74,7 +67,7 @@ pub(crate) fn place(
 ) -> Result<Target, Stop>
     ensures reads { (i : Index) (rest : List Token) → GoodIndex i → reader.old.ahead ≡ onto_index i rest → AfterPlace (first_kind rest)
         → Answers (λ t a. StandsTarget site.integers site.variables site.line t a × (reader.new ≡ at_tokens reader.old rest)) result
-        (aim site.integers site.variables site.line known.now named.now.name named.now.at i) }
+        (aim site.integers site.variables site.line known.now (name_of named.now) named.now.at i) }
     ensures shorter { OnOk result (length reader.new.ahead ≤ length reader.old.ahead) }
 {
     match coming(reader) {

@@ -18,6 +18,7 @@ use Rattle.base_integers.specs.Integers.{greatest}
 use Rattle.source_tree.specs.Expressions.{Operation, plus, minus, times, over, remainder}
 use Rattle.source_tree.specs.Expressions.{Expression, Expressions, number, variable, unknown, call, element, grouped, negative, positive}
 use Rattle.source_tree.specs.Expressions.{inverse, joined, compared, both, either, chosen, none, more}
+use Rattle.source_tree.specs.Expressions.{Extent, endless, elements, Subscripts, no_subscript, subscript}
 use Rattle.source_core.specs.Forms as form
 use Rattle.source_core.specs.Forms.{constant_form, variable_form, opposite, scaled, is_constant}
 use Rattle.source_core.specs.Preludes.{all_under}
@@ -69,9 +70,15 @@ divides f c q =
     (tree.both (tree.both (related Le f (constant_form (negsuc 0))) (related Le rest (constant_form (pos 0))))
     (related Ge rest (constant_form (pos 1 -ℤ pos (nat_abs c)))))
 
--- a form is the index of an element of an array of so many
-abbrev pub is_index : ℕ → Form → Condition
-is_index size f = tree.both (related Le (constant_form (pos 0)) f) (related Le f (constant_form (pos size -ℤ pos 1)))
+-- a form is an index within this extent
+abbrev pub is_index : Extent → Form → Condition
+is_index endless f = related Le (constant_form (pos 0)) f
+is_index (elements size) f = tree.both (related Le (constant_form (pos 0)) f) (related Le f (constant_form (pos size -ℤ pos 1)))
+
+-- a number is one of the integers of this width
+abbrev pub has : Width → ℤ → Bool
+has width (pos v) = nat_le v (greatest width)
+has width (negsuc v) = nat_le v (greatest width)
 
 -- a form is one of the integers of this width
 abbrev pub is_held : Width → Form → Condition
@@ -149,11 +156,10 @@ module _ (line : ℕ) where
       else (if is_constant f then form_behind ds h (constant_form (int_rem f.constant c))
       else form_behind (quotient_behind ds h f c) (suc h) (form.minus f (scaled c (variable_form h))))
 
-  -- an element is any number, behind a check of its index
-  abbrev pub element_behind : (size bracket : ℕ) → Numbered → Elaborated
-  element_behind size bracket i = record {
-    prelude = i.prelude ++ checked Index bracket (is_index size i.form) ∷ [];
-    result = any;
+  -- an index, and a check behind it that it is within its extent
+  abbrev pub index_behind : Extent → (bracket : ℕ) → Numbered → Evaluated
+  index_behind extent bracket i = record {
+    prelude = i.prelude ++ checked Index bracket (is_index extent i.form) ∷ [];
     next = i.next;
   }
 
@@ -179,13 +185,13 @@ module _ (integers : Integers) (line : ℕ) where
     }
   ]
 
-  -- a number of the text, with a check where it is above all of the integers
-  abbrev pub number_at : (value at : ℕ) → ℕ → Elaborated
+  -- a number of the text, with a check where it is none of the integers
+  abbrev pub number_at : (value : ℤ) → (at : ℕ) → ℕ → Elaborated
   number_at v at h = elim integers [
-    | Mathematical ↦ form_behind [] h (constant_form (pos v))
+    | Mathematical ↦ form_behind [] h (constant_form v)
     | Machine width ↦
-        (if nat_le v (greatest width) then form_behind [] h (constant_form (pos v))
-        else form_behind (checked line Range at (is_held width (constant_form (pos v))) ∷ []) h (constant_form (pos v)))
+        (if has width v then form_behind [] h (constant_form v)
+        else form_behind (checked line Range at (is_held width (constant_form v)) ∷ []) h (constant_form v))
   ]
 
   -- a result as a number: a truth is 1 or 0, and any value is that of a hidden variable
@@ -235,7 +241,7 @@ module _ (integers : Integers) (line : ℕ) where
     elaborated (variable i at) h = form_behind [] h (variable_form i)
     elaborated (unknown at) h = record { prelude = []; result = any; next = h }
     elaborated (call es at) h = record { prelude = (evaluated es h).prelude; result = any; next = (evaluated es h).next }
-    elaborated (element size bracket e at) h = element_behind line size bracket (numbered (elaborated e h))
+    elaborated (element is at) h = record { prelude = (indexed is h).prelude; result = any; next = (indexed is h).next }
     elaborated (grouped at e) h = elaborated e h
     elaborated (negative at e) h =
         let a = numbered (elaborated e h) in ranged at is_held (form_behind a.prelude a.next (opposite a.form))
@@ -282,3 +288,11 @@ module _ (integers : Integers) (line : ℕ) where
         let a = elaborated e h in
         let b = evaluated es a.next in
         record { prelude = a.prelude ++ b.prelude; next = b.next }
+
+    -- indexes from the left, each checked behind its own prelude
+    pub indexed : Subscripts → ℕ → Evaluated
+    indexed no_subscript h = record { prelude = []; next = h }
+    indexed (subscript extent bracket e is) h =
+        let i = index_behind line extent bracket (numbered (elaborated e h)) in
+        let b = indexed is i.next in
+        record { prelude = i.prelude ++ b.prelude; next = b.next }

@@ -7,6 +7,7 @@ use Rattle.base_integers.specs.declared.integers.Integers.TheVariants.{Mathemati
 use Rattle.base_integers.specs.Integers.{Has}
 use Rattle.source_tree.specs.Expressions.{Expression, Expressions, number, variable, unknown, call, element, grouped, negative, positive}
 use Rattle.source_tree.specs.Expressions.{inverse, joined, compared, both, either, chosen, none, more}
+use Rattle.source_tree.specs.Expressions.{Subscripts, no_subscript, subscript}
 use Rattle.source_tree.specs.Values.{truth_number, May, Breaks}
 use Rattle.source_core.specs.Preludes.{AllLeave, MayFail}
 use Rattle.source_core.specs.Forms.{is_constant}
@@ -21,7 +22,7 @@ abbrev mutual
   is_over n (variable i at) = nat_lt i n
   is_over n (unknown at) = true
   is_over n (call es at) = are_over n es
-  is_over n (element size bracket e at) = is_over n e
+  is_over n (element is at) = are_indexes_over n is
   is_over n (grouped at e) = is_over n e
   is_over n (negative at e) = is_over n e
   is_over n (positive at e) = is_over n e
@@ -36,6 +37,11 @@ abbrev mutual
   pub are_over : ℕ → Expressions → Bool
   are_over n none = true
   are_over n (more e es) = is_over n e && are_over n es
+
+  -- nor has any of these indexes
+  pub are_indexes_over : ℕ → Subscripts → Bool
+  are_indexes_over n no_subscript = true
+  are_indexes_over n (subscript extent bracket e is) = is_over n e && are_indexes_over n is
 
 -- the states have the same values of the first n variables
 abbrev pub Agree : ℕ → State → State → Type 0
@@ -87,7 +93,7 @@ module _ (line : ℕ) where
   is_exact (variable i at) h = true
   is_exact (unknown at) h = true
   is_exact (call es at) h = false
-  is_exact (element size bracket e at) h = false
+  is_exact (element is at) h = false
   is_exact (grouped at e) h = is_exact e h
   is_exact (negative at e) h = is_exact e h
   is_exact (positive at e) h = is_exact e h

@@ -1,18 +1,17 @@
 -- Hidden variables are taken upwards.
-use Rattle.std.proofs.Common.{◌≤◌, ℕ, Bool, true, false, List, cond, arith}
-use Rattle.std.specs.Prelude.{◌++◌, nat_le}
+use Rattle.std.proofs.Common.{◌≤◌, ℕ, ℤ, Bool, true, false, List, cond, arith}
+use Rattle.std.specs.Prelude.{◌++◌}
 use Rattle.lang_tree.specs.declared.form.Form.{Form}
 use Rattle.lang_tree.specs.Tree.{Condition, Deed}
 use Rattle.source_tree.specs.Expressions.{Operation, plus, minus, times, over, remainder}
 use Rattle.source_tree.specs.Expressions.{Expression, Expressions, number, variable, unknown, call, element, grouped, negative, positive}
-use Rattle.source_tree.specs.Expressions.{inverse, joined, compared, both, either, chosen, none, more}
+use Rattle.source_tree.specs.Expressions.{inverse, joined, compared, both, either, chosen, none, more, Subscripts, no_subscript, subscript}
 use Rattle.source_core.specs.Forms.{is_constant}
 use Rattle.source_core.specs.Elaborated.{Result, a_form, a_truth, any, Elaborated, as_number, numbered, operated, is_divisor, is_unit}
-use Rattle.source_core.specs.Elaborated.{elaborated, evaluated, form_behind, is_held, number_at, operation_held, ranged}
+use Rattle.source_core.specs.Elaborated.{elaborated, evaluated, indexed, form_behind, has, is_held, number_at, operation_held, ranged}
 use Rattle.source_core.specs.Forms.{opposite}
 use Rattle.base_integers.specs.declared.integers.Width.{Width}
 use Rattle.base_integers.specs.declared.integers.Integers.TheVariants.{Mathematical, Machine}
-use Rattle.base_integers.specs.Integers.{greatest}
 use Rattle.base_integers.specs.declared.integers.Integers.{Integers}
 
 either_next : (b : Bool) (x y : Elaborated) (h : ℕ) → h ≤ x.next → h ≤ y.next → h ≤ (cond b x y).next
@@ -51,12 +50,12 @@ module _ (integers : Integers) (line : ℕ) where
       by Mathematical = l
       by (Machine width) = l
 
-  number_at_grows : (v at h : ℕ) → h ≤ (number_at integers line v at h).next
+  number_at_grows : (v : ℤ) (at h : ℕ) → h ≤ (number_at integers line v at h).next
   number_at_grows v at h = by integers
     where
       by : (k : Integers) → h ≤ (number_at k line v at h).next
       by Mathematical = omega arith
-      by (Machine width) = either_next (nat_le v (greatest width)) _ _ h (omega arith) (omega arith)
+      by (Machine width) = either_next (has width v) _ _ h (omega arith) (omega arith)
 
   mutual
     -- so does an expression
@@ -65,7 +64,7 @@ module _ (integers : Integers) (line : ℕ) where
     grows (variable i at) h = omega arith
     grows (unknown at) h = omega arith
     grows (call es at) h = all_grow es h
-    grows (element size bracket e at) h = as_numbers (elaborated integers line e h) h (grows e h)
+    grows (element is at) h = indexes_grow is h
     grows (grouped at e) h = grows e h
     grows (negative at e) h =
         let a = numbered integers line (elaborated integers line e h) in
@@ -99,6 +98,14 @@ module _ (integers : Integers) (line : ℕ) where
     pub all_grow : (es : Expressions) (h : ℕ) → h ≤ (evaluated integers line es h).next
     all_grow none h = omega arith
     all_grow (more e es) h = let l = grows e h in let k = all_grow es (elaborated integers line e h).next in omega (arith, l, k)
+
+    -- and indexes
+    pub indexes_grow : (is : Subscripts) (h : ℕ) → h ≤ (indexed integers line is h).next
+    indexes_grow no_subscript h = omega arith
+    indexes_grow (subscript extent bracket e is) h =
+        let i = numbered integers line (elaborated integers line e h) in
+        let l = as_numbers (elaborated integers line e h) h (grows e h) in
+        let k = indexes_grow is i.next in omega (arith, l, k)
 
   -- an expression as a number takes them upwards
   pub numbers_grow : (e : Expression) (h : ℕ) → h ≤ (numbered integers line (elaborated integers line e h)).next

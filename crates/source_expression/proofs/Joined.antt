@@ -23,7 +23,8 @@ use Rattle.source_expression.proofs.Shapes.{level_between, stops_more, stops_loo
 use Rattle.base_integers.specs.declared.integers.Integers.{Integers}
 
 -- ---- results
-bind_ok : {A : Type 0} (r : Result A FunctionFault) → (r >>= λ x. Ok x) ≡ r
+-- a value alone may come next of itself
+pub bind_ok : {A : Type 0} (r : Result A FunctionFault) → (r >>= λ x. Ok x) ≡ r
 bind_ok (Ok x) = refl
 bind_ok (Err e) = refl
 
@@ -118,7 +119,9 @@ module _ (integers : Integers) (line : ℕ) (st : State) (h : ℕ) where
   pub split : (least : ℕ) (e : Expr) → 1 ≤ least → Groups least e → Split integers line st h least e
   split least (tree.number v a) l g = alone least (tree.number v a) g
   split least (tree.variable x a) l g = alone least (tree.variable x a) g
-  split least (tree.element x a b e c) l g = alone least (tree.element x a b e c) g
+  split least (tree.element x a is) l g = alone least (tree.element x a is) g
+  split least (tree.stepped_behind x a d b) l g = alone least (tree.stepped_behind x a d b) g
+  split least (tree.stepped_before d a x b) l g = alone least (tree.stepped_before d a x b) g
   split least (tree.call x a b es c) l g = alone least (tree.call x a b es c) g
   split least (tree.free a b c) l g = alone least (tree.free a b c) g
   split least (tree.grouped a e b) l g = alone least (tree.grouped a e b) g

@@ -9,3 +9,5 @@ pub mod Parts
 pub mod Whole
 pub mod Behind
 pub mod Given
+pub mod Indexed
+pub mod Valued

@@ -1,13 +1,14 @@
 -- What comes first of an expression, and what it goes on with.
-use Rattle.std.proofs.Common.{◌≡◌, ◌∙◌, ◌≤◌, ◌++◌, ℕ, suc, true, false, List, [], Option, Some, None, refl, ap₂, subst}
+use Rattle.std.proofs.Common.{◌≡◌, ◌∙◌, ◌≤◌, ◌++◌, ℕ, suc, true, false, List, Option, Some, None, refl, ap₂, subst}
 use Rattle.std.proofs.Common.{arith, append_assoc}
 use Rattle.std.specs.Prelude.{nat_le}
 use Rattle.std.proofs.lemmas.Bool.{le-leb, lt-leb, leb-false}
 use Rattle.source_grammar.specs.Tokens as g
-use Rattle.source_grammar.specs.Tokens.{Op, Relation, Kind, Token, token, level, relation_level}
+use Rattle.source_grammar.specs.Tokens.{Name, Direction, Op, Relation, Kind, Token, token, level, relation_level}
 use Rattle.source_grammar.specs.View.{plain_kind}
+use Rattle.source_grammar.specs.Symbols.{nameless}
 use Rattle.source_grammar.specs.Grammar as tree
-use Rattle.source_grammar.specs.Grammar.{Expr, Arguments, spell_expr, Groups, GoodArguments}
+use Rattle.source_grammar.specs.Grammar.{Expr, Arguments, Subscripts, spell_expr, spell_subscripts, Groups, GoodArguments, GoodSubscripts}
 use Rattle.source_grammar.proofs.grammar.Follow.{AfterExpr}
 use Rattle.source_meaning.specs.Expressions.{first_of}
 use Rattle.source_reader.specs.Reading.{first_kind, first_place, behind_first}
@@ -64,6 +65,7 @@ sign_plain l _ = refl
 pub after_stops : (l : ℕ) (k : Kind) → AfterExpr k → goes_on l k ≡ false
 after_stops l g.semicolon h = refl
 after_stops l g.right_paren h = refl
+after_stops l g.right_brace h = refl
 after_stops l g.right_bracket h = refl
 after_stops l g.colon h = refl
 after_stops l g.comma h = refl
@@ -77,6 +79,7 @@ pub stops_more : (l m : ℕ) (k : Kind) → l ≤ m → goes_on l k ≡ false �
 stops_more l m (g.infix_sign o) h e = leb_more l m (level o) h e
 stops_more l m g.left_paren h e = e
 stops_more l m g.left_bracket h e = e
+stops_more l m (g.step_sign d) h e = e
 stops_more l m _ h e = refl
 
 -- the tightest goes on with no more than any other
@@ -84,6 +87,7 @@ pub stops_seven : (l : ℕ) (k : Kind) → goes_on l k ≡ false → goes_on 7 k
 stops_seven l (g.infix_sign o) e = let m = (level_between o).1 in lt-leb 7 (level o) (omega (arith, m))
 stops_seven l g.left_paren e = e
 stops_seven l g.left_bracket e = e
+stops_seven l (g.step_sign d) e = e
 stops_seven l _ e = refl
 
 -- with no sign that is none of its own
@@ -111,8 +115,10 @@ pub choice_or : (M : Expr → Type 0) (e : Expr) → Groups 0 e → (Groups 1 e 
     → ((c : Expr) (a : ℕ) (f : Expr) (b : ℕ) (h : Expr) → Groups 1 c → Groups 0 f → Groups 0 h → M (tree.chosen c a f b h)) → M e
 choice_or M (tree.number v a) q m n = m q
 choice_or M (tree.variable x a) q m n = m q
-choice_or M (tree.element x a b e c) q m n = m q
+choice_or M (tree.element x a is) q m n = m q
 choice_or M (tree.call x a b es c) q m n = m q
+choice_or M (tree.stepped_behind x a d b) q m n = m q
+choice_or M (tree.stepped_before d a x b) q m n = m q
 choice_or M (tree.free a b c) q m n = m q
 choice_or M (tree.grouped a e b) q m n = m q
 choice_or M (tree.prefixed p a e) q m n = m q
@@ -124,8 +130,10 @@ choice_or M (tree.chosen c a e b f) q m n = n c a e b f q.1 q.2 q.3
 abbrev pub opening_of : Expr → Opening
 opening_of (tree.number v a) = opening.Number
 opening_of (tree.variable x a) = opening.Variable
-opening_of (tree.element x a b e c) = opening.Element
+opening_of (tree.element x a is) = opening.Element
 opening_of (tree.call x a b es c) = opening.Call
+opening_of (tree.stepped_behind x a d b) = opening.SteppedBehind
+opening_of (tree.stepped_before d a x b) = opening.SteppedBefore
 opening_of (tree.free a b c) = opening.Unknown
 opening_of (tree.grouped a e b) = opening.Grouped
 opening_of (tree.prefixed g.negative a e) = opening.Prefixed Negative
@@ -134,19 +142,28 @@ opening_of (tree.prefixed g.negation a e) = opening.Prefixed Negation
 opening_of (tree.joined e o a f) = opening.Grouped
 opening_of (tree.chosen c a e b f) = opening.Grouped
 
-variable_opens : (k : Kind) → goes_on 7 k ≡ false → opening_in (g.a_name []) (plain_kind k) ≡ Some opening.Variable
-variable_opens g.left_paren h = cc
-variable_opens g.left_bracket h = cc
-variable_opens _ h = refl
+variable_opens : (x : Name) (k : Kind) → goes_on 7 k ≡ false → opening_in (g.a_name x) (plain_kind k) ≡ Some opening.Variable
+variable_opens x g.left_paren h = cc
+variable_opens x g.left_bracket h = cc
+variable_opens x (g.step_sign d) h = cc
+variable_opens x _ h = refl
+
+-- an element has a bracket behind its name
+element_opens : (x : Name) (is : Subscripts) (w : List Token)
+    → opening_in (g.a_name x) (plain_kind (first_kind (spell_subscripts is ++ w))) ≡ Some opening.Element
+element_opens x (tree.last_subscript a e b) w = refl
+element_opens x (tree.next_subscript a e b is) w = refl
 
 -- the first two tokens tell how an operand begins
 pub opens : (e : Expr) (w : List Token) → Groups 7 e → Stops 7 w
     → opening_in (plain_kind (first_kind (spell_expr e ++ w))) (plain_kind (first_kind (behind_first (spell_expr e ++ w))))
     ≡ Some (opening_of e)
 opens (tree.number v a) w h s = refl
-opens (tree.variable x a) w h s = variable_opens (first_kind w) s
-opens (tree.element x a b e c) w h s = refl
+opens (tree.variable x a) w h s = variable_opens nameless (first_kind w) s
+opens (tree.element x a is) w h s = element_opens nameless is w
 opens (tree.call x a b es c) w h s = refl
+opens (tree.stepped_behind x a d b) w h s = refl
+opens (tree.stepped_before d a x b) w h s = refl
 opens (tree.free a b c) w h s = refl
 opens (tree.grouped a e b) w h s = refl
 opens (tree.prefixed g.negative a e) w h s = refl
@@ -158,9 +175,11 @@ opens (tree.chosen c a e b f) w h s = absurd (omega (arith, h.0))
 -- what has to be shown of the operands that begin so
 abbrev pub Case : (Expr → Type 0) → Opening → Type 0
 Case M opening.Number = (v a : ℕ) → M (tree.number v a)
-Case M opening.Variable = (x : List ℕ) (a : ℕ) → M (tree.variable x a)
-Case M opening.Element = (x : List ℕ) (a b : ℕ) (e : Expr) (c : ℕ) → Groups 0 e → M (tree.element x a b e c)
-Case M opening.Call = (x : List ℕ) (a b : ℕ) (es : Arguments) (c : ℕ) → GoodArguments es → M (tree.call x a b es c)
+Case M opening.Variable = (x : Name) (a : ℕ) → M (tree.variable x a)
+Case M opening.Element = (x : Name) (a : ℕ) (is : Subscripts) → GoodSubscripts is → M (tree.element x a is)
+Case M opening.SteppedBehind = (x : Name) (a : ℕ) (d : Direction) (b : ℕ) → M (tree.stepped_behind x a d b)
+Case M opening.SteppedBefore = (d : Direction) (a : ℕ) (x : Name) (b : ℕ) → M (tree.stepped_before d a x b)
+Case M opening.Call = (x : Name) (a b : ℕ) (es : Arguments) (c : ℕ) → GoodArguments es → M (tree.call x a b es c)
 Case M opening.Unknown = (a b c : ℕ) → M (tree.free a b c)
 Case M opening.Grouped = (a : ℕ) (e : Expr) (b : ℕ) → Groups 0 e → M (tree.grouped a e b)
 Case M (opening.Prefixed p) = (a : ℕ) (e : Expr) → Groups 7 e → M (tree.prefixed (prefix_of p) a e)
@@ -168,8 +187,10 @@ Case M (opening.Prefixed p) = (a : ℕ) (e : Expr) → Groups 7 e → M (tree.pr
 case_of : (M : Expr → Type 0) (e : Expr) → Groups 7 e → Case M (opening_of e) → M e
 case_of M (tree.number v a) h m = m v a
 case_of M (tree.variable x a) h m = m x a
-case_of M (tree.element x a b e c) h m = m x a b e c h
+case_of M (tree.element x a is) h m = m x a is h
 case_of M (tree.call x a b es c) h m = m x a b es c h
+case_of M (tree.stepped_behind x a d b) h m = m x a d b
+case_of M (tree.stepped_before d a x b) h m = m d a x b
 case_of M (tree.free a b c) h m = m a b c
 case_of M (tree.grouped a e b) h m = m a e b h
 case_of M (tree.prefixed g.negative a e) h m = m a e h

@@ -1,5 +1,5 @@
 -- Whole expressions.
-use Rattle.std.proofs.Common.{◌≡◌, ◌∙◌, ◌≤◌, ◌++◌, ℕ, true, false, List, [], ◌∷◌, Result, Ok, Err, refl, sym, ap}
+use Rattle.std.proofs.Common.{◌≡◌, ◌∙◌, ◌≤◌, ◌++◌, ℕ, true, false, List, [], ◌∷◌, Some, Result, Ok, Err, refl, sym, ap}
 use Rattle.std.proofs.Common.{arith, append_assoc}
 use Rattle.std.specs.Result.{IsErrAnd}
 use Rattle.source_tree.specs.Expressions.{Expression}
@@ -13,14 +13,29 @@ use Rattle.source_meaning.specs.Expressions.{first_of, read}
 use Rattle.source_value.specs.declared.site.Site.{Site}
 use Rattle.source_value.specs.declared.value.Value.{Value}
 use Rattle.source_reader.specs.declared.stop.Stop.{Stop}
-use Rattle.source_reader.specs.Reading.{Reading, first_kind, first_place}
-use Rattle.source_expression.specs.Signs.{is_question}
+use Rattle.source_grammar.specs.View.{plain_kind}
+use Rattle.source_reader.specs.Reading.{Reading, behind_first, first_kind, first_place}
+use Rattle.source_expression.specs.declared.signs.Opening.{Opening}
+use Rattle.source_expression.specs.Signs.{is_question, opening_in}
 use Rattle.source_expression.specs.Sides.{IsRead}
 use Rattle.source_expression.specs.Readings.{Reads}
 use Rattle.source_expression.specs.Joins.{Join, spell_joins, Stops, chosen_with}
 use Rattle.source_expression.proofs.Answering.{handed, handed_then, ok_then, wanted_of}
+use Rattle.source_expression.proofs.Shapes.{Case, operand_by}
 use Rattle.source_expression.proofs.Shapes.{level_between, stops_seven, stops_looser, after_stops, first_place_of, choice_or}
 use Rattle.source_expression.proofs.Joined.{Split, split, Goes, goes_first}
+
+-- ---- operands
+-- an operand is read as those are that begin with its first two tokens
+pub operand_opens : (site : Site) (st : State) (h : ℕ) (old : Reading) (out : Result Value Stop) (after : Reading) (e : Expr)
+    (rest : List Token) (j k : Kind) (o : Opening) → Groups 7 e → Stops 7 rest → old.ahead ≡ spell_expr e ++ rest
+    → j ≡ plain_kind (first_kind old.ahead) → k ≡ plain_kind (first_kind (behind_first old.ahead)) → Some o ≡ opening_in j k
+    → Case (λ e. old.ahead ≡ spell_expr e ++ rest → Reads site h (read site.integers site.line st e h) rest out after) o
+    → Reads site h (read site.integers site.line st e h) rest out after
+operand_opens site st h old out after e rest j k o g s q a b r m =
+    let M : Expr → Type 0 = λ e. old.ahead ≡ spell_expr e ++ rest → Reads site h (read site.integers site.line st e h) rest out after in
+    operand_by M e rest j k o g s (a ∙ ap (λ ts. plain_kind (first_kind ts)) q) (b ∙ ap (λ ts. plain_kind (first_kind (behind_first ts))) q)
+    r m q
 
 -- ---- signs behind an operand
 module _ (site : Site) (st : State) (h least : ℕ) (e : Expr) (rest : List Token) (l : 1 ≤ least) (g : Groups least e)
@@ -65,6 +80,7 @@ module _ (site : Site) (st : State) (h least : ℕ) (e : Expr) (rest : List Toke
 asks_no_more : {A : Type 0} (k : Kind) → AfterExpr k → is_question k ≡ true → A
 asks_no_more g.semicolon a e = cc
 asks_no_more g.right_paren a e = cc
+asks_no_more g.right_brace a e = cc
 asks_no_more g.right_bracket a e = cc
 asks_no_more g.colon a e = cc
 asks_no_more g.comma a e = cc

@@ -2,3 +2,4 @@ pub mod Signs
 pub mod Sides
 pub mod Readings
 pub mod Joins
+pub mod Lists

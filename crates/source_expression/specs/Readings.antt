@@ -1,6 +1,6 @@
 -- What readings answer, and where the reader then is.
 use Rattle.std.specs.Prelude.{◌≡◌, ℕ, List, Result, Ok}
-use Rattle.source_tree.specs.Expressions.{Expression, Expressions}
+use Rattle.source_tree.specs.Expressions.{Expression, Expressions, Subscripts}
 use Rattle.source_grammar.specs.Tokens.{Token}
 use Rattle.source_meaning.specs.declared.fault.FunctionFault.{FunctionFault}
 use Rattle.source_value.specs.declared.site.Site.{Site}
@@ -10,7 +10,7 @@ use Rattle.source_value.specs.declared.value.Evaluated.{Evaluated}
 use Rattle.source_reader.specs.declared.stop.Stop.{Stop}
 use Rattle.source_reader.specs.Answers.{Answers}
 use Rattle.source_reader.specs.Reading.{Reading}
-use Rattle.source_expression.specs.Sides.{IsRead, IsTestedOf, IsEvaluatedOf}
+use Rattle.source_expression.specs.Sides.{IsRead, IsTestedOf, IsEvaluatedOf, IsIndexedOf}
 
 -- hidden variables are taken from h on, in the statement at this site
 module _ (site : Site) (h : ℕ) where
@@ -31,3 +31,8 @@ module _ (site : Site) (h : ℕ) where
   abbrev pub ReadsAll : (wanted : Result Expressions FunctionFault) → (rest : List Token) → Result Evaluated Stop → (after : Reading)
       → Type 0
   ReadsAll wanted rest result after = Answers (λ v xs. IsEvaluatedOf site h v xs × (after.ahead ≡ rest)) result wanted
+
+  -- likewise of indexes
+  abbrev pub ReadsIndexes : (wanted : Result Subscripts FunctionFault) → (rest : List Token) → Result Evaluated Stop → (after : Reading)
+      → Type 0
+  ReadsIndexes wanted rest result after = Answers (λ v ys. IsIndexedOf site h v ys × (after.ahead ≡ rest)) result wanted

@@ -1,7 +1,7 @@
 -- What values stand for that were read.
 use Rattle.std.specs.Prelude.{ℕ, Bool, true, false, Result, Ok}
-use Rattle.source_tree.specs.Expressions.{Expression, Expressions, both, either, compared, joined}
-use Rattle.source_core.specs.Elaborated.{elaborated, evaluated, numbered, tested}
+use Rattle.source_tree.specs.Expressions.{Expression, Expressions, Subscripts, both, either, compared, joined}
+use Rattle.source_core.specs.Elaborated.{elaborated, evaluated, indexed, numbered, tested}
 use Rattle.source_meaning.specs.declared.fault.FunctionFault.{FunctionFault}
 use Rattle.source_meaning.specs.Expressions.{ranged, side, behind_side}
 use Rattle.source_meaning.specs.Results.{◌>>=◌}
@@ -36,6 +36,10 @@ module _ (site : Site) (h : ℕ) where
   -- a prelude stands for expressions that are evaluated
   abbrev pub IsEvaluatedOf : Evaluated → Expressions → Type 0
   IsEvaluatedOf v xs = StandsEvaluated site.variables v (evaluated site.integers site.line xs h)
+
+  -- a prelude stands for indexes
+  abbrev pub IsIndexedOf : Evaluated → Subscripts → Type 0
+  IsIndexedOf v ys = StandsEvaluated site.variables v (indexed site.integers site.line ys h)
 
 -- a side of an operation stands for an expression, as a condition or as a number
 abbrev pub StandsSide : (integers : Integers) (n line : ℕ) → (condition : Bool) → (h : ℕ) → Side → Expression → Type 0

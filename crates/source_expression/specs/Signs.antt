@@ -45,12 +45,14 @@ abbrev pub goes_on : (least : ℕ) → Kind → Bool
 goes_on least (g.infix_sign o) = nat_le least (level o)
 goes_on least g.left_paren = true
 goes_on least g.left_bracket = true
+goes_on least (g.step_sign d) = true
 goes_on least k = false
 
 -- how an operand begins with a name and such a token
 abbrev pub named : Kind → Opening
 named g.left_bracket = opening.Element
 named g.left_paren = opening.Call
+named (g.step_sign d) = opening.SteppedBehind
 named k = opening.Variable
 
 -- how one begins with a sign that also stands between two sides
@@ -63,6 +65,7 @@ prefix_in _ = None
 abbrev pub opening_in : Kind → Kind → Option Opening
 opening_in (g.a_number n) k = Some opening.Number
 opening_in (g.a_name x) k = Some (named k)
+opening_in (g.step_sign d) k = Some opening.SteppedBefore
 opening_in g.nondet_word k = Some opening.Unknown
 opening_in g.left_paren k = Some opening.Grouped
 opening_in g.bang k = Some (opening.Prefixed Negation)
@@ -83,3 +86,18 @@ is_comma k = false
 abbrev pub is_closing : Kind → Bool
 is_closing g.right_paren = true
 is_closing k = false
+
+-- the token is a name
+abbrev pub is_name : Kind → Bool
+is_name (g.a_name x) = true
+is_name k = false
+
+-- the token is `{`
+abbrev pub is_brace : Kind → Bool
+is_brace g.left_brace = true
+is_brace k = false
+
+-- the token is `}`
+abbrev pub is_brace_end : Kind → Bool
+is_brace_end g.right_brace = true
+is_brace_end k = false

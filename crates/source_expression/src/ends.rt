@@ -1,35 +1,15 @@
-//! The ends of elements and calls, behind their indexes and arguments.
+//! The ends of calls, behind their arguments.
 
 ghost use Rattle.std.specs.Prelude.{◌≡◌, ◌∷◌, ℕ, List};
 ghost use Rattle.source_tree.specs.Expressions as tree;
-ghost use Rattle.source_tree.specs.Expressions.{Expression, Expressions};
-ghost use Rattle.source_grammar.specs.Tokens.{Token, token, right_bracket, right_paren};
-ghost use Rattle.source_meaning.specs.Expressions.{ranged};
+ghost use Rattle.source_tree.specs.Expressions.{Expressions};
+ghost use Rattle.source_grammar.specs.Tokens.{Token, token, right_paren};
 ghost use Rattle.source_reader.specs.Reading.{GoesOn};
-ghost use Rattle.source_expression.specs.Sides.{IsRead, IsEvaluatedOf};
-ghost use Rattle.source_expression.specs.Readings.{Reads, ReadsOk};
+ghost use Rattle.source_expression.specs.Sides.{IsEvaluatedOf};
+ghost use Rattle.source_expression.specs.Readings.{ReadsOk};
 
-use source_reader::{Mark, Reader, Stop, placed};
-use source_value::{Evaluated, Site, Value, element};
-
-/// An element of an array of so many, behind its index; `bracket` is the place of its first bracket.
-pub(crate) fn element_behind(
-    reader: &mut Reader<'_>,
-    site: Site,
-    size: u64,
-    bracket: u32,
-    index: Value,
-) -> Result<Value, Stop>
-    ensures reads { (x : Expression) (h at close : ℕ) (rest : List Token) → IsRead site h index x
-        → reader.old.ahead ≡ token right_bracket close ∷ rest
-        → Reads site h (ranged site.integers site.line bracket h (tree.element size bracket x at)) rest result reader.new }
-    ensures goes { GoesOn reader.old reader.new }
-{
-    let _close = reader.take(Mark::RightBracket)?;
-    let alloc = reader.alloc();
-    let index = index.into_number(alloc, site)?;
-    placed(element(alloc, site, size, bracket, index), bracket)
-}
+use source_reader::{Mark, Reader, Stop};
+use source_value::{Evaluated, Site, Value};
 
 /// A call, behind its arguments.
 pub(crate) fn call_behind(

@@ -4,10 +4,15 @@
 
 mod ends;
 mod expressions;
+mod filled;
 mod lists;
+mod names;
 mod operands;
 mod sides;
 mod signs;
+mod subscripts;
 
 pub use expressions::{condition, expression};
+pub use filled::values;
 pub use lists::arguments;
+pub use subscripts::element;

@@ -1,10 +1,10 @@
 //! Operands: what no sign between two sides splits.
 
 ghost use Rattle.std.specs.Prelude.{◌≡◌, ◌<◌, ◌∷◌, ◌++◌, ℕ, List, length};
-ghost use Rattle.source_grammar.specs.Tokens.{Token, token, a_name, a_number, nondet_word, sign_of};
-ghost use Rattle.source_grammar.specs.Tokens.{left_bracket, right_bracket, left_paren, right_paren};
+ghost use Rattle.source_grammar.specs.Tokens.{Name, Token, token, a_name, a_number, nondet_word, sign_of, left_paren, right_paren};
 ghost use Rattle.source_grammar.specs.Grammar as spelled;
-ghost use Rattle.source_grammar.specs.Grammar.{Expr, Arguments, Groups, GoodArguments, spell_arguments, spell_expr};
+ghost use Rattle.source_grammar.specs.Grammar.{Expr, Arguments, Subscripts, Groups, GoodArguments, GoodSubscripts};
+ghost use Rattle.source_grammar.specs.Grammar.{spell_arguments, spell_expr, spell_subscripts};
 ghost use Rattle.source_meaning.specs.Names.{State};
 ghost use Rattle.source_meaning.specs.Expressions.{read};
 ghost use Rattle.source_reader.specs.Reading.{GoesOn};
@@ -12,11 +12,13 @@ ghost use Rattle.source_expression.specs.Signs.{prefix_of};
 ghost use Rattle.source_expression.specs.Readings.{Reads};
 ghost use Rattle.source_expression.specs.Joins.{Stops};
 
-use crate::ends::{call_behind, element_behind};
+use crate::ends::call_behind;
 use crate::expressions::expression;
 use crate::lists::arguments;
+use crate::names::{named, stepped_before, stepped_behind};
 use crate::sides::signed;
 use crate::signs::{Opening, Prefix, opening_in};
+use crate::subscripts::element;
 use source_names::Known;
 use source_reader::{Mark, Reader, Stop, placed};
 use source_value::{Site, Value};
@@ -31,17 +33,6 @@ fn number(reader: &mut Reader<'_>, site: Site, next: u32) -> Result<Value, Stop>
     let value = Value::number(reader.alloc(), site, next, reader.number(), at);
     reader.skip();
     placed(value, at)
-}
-
-// A variable.
-fn variable(reader: &mut Reader<'_>, known: &Known, site: Site, next: u32) -> Result<Value, Stop>
-    ensures reads { (x : List ℕ) (a : ℕ) (rest : List Token) → reader.old.ahead ≡ token (a_name x) a ∷ rest
-        → Reads site next (read site.integers site.line known.now (spelled.variable x a) next) rest result reader.new }
-    ensures goes { GoesOn reader.old reader.new }
-{
-    let var = known.variable(reader.name(), reader.at())?;
-    reader.skip();
-    Ok(Value::variable(reader.alloc(), site, next, var)?)
 }
 
 // `nondet()`
@@ -59,28 +50,34 @@ fn unknown(reader: &mut Reader<'_>, site: Site, next: u32) -> Result<Value, Stop
 
 // An element of an array.
 #[cycle(expressions)]
-fn element(reader: &mut Reader<'_>, known: &Known, site: Site, next: u32) -> Result<Value, Stop>
-    ensures reads { (x : List ℕ) (a b c : ℕ) (e : Expr) (rest : List Token) → Groups 0 e
-        → reader.old.ahead ≡ token (a_name x) a ∷ token left_bracket b ∷ (spell_expr e ++ token right_bracket c ∷ rest)
-        → Reads site next (read site.integers site.line known.now (spelled.element x a b e c) next) rest result reader.new }
+fn named_element(
+    reader: &mut Reader<'_>,
+    known: &Known,
+    site: Site,
+    next: u32,
+) -> Result<Value, Stop>
+    ensures reads { (x : Name) (a : ℕ) (is : Subscripts) (rest : List Token) → GoodSubscripts is → Stops 7 rest
+        → reader.old.ahead ≡ token (a_name x) a ∷ (spell_subscripts is ++ rest)
+        → Reads site next (read site.integers site.line known.now (spelled.element x a is) next) rest result reader.new }
     ensures goes { GoesOn reader.old reader.new }
 {
-    let size = known.array(reader.name(), reader.at())?;
+    let name = reader.name();
+    let value = reader.constant();
+    let at = reader.at();
     reader.skip();
-    let bracket = reader.take(Mark::LeftBracket)?;
-    let index = expression(reader, known, site, next)?;
-    element_behind(reader, site, size, bracket, index)
+    let extents = known.array(name, value, at, reader.subscripts())?;
+    element(reader, known, site, next, extents)
 }
 
 // A call of a function.
 #[cycle(expressions)]
 fn call(reader: &mut Reader<'_>, known: &Known, site: Site, next: u32) -> Result<Value, Stop>
-    ensures reads { (x : List ℕ) (a b c : ℕ) (es : Arguments) (rest : List Token) → GoodArguments es
+    ensures reads { (x : Name) (a b c : ℕ) (es : Arguments) (rest : List Token) → GoodArguments es
         → reader.old.ahead ≡ token (a_name x) a ∷ token left_paren b ∷ (spell_arguments es ++ token right_paren c ∷ rest)
         → Reads site next (read site.integers site.line known.now (spelled.call x a b es c) next) rest result reader.new }
     ensures goes { GoesOn reader.old reader.new }
 {
-    known.called(reader.name(), reader.at())?;
+    known.called(reader.name(), reader.constant(), reader.at())?;
     reader.skip();
     let _open = reader.take(Mark::LeftParen)?;
     let given = arguments(reader, known, site, next)?;
@@ -137,8 +134,10 @@ pub(crate) fn operand(
 {
     match opening_in(reader.symbol(), reader.second()) {
         Some(Opening::Number) => number(reader, site, next),
-        Some(Opening::Variable) => variable(reader, known, site, next),
-        Some(Opening::Element) => element(reader, known, site, next),
+        Some(Opening::Variable) => named(reader, known, site, next),
+        Some(Opening::SteppedBehind) => stepped_behind(reader, known),
+        Some(Opening::SteppedBefore) => stepped_before(reader, known),
+        Some(Opening::Element) => named_element(reader, known, site, next),
         Some(Opening::Call) => call(reader, known, site, next),
         Some(Opening::Unknown) => unknown(reader, site, next),
         Some(Opening::Grouped) => grouped(reader, known, site, next),

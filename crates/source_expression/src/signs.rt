@@ -5,7 +5,8 @@ ghost use Rattle.std.specs.Option.{option_map};
 ghost use Rattle.source_grammar.specs.Tokens.{level, relation_level};
 ghost use Rattle.source_grammar.specs.Symbols.{op_of, relation_of, symbol_kind};
 ghost use Rattle.source_meaning.specs.Expressions.{rel_of};
-ghost use Rattle.source_expression.specs.Signs.{is_closing, is_comma, is_question, sign_in};
+ghost use Rattle.source_expression.specs.Lists.{ends_argument};
+ghost use Rattle.source_expression.specs.Signs.{is_brace, is_brace_end, is_closing, is_comma, is_name, is_question, sign_in};
 ghost use Rattle.source_expression.specs.Signs.{work_in, asks_conditions, opening_in, named, prefix_in};
 
 use lang_tree::Rel;
@@ -27,11 +28,16 @@ pub(crate) enum Prefix {
 #[derive(Clone, Copy)]
 pub(crate) enum Opening {
     Number,
+    /// A name alone.
     Variable,
     /// A name and `[`.
     Element,
     /// A name and `(`.
     Call,
+    /// A name and `++` or `--`.
+    SteppedBehind,
+    /// `++` or `--`, before a name.
+    SteppedBefore,
     /// `nondet`
     Unknown,
     /// `(`
@@ -78,6 +84,34 @@ pub(crate) fn is_closing(symbol: Symbol) -> bool
     matches!(symbol, Symbol::RightParen)
 }
 
+/// Whether a symbol may stand behind an argument.
+pub(crate) fn ends_argument(symbol: Symbol) -> bool
+    ensures { result ≡ ends_argument (symbol_kind symbol) }
+{
+    matches!(symbol, Symbol::Comma | Symbol::RightParen)
+}
+
+/// Whether a symbol is a name.
+pub(crate) fn is_name(symbol: Symbol) -> bool
+    ensures { result ≡ is_name (symbol_kind symbol) }
+{
+    matches!(symbol, Symbol::Name)
+}
+
+/// Whether a symbol is `{`.
+pub(crate) fn is_brace(symbol: Symbol) -> bool
+    ensures { result ≡ is_brace (symbol_kind symbol) }
+{
+    matches!(symbol, Symbol::LeftBrace)
+}
+
+/// Whether a symbol is `}`.
+pub(crate) fn is_brace_end(symbol: Symbol) -> bool
+    ensures { result ≡ is_brace_end (symbol_kind symbol) }
+{
+    matches!(symbol, Symbol::RightBrace)
+}
+
 // How an operand begins with a name and this token.
 fn named(second: Symbol) -> Opening
     ensures { result ≡ named (symbol_kind second) }
@@ -85,6 +119,7 @@ fn named(second: Symbol) -> Opening
     match second {
         Symbol::LeftBracket => Opening::Element,
         Symbol::LeftParen => Opening::Call,
+        Symbol::Step(_) => Opening::SteppedBehind,
         _ => Opening::Variable,
     }
 }
@@ -107,6 +142,7 @@ pub(crate) fn opening_in(first: Symbol, second: Symbol) -> Option<Opening>
     match first {
         Symbol::Number => Some(Opening::Number),
         Symbol::Name => Some(named(second)),
+        Symbol::Step(_) => Some(Opening::SteppedBefore),
         Symbol::Nondet => Some(Opening::Unknown),
         Symbol::LeftParen => Some(Opening::Grouped),
         Symbol::Bang => Some(Opening::Prefixed(Prefix::Negation)),

@@ -1,4 +1,4 @@
 pub mod Told
-pub mod Chosen
+pub mod Meant
 pub mod Fronts
 pub mod Found

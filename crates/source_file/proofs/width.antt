@@ -1,2 +1,5 @@
 pub mod Counts
 pub mod Functions
+pub mod Tokens
+pub mod Keys
+pub mod Steps

@@ -23,9 +23,7 @@ abbrev pub named_by : (text : List ℕ) → Item → Token → Option Defined
 named_by text item t = elim t.kind [
   | kind.Name ↦ Some (function_at text item t)
   | kind.Word word ↦ if_main word (function_at text item t)
-  | kind.Number n ↦ None
-  | kind.Sign sign ↦ None
-  | kind.End ↦ None
+  | _ ↦ None
 ]
 
 -- the function that an item is, if it is one

@@ -9,7 +9,9 @@ use Rattle.source_grammar.specs.Faults as grammar
 use Rattle.source_tree.specs.Statements.{Statements}
 use Rattle.source_meaning.specs.Laws.{AreApart}
 use Rattle.source_tokens.specs.Texts.{AreTokensIn}
-use Rattle.source_tokens.specs.View.{marks_of}
+use Rattle.source_tokens.specs.declared.definition.Definition.{Definition}
+use Rattle.source_tokens.specs.View.{marks_of, tokens_of}
+use Rattle.source_constants.specs.Directives.{code_of}
 use Rattle.source_file.specs.Functions.{functions_of}
 use Rattle.source_file.specs.Meaning.{Answer, Means, NamesAre, item_of}
 use Rattle.source_file.specs.declared.functions.Defined.{Defined}
@@ -33,8 +35,10 @@ OneList = (text : List ℕ) (ts : List Token) (one other : Result (List (List �
 
 -- a function's item never ends too early: it is a function, or has a token that doesn't fit
 abbrev pub ItemsAreWhole : Type 0
-ItemsAreWhole = (text : List ℕ) (ts : List Token) (items : List Item) (d : Defined) → file.Finds (file.divided items) (marks_of ts)
-    → Contains (functions_of text ts items) d → grammar.Finds grammar.short (item_of text ts d) → ⊥
+ItemsAreWhole = (text : List ℕ) (ts : List Token) (items : List Item) (d : Defined)
+    → file.Finds (file.divided items) (marks_of (code_of ts)) → (definitions : List Definition)
+    → Contains (functions_of text (code_of ts) items) d
+    → grammar.Finds grammar.short (tokens_of definitions text (item_of (code_of ts) d)) → ⊥
 
 -- the variables of a function that tokens of a text mean are names of the language, no two of which are one
 abbrev pub ProgramNamesAreNames : Type 0

@@ -1,9 +1,9 @@
--- How many variables a function declares, told by its tokens one by one.
-use Rattle.std.specs.Prelude.{ℕ, zero, suc, ◌+◌, Bool, true, false, List, [], ◌∷◌}
-use Rattle.source_grammar.specs.Tokens.{Kind, a_name, comma, semicolon, int_word, left_paren, right_paren, left_bracket, right_bracket}
-use Rattle.source_grammar.specs.Tokens.{Token, token}
+-- Which variables a function declares, told by its tokens one by one, and how many these are.
+use Rattle.std.specs.Prelude.{ℕ, zero, suc, ◌++◌, ◌&&◌, not, Bool, true, false, List, [], ◌∷◌, if◌then◌else◌}
+use Rattle.source_grammar.specs.Tokens.{times_op, Kind, a_name, infix_sign, comma, semicolon, int_word, const_word, left_paren, right_paren}
+use Rattle.source_grammar.specs.Tokens.{left_brace, right_brace, left_bracket, right_bracket, Token, token}
 use Rattle.source_file.specs.declared.width.Place.{Place}
-use Rattle.source_file.specs.declared.width.Place.TheVariants.{Heading, Elsewhere, Declaring, Named, Behind}
+use Rattle.source_file.specs.declared.width.Place.TheVariants.{Heading, Elsewhere, Declaring, Behind}
 
 -- behind a bracket that closes in so many others
 abbrev pub closed : ℕ → Place
@@ -19,8 +19,10 @@ parted (suc d) = Behind (suc d)
 abbrev pub behind : Kind → ℕ → Place
 behind left_paren d = Behind (suc d)
 behind left_bracket d = Behind (suc d)
+behind left_brace d = Behind (suc d)
 behind right_paren d = closed d
 behind right_bracket d = closed d
+behind right_brace d = closed d
 behind comma d = parted d
 behind semicolon d = Elsewhere
 behind k d = Behind d
@@ -35,10 +37,12 @@ abbrev pub elsewhere : Kind → Place
 elsewhere int_word = Declaring
 elsewhere k = Elsewhere
 
--- behind a token that stands before a declared name
+-- behind a token that stands before a declared name, which a `*` makes an array
 abbrev pub declaring : Kind → Place
 declaring int_word = Declaring
-declaring (a_name x) = Named
+declaring const_word = Declaring
+declaring (a_name x) = Behind 0
+declaring (infix_sign times_op) = Behind 0
 declaring k = Elsewhere
 
 -- behind a token at a place
@@ -46,36 +50,47 @@ abbrev pub next : Place → Kind → Place
 next Heading k = in_heading k
 next Elsewhere k = elsewhere k
 next Declaring k = declaring k
-next Named k = behind k 0
 next (Behind d) k = behind k d
 
--- a declared name is a variable where no `[` stands behind it
-abbrev pub is_bare : Kind → Bool
-is_bare left_bracket = false
-is_bare k = true
+-- a token is a name
+abbrev pub is_name : Kind → Bool
+is_name (a_name x) = true
+is_name k = false
 
--- the token tells that the name before it is a variable
-abbrev pub declares : Place → Kind → Bool
-declares Named k = is_bare k
-declares Heading k = false
-declares Elsewhere k = false
-declares Declaring k = false
-declares (Behind d) k = false
+-- the text of a name
+abbrev pub text_of : Kind → List ℕ
+text_of (a_name x) = x.text
+text_of k = []
 
--- 1 for a test that is true
-abbrev pub one_if : Bool → ℕ
-one_if true = 1
-one_if false = 0
+-- a token is a `[`
+abbrev pub is_bracket : Kind → Bool
+is_bracket left_bracket = true
+is_bracket k = false
 
--- how many variables these tokens tell of, the first of which stands at a place
-abbrev pub count : Place → List Token → ℕ
-count p [] = 0
-count p (token k a ∷ ts) = one_if (declares p k) + count (next p k) ts
+-- the first of these tokens is
+abbrev pub begins_bracket : List Token → Bool
+begins_bracket [] = false
+begins_bracket (token k a ∷ ts) = is_bracket k
+
+-- the token is a name that is declared there
+abbrev pub names : Place → Kind → Bool
+names Heading k = false
+names Elsewhere k = false
+names Declaring k = is_name k
+names (Behind d) k = false
+
+-- the variable that a token with these behind it declares: a declared name is one where no `[` stands behind it
+abbrev pub declared_by : Place → Kind → List Token → List (List ℕ)
+declared_by p k ts = if names p k && not (begins_bracket ts) then text_of k ∷ [] else []
+
+-- the variables that these tokens declare, the first of which stands at a place
+abbrev pub declared_from : Place → List Token → List (List ℕ)
+declared_from p [] = []
+declared_from p (token k a ∷ ts) = declared_by p k ts ++ declared_from (next p k) ts
 
 -- in how many brackets a place is
 abbrev pub depth_of : Place → ℕ
 depth_of Heading = 0
 depth_of Elsewhere = 0
 depth_of Declaring = 0
-depth_of Named = 0
 depth_of (Behind d) = d

@@ -3,6 +3,7 @@
 ghost use Rattle.std.specs.Prelude.{◌≡◌};
 ghost use Rattle.source_file.specs.declared.fault.SourceFault.TheVariants.{NoMemory};
 
+use lang_tokens::Foreign;
 use source_meaning::FunctionFault;
 use std::alloc::{AllocError, AllocFailed};
 
@@ -14,10 +15,14 @@ pub enum SourceFault {
     Unexpected { at: u32 },
     /// The first token that opens a construct in 64 others.
     Nesting { at: u32 },
-    /// A function with a body has the name of one before it.
+    /// A function with a body has the name of one before it, or a constant that of one before it.
     NameTwice { at: u32 },
     /// No function has the name that is asked about; or none is named, there is no `main`, and not one function alone.
     WhichFunction,
+    /// A token of the function that is asked about stands in no function of the language.
+    Foreign { at: u32, foreign: Foreign },
+    /// A word of the function that is asked about is a macro there.
+    Macro { at: u32 },
     /// A fault of the function that is asked about.
     Function(FunctionFault),
     /// There is no memory for the program.

@@ -1,91 +1,58 @@
 //! Which function of a file is asked about, and what it means.
 
-ghost use Rattle.std.specs.Prelude.{◌≡◌, ◌≤◌, ◌<◌, ◌++◌, ◌∷◌, [], ℕ, List, Option, Result, length, Err, IfOk, IfErr, map, slice_range};
+ghost use Rattle.std.specs.Prelude.{◌≡◌, ◌≤◌, ◌++◌, ◌∷◌, [], ℕ, List, Result, length, Err, IfOk, IfErr, map, slice_range};
 ghost use Rattle.std.specs.Option.{option_copied};
 ghost use Rattle.base_limits.specs.declared.limits.TheConstants.{MOST_TEXT_BYTES};
 ghost use Rattle.base_integers.specs.declared.integers.Integers.{Integers as Numbers};
 ghost use Rattle.lang_tokens.specs.declared.token.Token.{Token as Lexed};
 ghost use Rattle.lang_tokens.specs.Reading.{end_at};
 ghost use Rattle.lang_tokens.specs.TokenLists.{AreTokensOf};
-ghost use Rattle.source_items.specs.Divisions.{Finds, divided, unexpected};
 ghost use Rattle.source_grammar.specs.Faults.{Finds as Scanned, short, whole};
-ghost use Rattle.source_grammar.specs.View.{Are};
 ghost use Rattle.source_tokens.specs.Texts.{AreTokensIn};
-ghost use Rattle.source_tokens.specs.View.{marks_of, tokens_of};
-ghost use Rattle.source_file.specs.Meaning.{Answer, AreFunctions, FunctionMeans, IsChosen, Means, NamesAre, item_of, place_of};
+ghost use Rattle.source_tokens.specs.declared.definition.Definition.{Definition as Defines};
+ghost use Rattle.source_tokens.specs.View.{tokens_of};
+ghost use Rattle.source_constants.specs.Directives.{code_of};
+ghost use Rattle.source_file.specs.Meaning.{Answer, FunctionMeans, IsChosen, Means, NamesAre, item_of};
 ghost use Rattle.source_file.specs.Gives.{Gives, NamesGive, NamesTell, Tells};
 ghost use Rattle.source_file.specs.declared.fault.SourceFault.{SourceFault as FileFault};
-ghost use Rattle.source_file.specs.declared.fault.SourceFault.TheVariants.{NoMemory, Unexpected};
+ghost use Rattle.source_file.specs.declared.fault.SourceFault.TheVariants.{NoMemory};
 
-use crate::choice::{chosen, repeated};
+use crate::choice::chosen;
 use crate::fault::SourceFault;
 use crate::function::program;
-use crate::functions::{Defined, functions_of};
+use crate::functions::Defined;
+use crate::outline::{Outline, outline_of};
+use crate::outside::first_outside;
 use crate::width::width;
 use base_integers::Integers;
 use lang_tokens::Token;
 use lang_tree::{Names, Program};
-use source_grammar::{Piece, Syntax, examine};
-use source_items::{Division, Item, divide};
+use source_grammar::{Syntax, examine};
 use source_meaning::FunctionFault;
-use source_tokens::{marks_of, pieces_of};
+use source_tokens::{Definition, pieces_of};
 use std::alloc::{AllocError, Global};
 
-// The place of the token of this number, or the end of the text.
-fn place_of(text: &[u8], tokens: &[Token], index: usize) -> u32
-    requires { length text.now ≤ MOST_TEXT_BYTES }
-    ensures { result ≡ place_of text.now tokens.now index }
-{
-    match tokens.get(index) {
-        Some(token) => token.at,
-        None => text.len() as u32,
-    }
+/// The function of a file that is asked about: the file's tokens of code, what the file defines outside its functions, in the order of the
+/// text, and which of these tokens the function is (docs/MEANING.md, "Functions of C").
+#[derive(Drop)]
+pub struct Chosen {
+    pub code: Vec<Token>,
+    pub definitions: Vec<Definition>,
+    /// Its tokens are counted among those of `code`.
+    pub function: Defined,
 }
 
-// The items of a file.
-fn items(alloc: Global, text: &[u8], tokens: &[Token]) -> Result<Vec<Item>, SourceFault>
-    requires { length text.now ≤ MOST_TEXT_BYTES }
-    ensures found { IfOk result (λ items. Finds (divided items.items) (marks_of tokens.now)) }
-    ensures fault { IfErr result (λ e. (e ≡ NoMemory → ⊥)
-        → (index : ℕ) × Finds (unexpected index) (marks_of tokens.now) × (e ≡ Unexpected (place_of text.now tokens.now index))) }
-{
-    let marks = marks_of(alloc, tokens)?;
-    match divide(alloc, marks.as_slice())? {
-        Division::Divided(items) => Ok(items),
-        Division::Unexpected { index } => Err(SourceFault::Unexpected {
-            at: place_of(text, tokens, index),
-        }),
-    }
-}
-
-// The functions of a file, no two of which have one name.
-fn functions(alloc: Global, text: &[u8], tokens: &[Token]) -> Result<Vec<Defined>, SourceFault>
-    requires size { length text.now ≤ MOST_TEXT_BYTES }
-    requires tokens { AreTokensIn text.now tokens.now }
-    ensures found { IfOk result (λ functions. AreFunctions text.now tokens.now functions.items) }
-    ensures fault { IfErr result (λ e. (e ≡ NoMemory → ⊥) → NamesAre text.now tokens.now (Err e)) }
-    ensures whatever { IfErr result (λ e. (e ≡ NoMemory → ⊥) → (integers : Numbers) (asked : Option (List ℕ))
-        → Means integers text.now asked tokens.now (Err e)) }
-{
-    let items = items(alloc, text, tokens)?;
-    let functions = functions_of(alloc, text, tokens, items.as_slice())?;
-    match repeated(alloc, functions.as_slice())? {
-        Some(at) => Err(SourceFault::NameTwice { at }),
-        None => Ok(functions),
-    }
-}
-
-// The tokens of a function as the grammar sees them, where they keep to it.
-fn examined(alloc: Global, text: &[u8], tokens: &[Token]) -> Result<Vec<Piece>, SourceFault>
-    requires { Scanned short (tokens_of text.now tokens.now) → ⊥ }
-    ensures are { IfOk result (λ pieces. Are (tokens_of text.now tokens.now) pieces.items) }
-    ensures whole { IfOk result (λ _. Scanned whole (tokens_of text.now tokens.now)) }
-    ensures fault { IfErr result (λ e. (e ≡ NoMemory → ⊥) → (integers : Numbers)
-        → FunctionMeans integers text.now (tokens_of text.now tokens.now) (Err e)) }
+// Whether tokens of a function keep to the grammar, or the first fault.
+fn examined(alloc: Global, tokens: &[Token]) -> Result<(), SourceFault>
+    requires { (definitions : List Defines) (text : List ℕ) → Scanned short (tokens_of definitions text tokens.now) → ⊥ }
+    ensures whole { IfOk result (λ _. (definitions : List Defines) (text : List ℕ)
+        → Scanned whole (tokens_of definitions text tokens.now)) }
+    ensures fault { IfErr result (λ e. (e ≡ NoMemory → ⊥) → (integers : Numbers) (definitions : List Defines) (text : List ℕ)
+        → FunctionMeans integers text (tokens_of definitions text tokens.now) (Err e)) }
 {
     let pieces = pieces_of(alloc, tokens)?;
     match examine(alloc, pieces.as_slice())? {
-        Syntax::Whole => Ok(pieces),
+        Syntax::Whole => Ok(()),
         Syntax::Unexpected { at } => Err(SourceFault::Unexpected { at }),
         Syntax::Nested { at } => Err(SourceFault::Nesting { at }),
         // The brackets of a function are complete.
@@ -93,53 +60,35 @@ fn examined(alloc: Global, text: &[u8], tokens: &[Token]) -> Result<Vec<Piece>, 
     }
 }
 
-// A function as a program, by these integers.
+// A function as a program by these integers, where the file defines these.
 fn analysed(
     alloc: Global,
     text: &[u8],
     tokens: &[Token],
+    definitions: &[Definition],
     integers: Integers,
 ) -> Result<Program, SourceFault>
     requires tokens { AreTokensIn text.now tokens.now }
-    requires whole { Scanned short (tokens_of text.now tokens.now) → ⊥ }
+    requires whole { (definitions : List Defines) (text : List ℕ) → Scanned short (tokens_of definitions text tokens.now) → ⊥ }
     requires size { length text.now ≤ MOST_TEXT_BYTES }
-    ensures { Tells integers result (FunctionMeans integers text.now (tokens_of text.now tokens.now)) }
+    ensures { Tells integers result (FunctionMeans integers text.now (tokens_of definitions.now text.now tokens.now)) }
 {
-    let pieces = examined(alloc, text, tokens)?;
-    let variables = width(pieces.as_slice());
-    match program(alloc, text, tokens, variables, integers) {
+    examined(alloc, tokens)?;
+    let variables = width(alloc, text, tokens)?;
+    match program(alloc, text, tokens, definitions, variables, integers) {
         Ok(program) => Ok(program),
         Err(FunctionFault::NoMemory) => Err(SourceFault::NoMemory),
         Err(fault) => Err(SourceFault::Function(fault)),
     }
 }
 
-// The tokens of a function.
-fn item_of<'a>(tokens: &'a [Token], function: &Defined) -> &'a [Token]
+// The tokens of a function, of those of code.
+fn item_of<'a>(code: &'a [Token], function: &Defined) -> &'a [Token]
     requires order { function.now.first ≤ function.now.end }
-    requires within { function.now.end ≤ length tokens.now }
-    ensures { result.now ≡ slice_range tokens.now function.now.first function.now.end }
+    requires within { function.now.end ≤ length code.now }
+    ensures { result.now ≡ slice_range code.now function.now.first function.now.end }
 {
-    &tokens[function.first..function.end]
-}
-
-// The function that is meant, as a program by these integers; the tokens are those of the text without its end.
-fn read_in(
-    alloc: Global,
-    text: &[u8],
-    tokens: &[Token],
-    asked: Option<&[u8]>,
-    integers: Integers,
-) -> Result<Program, SourceFault>
-    requires size { length text.now ≤ MOST_TEXT_BYTES }
-    requires tokens { AreTokensIn text.now tokens.now }
-    ensures { Tells integers result (Means integers text.now (option_copied asked.entry) tokens.now) }
-{
-    let functions = functions(alloc, text, tokens)?;
-    match chosen(asked, functions.as_slice()) {
-        Some(function) => analysed(alloc, text, item_of(tokens, function), integers),
-        None => Err(SourceFault::WhichFunction),
-    }
+    &code[function.first..function.end]
 }
 
 // The same function again.
@@ -155,23 +104,56 @@ fn again(function: &Defined) -> Defined
 }
 
 // The function that is meant; the tokens are those of the text without its end.
-fn defined_in(
+fn chosen_in(
     alloc: Global,
     text: &[u8],
     tokens: &[Token],
     asked: Option<&[u8]>,
-) -> Result<Defined, SourceFault>
+    integers: Integers,
+) -> Result<Chosen, SourceFault>
     requires size { length text.now ≤ MOST_TEXT_BYTES }
     requires tokens { AreTokensIn text.now tokens.now }
-    ensures found { IfOk result (λ d. IsChosen text.now (option_copied asked.entry) tokens.now d) }
-    ensures fault { IfErr result (λ e. (e ≡ NoMemory → ⊥) → (integers : Numbers)
-        → Means integers text.now (option_copied asked.entry) tokens.now (Err e)) }
+    ensures code { IfOk result (λ c. c.code.items ≡ code_of tokens.now) }
+    ensures found { IfOk result (λ c. IsChosen integers text.now (option_copied asked.entry) tokens.now c.definitions.items c.function) }
+    ensures fault { IfErr result (λ e. (e ≡ NoMemory → ⊥) → Means integers text.now (option_copied asked.entry) tokens.now (Err e)) }
 {
-    let all = functions(alloc, text, tokens)?;
-    match chosen(asked, all.as_slice()) {
-        Some(function) => Ok(again(function)),
-        None => Err(SourceFault::WhichFunction),
+    let Outline {
+        code,
+        definitions,
+        functions,
+    } = outline_of(alloc, text, tokens, integers)?;
+    let Some(function) = chosen(asked, functions.as_slice()) else {
+        return Err(SourceFault::WhichFunction);
+    };
+    match first_outside(
+        definitions.as_slice(),
+        text,
+        item_of(code.as_slice(), function),
+    ) {
+        Some(fault) => Err(fault),
+        None => Ok(Chosen {
+            code,
+            definitions,
+            function: again(function),
+        }),
     }
+}
+
+// The function that is meant, as a program by these integers; the tokens are those of the text without its end.
+fn read_in(
+    alloc: Global,
+    text: &[u8],
+    tokens: &[Token],
+    asked: Option<&[u8]>,
+    integers: Integers,
+) -> Result<Program, SourceFault>
+    requires size { length text.now ≤ MOST_TEXT_BYTES }
+    requires tokens { AreTokensIn text.now tokens.now }
+    ensures { Tells integers result (Means integers text.now (option_copied asked.entry) tokens.now) }
+{
+    let chosen = chosen_in(alloc, text, tokens, asked, integers)?;
+    let item = item_of(chosen.code.as_slice(), &chosen.function);
+    analysed(alloc, text, item, chosen.definitions.as_slice(), integers)
 }
 
 // The names of functions.
@@ -191,12 +173,12 @@ fn names_in(alloc: Global, text: &[u8], tokens: &[Token]) -> Result<Names, Sourc
     requires tokens { AreTokensIn text.now tokens.now }
     ensures { NamesTell result (NamesAre text.now tokens.now) }
 {
-    let functions = functions(alloc, text, tokens)?;
-    Ok(names_of(alloc, functions.as_slice())?)
+    let file = outline_of(alloc, text, tokens, Integers::Mathematical)?;
+    Ok(names_of(alloc, file.functions.as_slice())?)
 }
 
 /// The function that is asked about, or the one that is meant where none is named, as a program that computes by these integers: or the
-/// first fault of the file (docs/FORMATS.md, "Files" and "The order of faults").
+/// first fault of the file (docs/FORMATS.md, "Files" and "The order of faults"). The tokens are all those of C.
 pub fn read(
     alloc: Global,
     tokens: &[Token],
@@ -216,8 +198,8 @@ pub fn read(
     read_in(alloc, text, &tokens[..tokens.len() - 1], asked, integers)
 }
 
-/// The names of the functions of a file that may be asked about, in order: or the first fault of its brackets and these names
-/// (docs/FORMATS.md, "Files" and "The order of faults").
+/// The names of the functions of a file that may be asked about, in order: or the first fault of its brackets, of these names and of its
+/// constants (docs/FORMATS.md, "Files" and "The order of faults"). The tokens are all those of C.
 pub fn names(alloc: Global, tokens: &[Token], text: &[u8]) -> Result<Names, SourceFault>
     requires size { length text.now ≤ MOST_TEXT_BYTES }
     requires tokens { AreTokensOf text.now tokens.now }
@@ -231,28 +213,33 @@ pub fn names(alloc: Global, tokens: &[Token], text: &[u8]) -> Result<Names, Sour
     names_in(alloc, text, &tokens[..tokens.len() - 1])
 }
 
-/// Which function of a file is asked about, or is meant where none is named: its name, and which tokens it is. Or the first fault of the
-/// file's brackets and of the names of its functions, or that no function is meant (docs/FORMATS.md, "The order of faults").
+/// Which function of a file is asked about, or is meant where none is named, with what the file defines by these integers. Or the first
+/// fault of the file's brackets, of the names of its functions and of its constants, that no function is meant, or that a token of it may
+/// stand in none (docs/FORMATS.md, "The order of faults"). The tokens are all those of C.
 pub fn defined(
     alloc: Global,
     tokens: &[Token],
     text: &[u8],
     asked: Option<&[u8]>,
-) -> Result<Defined, SourceFault>
+    integers: Integers,
+) -> Result<Chosen, SourceFault>
     requires size { length text.now ≤ MOST_TEXT_BYTES }
     requires tokens { AreTokensOf text.now tokens.now }
-    ensures order { IfOk result (λ d. d.first ≤ d.end) }
-    ensures within { IfOk result (λ d. d.end < length tokens.now) }
-    // It is the one that is asked about.
-    ensures found { IfOk result (λ d. (front : List Lexed) → front ++ end_at (length text.now) ∷ [] ≡ tokens.now
-        → IsChosen text.now (option_copied asked.entry) front d) }
+    ensures order { IfOk result (λ c. c.function.first ≤ c.function.end) }
+    ensures within { IfOk result (λ c. c.function.end ≤ length c.code.items) }
+    // The file's tokens of code are these.
+    ensures code { IfOk result (λ c. (front : List Lexed) → front ++ end_at (length text.now) ∷ [] ≡ tokens.now
+        → c.code.items ≡ code_of front) }
+    // The function is the one that is asked about.
+    ensures found { IfOk result (λ c. (front : List Lexed) → front ++ end_at (length text.now) ∷ [] ≡ tokens.now
+        → IsChosen integers text.now (option_copied asked.entry) front c.definitions.items c.function) }
     // What the file means is what its tokens do.
-    ensures means { IfOk result (λ d. (front : List Lexed) → front ++ end_at (length text.now) ∷ [] ≡ tokens.now
-        → (integers : Numbers) (wanted : Answer) → Means integers text.now (option_copied asked.entry) front wanted
-        → FunctionMeans integers text.now (item_of text.now front d) wanted) }
+    ensures means { IfOk result (λ c. (front : List Lexed) → front ++ end_at (length text.now) ∷ [] ≡ tokens.now
+        → (wanted : Answer) → Means integers text.now (option_copied asked.entry) front wanted
+        → FunctionMeans integers text.now (tokens_of c.definitions.items text.now (item_of c.code.items c.function)) wanted) }
     // A fault is that of the file.
     ensures fault { IfErr result (λ e. (e ≡ NoMemory → ⊥) → (front : List Lexed) → front ++ end_at (length text.now) ∷ [] ≡ tokens.now
-        → (integers : Numbers) → Means integers text.now (option_copied asked.entry) front (Err e)) }
+        → Means integers text.now (option_copied asked.entry) front (Err e)) }
 {
-    defined_in(alloc, text, &tokens[..tokens.len() - 1], asked)
+    chosen_in(alloc, text, &tokens[..tokens.len() - 1], asked, integers)
 }

@@ -15,23 +15,25 @@ use lang_tree::Program;
 use source_meaning::FunctionFault;
 use source_reader::Stop;
 use source_statement::function;
+use source_tokens::Definition;
 use std::alloc::Global;
 
-/// What the tokens of a function mean by these integers, as a program, or its first fault.
+/// What the tokens of a function mean by these integers where the file defines these, as a program, or its first fault.
 pub(crate) fn program(
     alloc: Global,
     text: &[u8],
     tokens: &[Token],
+    definitions: &[Definition],
     variables: u32,
     integers: Integers,
 ) -> Result<Program, FunctionFault>
     requires size { length text.now ≤ MOST_TEXT_BYTES }
     requires tokens { AreTokensIn text.now tokens.now }
-    requires read { (f : Function) × Reads (tokens_of text.now tokens.now) f × (variables ≡ width_of f) }
-    ensures { (f : Function) → Reads (tokens_of text.now tokens.now) f → variables ≡ width_of f
+    requires read { (f : Function) × Reads (tokens_of definitions.now text.now tokens.now) f × (variables ≡ width_of f) }
+    ensures { (f : Function) → Reads (tokens_of definitions.now text.now tokens.now) f → variables ≡ width_of f
         → FunctionGives integers result (walk integers (line_at text.now) f) }
 {
-    match function(alloc, text, tokens, variables, integers) {
+    match function(alloc, text, tokens, definitions, variables, integers) {
         Ok(program) => Ok(program),
         Err(Stop::Fault(fault)) => Err(fault),
         // Tokens that are a function are never unlike one.

@@ -2,6 +2,8 @@
 
 ghost use Rattle.source_file.specs.Laws.{ItemsAreWhole, OneList, OneMeaning, ProgramNamesAreNames, SomeMeaning};
 
+use source_meaning::names_are_resolved;
+
 /// Tokens mean one thing, whatever is asked, and their functions are one list at most (docs/MEANING.md, "Functions of C").
 pub fn one_meaning()
     ensures some { SomeMeaning }
@@ -18,4 +20,6 @@ pub fn items_are_whole()
 /// and "Names and kinds").
 pub fn program_names_are_names()
     ensures { ProgramNamesAreNames }
-{}
+{
+    names_are_resolved()
+}

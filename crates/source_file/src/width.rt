@@ -1,15 +1,21 @@
 //! How many variables a function declares.
 
-ghost use Rattle.std.specs.Prelude.{◌≡◌, ◌≤◌, ◌<◌, ◌+◌, ◌^◌, ℕ, List, map};
-ghost use Rattle.source_grammar.specs.Tokens.{Token};
+ghost use Rattle.std.specs.Prelude.{◌≡◌, ◌≤◌, ◌<◌, ◌+◌, ◌^◌, [], ℕ, List, IfOk};
 ghost use Rattle.source_grammar.specs.Grammar.{Function, Reads};
 ghost use Rattle.source_grammar.specs.Symbols.{symbol_kind};
-ghost use Rattle.source_grammar.specs.View.{token_of, Are};
-ghost use Rattle.source_meaning.specs.Walk.{width_of};
-ghost use Rattle.source_file.specs.Width.{closed, parted, behind, in_heading, elsewhere, declaring, next, declares, count, depth_of};
+ghost use Rattle.source_meaning.specs.Walk.{distinct, width_of};
+ghost use Rattle.source_tokens.specs.Texts.{AreTokensIn};
+ghost use Rattle.source_tokens.specs.declared.definition.Definition.{Definition};
+ghost use Rattle.source_tokens.specs.View.{tokens_of};
+ghost use Rattle.source_file.specs.Width.{begins_bracket, behind, closed, declared_from, declaring, depth_of, elsewhere, in_heading, names};
+ghost use Rattle.source_file.specs.Width.{next, parted};
 
+use indexmap::IndexSet;
+use lang_tokens::{Kind, Sign, Token};
 use lang_tree::MOST_VARIABLES;
-use source_grammar::{Piece, Symbol};
+use source_grammar::{Op, Symbol};
+use source_tokens::{bytes_of, symbol_of};
+use std::alloc::{AllocError, Global};
 
 /// Where a token of a function stands.
 #[derive(Clone, Copy)]
@@ -20,9 +26,7 @@ pub(crate) enum Place {
     Elsewhere,
     /// Before a name that is declared.
     Declaring,
-    /// Behind that name.
-    Named,
-    /// Further behind it, in so many brackets.
+    /// Behind that name, in so many brackets.
     Behind(usize),
 }
 
@@ -57,8 +61,8 @@ fn behind(symbol: Symbol, depth: usize) -> Place
     ensures depth { depth_of result ≤ depth + 1 }
 {
     match symbol {
-        Symbol::LeftParen | Symbol::LeftBracket => Place::Behind(depth + 1),
-        Symbol::RightParen | Symbol::RightBracket => closed(depth),
+        Symbol::LeftParen | Symbol::LeftBracket | Symbol::LeftBrace => Place::Behind(depth + 1),
+        Symbol::RightParen | Symbol::RightBracket | Symbol::RightBrace => closed(depth),
         Symbol::Comma => parted(depth),
         Symbol::Semicolon => Place::Elsewhere,
         _ => Place::Behind(depth),
@@ -87,14 +91,14 @@ fn elsewhere(symbol: Symbol) -> Place
     }
 }
 
-// Behind a token that stands before a declared name.
+// Behind a token that stands before a declared name, which a `*` makes an array.
 fn declaring(symbol: Symbol) -> Place
     ensures place { result ≡ declaring (symbol_kind symbol) }
     ensures depth { depth_of result ≡ 0 }
 {
     match symbol {
-        Symbol::Int => Place::Declaring,
-        Symbol::Name => Place::Named,
+        Symbol::Int | Symbol::Const => Place::Declaring,
+        Symbol::Name | Symbol::Infix(Op::Times) => Place::Behind(0),
         _ => Place::Elsewhere,
     }
 }
@@ -109,39 +113,50 @@ fn next(place: Place, symbol: Symbol) -> Place
         Place::Heading => in_heading(symbol),
         Place::Elsewhere => elsewhere(symbol),
         Place::Declaring => declaring(symbol),
-        Place::Named => behind(symbol, 0),
         Place::Behind(depth) => behind(symbol, depth),
     }
 }
 
-// Whether the token tells that the name before it is a variable.
-fn declares(place: Place, symbol: Symbol) -> bool
-    ensures { result ≡ declares place (symbol_kind symbol) }
+// Whether the token is a name that is declared there.
+fn names(place: Place, symbol: Symbol) -> bool
+    ensures { result ≡ names place (symbol_kind symbol) }
 {
-    match (place, symbol) {
-        (Place::Named, Symbol::LeftBracket) => false,
-        (Place::Named, _) => true,
-        _ => false,
+    matches!((place, symbol), (Place::Declaring, Symbol::Name))
+}
+
+// Whether the first of these tokens is a `[`.
+fn begins_bracket(tokens: &[Token]) -> bool
+    ensures { (text : List ℕ) → result ≡ begins_bracket (tokens_of [] text tokens.now) }
+{
+    match tokens {
+        [token, ..] => matches!(token.kind, Kind::Sign(Sign::LeftBracket)),
+        [] => false,
     }
 }
 
-fn counted(pieces: &[Piece]) -> usize
-    ensures { result ≡ count Place.Heading (map token_of pieces.now) }
+// How many variables these tokens declare, each name counted once.
+fn counted(alloc: Global, text: &[u8], tokens: &[Token]) -> Result<usize, AllocError>
+    requires { AreTokensIn text.now tokens.now }
+    ensures { IfOk result (λ n. n ≡ distinct [] (declared_from Place.Heading (tokens_of [] text.now tokens.now))) }
 {
     let mut place = Place::Heading;
-    let mut count = 0;
-    for piece in pieces {
-        if declares(place, piece.symbol) {
-            count += 1;
+    let mut before = IndexSet::new(alloc);
+    for (index, token) in tokens.iter().enumerate() {
+        let symbol = symbol_of(token);
+        if names(place, symbol) && !begins_bracket(&tokens[index + 1..]) {
+            before.insert(Vec::from_slice(alloc, bytes_of(text, token))?)?;
         }
-        place = next(place, piece.symbol);
+        place = next(place, symbol);
     }
-    count
+    Ok(before.len())
 }
 
 /// How many variables a function declares, at most `MOST_VARIABLES`: the hidden ones are numbered from there on.
-pub(crate) fn width(pieces: &[Piece]) -> u32
-    ensures { (tokens : List Token) (f : Function) → Are tokens pieces.now → Reads tokens f → result ≡ width_of f }
+pub(crate) fn width(alloc: Global, text: &[u8], tokens: &[Token]) -> Result<u32, AllocError>
+    requires { AreTokensIn text.now tokens.now }
+    ensures { IfOk result (λ n. (definitions : List Definition) (f : Function) → Reads (tokens_of definitions text.now tokens.now) f
+        → n ≡ width_of f) }
 {
-    counted(pieces).min(MOST_VARIABLES) as u32
+    let count = counted(alloc, text, tokens)?;
+    Ok(count.min(MOST_VARIABLES) as u32)
 }

@@ -1,8 +1,11 @@
 pub mod Follow
+pub mod TakenPieces
 pub mod Taken
 pub mod Links
 pub mod Flat
 pub mod Sound
 pub mod Unique
 pub mod OncePieces
+pub mod OnceDeclared
+pub mod OnceHead
 pub mod Once

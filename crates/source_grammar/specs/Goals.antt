@@ -22,6 +22,7 @@ abbrev pub mark_of : code_mark.Mark → Mark
 mark_of code_mark.TheVariants.LeftParen = m.opening
 mark_of code_mark.TheVariants.RightParen = m.closing
 mark_of code_mark.TheVariants.LeftBrace = m.brace_opening
+mark_of code_mark.TheVariants.RightBrace = m.brace_closing
 mark_of code_mark.TheVariants.RightBracket = m.bracket_closing
 mark_of code_mark.TheVariants.Colon = m.colon_mark
 mark_of code_mark.TheVariants.Semicolon = m.statement_end
@@ -43,6 +44,10 @@ goal_of (code_goal.TheVariants.MaybeChanges d) = m.maybe_changes d
 goal_of (code_goal.TheVariants.Declaring d) = m.declaring d
 goal_of (code_goal.TheVariants.Initialising d) = m.initialising d
 goal_of (code_goal.TheVariants.MoreDeclarators d) = m.more_declarators d
+goal_of (code_goal.TheVariants.Sizing d) = m.sizing d
+goal_of (code_goal.TheVariants.Filling d) = m.filling d
+goal_of (code_goal.TheVariants.MaybeValues d) = m.maybe_values d
+goal_of (code_goal.TheVariants.MoreValues d) = m.more_values d
 goal_of (code_goal.TheVariants.Statement p d) = m.statement (site_of p) d
 goal_of (code_goal.TheVariants.AfterName p d) = m.after_name (site_of p) d
 goal_of (code_goal.TheVariants.MaybeElse d) = m.maybe_else d
@@ -55,8 +60,13 @@ goal_of code_goal.TheVariants.Specifiers = m.specifiers
 goal_of code_goal.TheVariants.FunctionName = m.function_name
 goal_of code_goal.TheVariants.Parameters = m.parameters
 goal_of code_goal.TheVariants.MoreParameters = m.more_parameters
+goal_of code_goal.TheVariants.SomeType = m.some_type
+goal_of code_goal.TheVariants.ParameterName = m.parameter_name
+goal_of code_goal.TheVariants.Bounding = m.bounding
+goal_of code_goal.TheVariants.MoreSizes = m.more_sizes
 goal_of code_goal.TheVariants.SomeName = m.some_name
-goal_of code_goal.TheVariants.SomeNumber = m.some_number
+goal_of code_goal.TheVariants.SomeSize = m.some_size
+goal_of code_goal.TheVariants.MaybeSize = m.maybe_size
 goal_of (code_goal.TheVariants.Only k) = m.only (mark_of k)
 
 -- what an entry of the code stands for
@@ -67,6 +77,8 @@ entry_of (code_entry.TheVariants.Two a b) = takes (goal_of a ∷ goal_of b ∷ [
 entry_of (code_entry.TheVariants.Three a b c) = takes (goal_of a ∷ goal_of b ∷ goal_of c ∷ [])
 entry_of (code_entry.TheVariants.Four a b c d) = takes (goal_of a ∷ goal_of b ∷ goal_of c ∷ goal_of d ∷ [])
 entry_of (code_entry.TheVariants.Five a b c d e) = takes (goal_of a ∷ goal_of b ∷ goal_of c ∷ goal_of d ∷ goal_of e ∷ [])
+entry_of (code_entry.TheVariants.Six a b c d e f) =
+    takes (goal_of a ∷ goal_of b ∷ goal_of c ∷ goal_of d ∷ goal_of e ∷ goal_of f ∷ [])
 entry_of code_entry.TheVariants.Skips = skips
 entry_of code_entry.TheVariants.Stops = stops
 entry_of code_entry.TheVariants.Deep = stops

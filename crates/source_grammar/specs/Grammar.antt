@@ -1,209 +1,118 @@
--- One function of a C file: trees, how each is spelled, and which trees the rules on grouping allow.
-use Rattle.std.specs.Prelude.{◌≡◌, ◌≤◌, ◌++◌, ℕ, suc, List, [], ◌∷◌}
-use Rattle.source_grammar.specs.Tokens.{Op, Prefix, Change, replaces, Direction, Jump, Demand, a_name, a_number, infix_sign, question}
-use Rattle.source_grammar.specs.Tokens.{colon, left_paren, right_paren, left_brace, right_brace, left_bracket, right_bracket, comma}
-use Rattle.source_grammar.specs.Tokens.{semicolon, change_sign, step_sign, int_word, void_word, main_word, storage_word, if_word}
-use Rattle.source_grammar.specs.Tokens.{else_word, while_word, do_word, for_word, jump_word, return_word, demand_word, nondet_word, Token}
-use Rattle.source_grammar.specs.Tokens.{token, sign_of, level}
+-- One function of a C file: trees, how each is spelled, and which trees the rules on grouping allow. Those of expressions and changes are
+-- in `Expressions.antt`, and named from here too.
+use Rattle.std.specs.Prelude.{◌≡◌, ◌++◌, ℕ, List, [], ◌∷◌}
+use Rattle.source_grammar.specs.Tokens.{times_op, replaces, Jump, Demand, Name, a_name, a_number, infix_sign, colon, left_paren}
+use Rattle.source_grammar.specs.Tokens.{right_paren, left_brace, right_brace, left_bracket, right_bracket, comma, semicolon, change_sign}
+use Rattle.source_grammar.specs.Tokens.{int_word, void_word, main_word, storage_word, const_word, if_word, else_word, while_word, do_word}
+use Rattle.source_grammar.specs.Tokens.{for_word, jump_word, return_word, demand_word, Token, token}
+pub use Rattle.source_grammar.specs.Expressions.{Expr, number, variable, element, call, stepped_behind, stepped_before, free, grouped}
+pub use Rattle.source_grammar.specs.Expressions.{prefixed, joined, chosen, Arguments, no_arguments, arguments, MoreArguments, last_argument}
+pub use Rattle.source_grammar.specs.Expressions.{next_argument, Subscripts, last_subscript, next_subscript, spell_expr, spell_arguments}
+pub use Rattle.source_grammar.specs.Expressions.{spell_more_arguments, spell_subscripts, Groups, GoodArguments, GoodMoreArguments}
+pub use Rattle.source_grammar.specs.Expressions.{GoodSubscripts, Optional, absent, present, spell_optional, GoodOptional, Index, no_index}
+pub use Rattle.source_grammar.specs.Expressions.{index, spell_index, GoodIndex, Place, place, spell_place, GoodPlace, Effect, assigns}
+pub use Rattle.source_grammar.specs.Expressions.{steps, spell_effect, GoodEffect, Update, update, step_before, spell_update, GoodUpdate}
+pub use Rattle.source_grammar.specs.Expressions.{MoreUpdates, last_update, next_update, spell_more_updates, GoodMoreUpdates, Updates}
+pub use Rattle.source_grammar.specs.Expressions.{no_updates, some_updates, spell_updates, GoodUpdates}
 
--- An expression. Here and below each ℕ that isn't a number's value is the place of a token, in the order of the text.
-mutual
-  -- an expression
-  pub data Expr : Type 0 where
-    number : ℕ → ℕ → Expr
-    variable : List ℕ → ℕ → Expr
-    -- `x[e]`
-    element : List ℕ → ℕ → ℕ → Expr → ℕ → Expr
-    -- `f(..)`
-    call : List ℕ → ℕ → ℕ → Arguments → ℕ → Expr
-    -- `nondet()`
-    free : ℕ → ℕ → ℕ → Expr
-    grouped : ℕ → Expr → ℕ → Expr
-    prefixed : Prefix → ℕ → Expr → Expr
-    joined : Expr → Op → ℕ → Expr → Expr
-    -- `c ? e : f`
-    chosen : Expr → ℕ → Expr → ℕ → Expr → Expr
+-- how many elements an array has: a number, or the name of a constant
+pub data Size : Type 0 where
+  number_size : ℕ → ℕ → Size
+  name_size : Name → ℕ → Size
 
-  -- what stands between the parentheses of a call
-  pub data Arguments : Type 0 where
-    no_arguments : Arguments
-    arguments : Expr → MoreArguments → Arguments
+-- how that is spelled
+abbrev pub spell_size : Size → List Token
+spell_size (number_size n a) = token (a_number n) a ∷ []
+spell_size (name_size x a) = token (a_name x) a ∷ []
 
-  -- the arguments behind the first, each with the comma before it
-  pub data MoreArguments : Type 0 where
-    last_argument : MoreArguments
-    next_argument : ℕ → Expr → MoreArguments → MoreArguments
-
-abbrev mutual
-  -- how an expression is spelled
-  pub spell_expr : Expr → List Token
-  spell_expr (number n a) = token (a_number n) a ∷ []
-  spell_expr (variable x a) = token (a_name x) a ∷ []
-  spell_expr (element x a b e c) = token (a_name x) a ∷ token left_bracket b ∷ (spell_expr e ++ token right_bracket c ∷ [])
-  spell_expr (call x a b es c) = token (a_name x) a ∷ token left_paren b ∷ (spell_arguments es ++ token right_paren c ∷ [])
-  spell_expr (free a b c) = token nondet_word a ∷ token left_paren b ∷ token right_paren c ∷ []
-  spell_expr (grouped a e b) = token left_paren a ∷ (spell_expr e ++ token right_paren b ∷ [])
-  spell_expr (prefixed p a e) = token (sign_of p) a ∷ spell_expr e
-  spell_expr (joined e o a f) = spell_expr e ++ token (infix_sign o) a ∷ spell_expr f
-  spell_expr (chosen c a e b f) = spell_expr c ++ token question a ∷ (spell_expr e ++ token colon b ∷ spell_expr f)
-
-  -- how arguments are spelled
-  pub spell_arguments : Arguments → List Token
-  spell_arguments no_arguments = []
-  spell_arguments (arguments e es) = spell_expr e ++ spell_more_arguments es
-
-  -- how the arguments behind the first are spelled
-  pub spell_more_arguments : MoreArguments → List Token
-  spell_more_arguments last_argument = []
-  spell_more_arguments (next_argument a e es) = token comma a ∷ (spell_expr e ++ spell_more_arguments es)
-
--- The tree groups as the levels say: no sign above holds looser than l, repeated ones group to the left, and `? :` to the right.
-abbrev mutual
-  -- an expression groups as it must where no sign may hold looser than l
-  pub Groups : ℕ → Expr → Type 0
-  Groups l (number n a) = Unit {0}
-  Groups l (variable x a) = Unit {0}
-  Groups l (element x a b e c) = Groups 0 e
-  Groups l (call x a b es c) = GoodArguments es
-  Groups l (free a b c) = Unit {0}
-  Groups l (grouped a e b) = Groups 0 e
-  Groups l (prefixed p a e) = Groups 7 e
-  Groups l (joined e o a f) = (l ≤ level o) × Groups (level o) e × Groups (suc (level o)) f
-  Groups l (chosen c a e b f) = (l ≡ 0) × Groups 1 c × Groups 0 e × Groups 0 f
-
-  -- each argument groups as it must
-  pub GoodArguments : Arguments → Type 0
-  GoodArguments no_arguments = Unit {0}
-  GoodArguments (arguments e es) = Groups 0 e × GoodMoreArguments es
-
-  -- each argument behind the first groups as it must
-  pub GoodMoreArguments : MoreArguments → Type 0
-  GoodMoreArguments last_argument = Unit {0}
-  GoodMoreArguments (next_argument a e es) = Groups 0 e × GoodMoreArguments es
-
--- an expression, or none
-pub data Optional : Type 0 where
-  absent : Optional
-  present : Expr → Optional
-
--- how an expression is spelled that may be absent
-abbrev pub spell_optional : Optional → List Token
-spell_optional absent = []
-spell_optional (present e) = spell_expr e
-
--- it groups as it must
-abbrev pub GoodOptional : Optional → Type 0
-GoodOptional absent = Unit {0}
-GoodOptional (present e) = Groups 0 e
-
--- the brackets of an element with its index, or none
-pub data Index : Type 0 where
-  no_index : Index
-  index : ℕ → Expr → ℕ → Index
-
--- how an index is spelled
-abbrev pub spell_index : Index → List Token
-spell_index no_index = []
-spell_index (index a e b) = token left_bracket a ∷ (spell_expr e ++ token right_bracket b ∷ [])
-
--- an index groups as it must
-abbrev pub GoodIndex : Index → Type 0
-GoodIndex no_index = Unit {0}
-GoodIndex (index a e b) = Groups 0 e
-
--- a variable or an element of an array, to be changed
-pub data Place : Type 0 where
-  place : List ℕ → ℕ → Index → Place
-
--- how a place is spelled
-abbrev pub spell_place : Place → List Token
-spell_place (place x a i) = token (a_name x) a ∷ spell_index i
-
--- its index groups as it must
-abbrev pub GoodPlace : Place → Type 0
-GoodPlace (place x a i) = GoodIndex i
-
--- what is done to a place, by the signs behind it: an assignment or a step
-pub data Effect : Type 0 where
-  assigns : Change → ℕ → Expr → Effect
-  steps : Direction → ℕ → Effect
-
--- how an effect is spelled
-abbrev pub spell_effect : Effect → List Token
-spell_effect (assigns g a e) = token (change_sign g) a ∷ spell_expr e
-spell_effect (steps g a) = token (step_sign g) a ∷ []
-
--- the expression of an assignment groups as it must
-abbrev pub GoodEffect : Effect → Type 0
-GoodEffect (assigns g a e) = Groups 0 e
-GoodEffect (steps g a) = Unit {0}
-
--- a change of a place, or a step with its sign before the place
-pub data Update : Type 0 where
-  update : Place → Effect → Update
-  step_before : Direction → ℕ → Place → Update
-
--- how a change is spelled
-abbrev pub spell_update : Update → List Token
-spell_update (update p f) = spell_place p ++ spell_effect f
-spell_update (step_before g a p) = token (step_sign g) a ∷ spell_place p
-
--- the expressions of a change group as they must
-abbrev pub GoodUpdate : Update → Type 0
-GoodUpdate (update p f) = GoodPlace p × GoodEffect f
-GoodUpdate (step_before g a p) = GoodPlace p
-
--- the changes behind the first, each with the comma before it
-pub data MoreUpdates : Type 0 where
-  last_update : MoreUpdates
-  next_update : ℕ → Update → MoreUpdates → MoreUpdates
+-- the brackets of an array with its sizes
+pub data Sizes : Type 0 where
+  last_size : ℕ → Size → ℕ → Sizes
+  next_size : ℕ → Size → ℕ → Sizes → Sizes
 
 -- how they are spelled
-abbrev pub spell_more_updates : MoreUpdates → List Token
-spell_more_updates last_update = []
-spell_more_updates (next_update a u us) = token comma a ∷ (spell_update u ++ spell_more_updates us)
+abbrev pub spell_sizes : Sizes → List Token
+spell_sizes (last_size a s b) = token left_bracket a ∷ (spell_size s ++ token right_bracket b ∷ [])
+spell_sizes (next_size a s b ss) = token left_bracket a ∷ (spell_size s ++ token right_bracket b ∷ spell_sizes ss)
 
--- their expressions group as they must
-abbrev pub GoodMoreUpdates : MoreUpdates → Type 0
-GoodMoreUpdates last_update = Unit {0}
-GoodMoreUpdates (next_update a u us) = GoodUpdate u × GoodMoreUpdates us
+-- The values of an array: expressions, and lists of values in braces.
+mutual
+  -- one of them
+  pub data Value : Type 0 where
+    one_value : Expr → Value
+    braced : ℕ → Values → ℕ → Value
 
--- changes with a comma between them, or none
-pub data Updates : Type 0 where
-  no_updates : Updates
-  some_updates : Update → MoreUpdates → Updates
+  -- what stands between the braces
+  pub data Values : Type 0 where
+    no_values : Values
+    values : Value → MoreValues → Values
 
--- how changes are spelled
-abbrev pub spell_updates : Updates → List Token
-spell_updates no_updates = []
-spell_updates (some_updates u us) = spell_update u ++ spell_more_updates us
+  -- the values behind the first, each with the comma before it; a comma may stand behind the last
+  pub data MoreValues : Type 0 where
+    last_value : MoreValues
+    last_comma : ℕ → MoreValues
+    next_value : ℕ → Value → MoreValues → MoreValues
 
--- the expressions of changes group as they must
-abbrev pub GoodUpdates : Updates → Type 0
-GoodUpdates no_updates = Unit {0}
-GoodUpdates (some_updates u us) = GoodUpdate u × GoodMoreUpdates us
+abbrev mutual
+  -- how a value is spelled
+  pub spell_value : Value → List Token
+  spell_value (one_value e) = spell_expr e
+  spell_value (braced a vs b) = token left_brace a ∷ (spell_values vs ++ token right_brace b ∷ [])
 
--- what stands behind a name that is declared: nothing, `=` and a value, or the brackets of an array with its size
+  -- how values are spelled
+  pub spell_values : Values → List Token
+  spell_values no_values = []
+  spell_values (values v vs) = spell_value v ++ spell_more_values vs
+
+  -- how the values behind the first are spelled
+  pub spell_more_values : MoreValues → List Token
+  spell_more_values last_value = []
+  spell_more_values (last_comma a) = token comma a ∷ []
+  spell_more_values (next_value a v vs) = token comma a ∷ (spell_value v ++ spell_more_values vs)
+
+abbrev mutual
+  -- the expressions of a value group as they must
+  pub GoodValue : Value → Type 0
+  GoodValue (one_value e) = Groups 0 e
+  GoodValue (braced a vs b) = GoodValues vs
+
+  -- those of values do
+  pub GoodValues : Values → Type 0
+  GoodValues no_values = Unit {0}
+  GoodValues (values v vs) = GoodValue v × GoodMoreValues vs
+
+  -- those of the values behind the first do
+  pub GoodMoreValues : MoreValues → Type 0
+  GoodMoreValues last_value = Unit {0}
+  GoodMoreValues (last_comma a) = Unit {0}
+  GoodMoreValues (next_value a v vs) = GoodValue v × GoodMoreValues vs
+
+-- what stands behind a name that is declared: nothing, `=` and a value, or the brackets of an array with its sizes, with its values behind
+-- them or not
 pub data Initialiser : Type 0 where
   bare : Initialiser
   given : ℕ → Expr → Initialiser
-  sized : ℕ → ℕ → ℕ → ℕ → Initialiser
+  sized : Sizes → Initialiser
+  filled : Sizes → ℕ → ℕ → Values → ℕ → Initialiser
 
 -- how that is spelled
 abbrev pub spell_initialiser : Initialiser → List Token
 spell_initialiser bare = []
 spell_initialiser (given a e) = token (change_sign replaces) a ∷ spell_expr e
-spell_initialiser (sized a n b c) = token left_bracket a ∷ token (a_number n) b ∷ token right_bracket c ∷ []
+spell_initialiser (sized ss) = spell_sizes ss
+spell_initialiser (filled ss a b vs c) =
+    spell_sizes ss ++ token (change_sign replaces) a ∷ token left_brace b ∷ (spell_values vs ++ token right_brace c ∷ [])
 
--- the value groups as it must
+-- its expressions group as they must
 abbrev pub GoodInitialiser : Initialiser → Type 0
 GoodInitialiser bare = Unit {0}
 GoodInitialiser (given a e) = Groups 0 e
-GoodInitialiser (sized a n b c) = Unit {0}
+GoodInitialiser (sized ss) = Unit {0}
+GoodInitialiser (filled ss a b vs c) = GoodValues vs
 
 -- a name that is declared
 pub data Declarator : Type 0 where
-  declarator : List ℕ → ℕ → Initialiser → Declarator
+  declarator : Name → ℕ → Initialiser → Declarator
 
 -- how a declarator is spelled
 abbrev pub spell_declarator : Declarator → List Token
@@ -240,19 +149,29 @@ spell_declarators (declares x xs) = spell_declarator x ++ spell_more_declarators
 abbrev pub GoodDeclarators : Declarators → Type 0
 GoodDeclarators (declares x xs) = GoodDeclarator x × GoodMoreDeclarators xs
 
+-- what stands before the names of a declaration: `int`, or `const int`
+pub data IntType : Type 0 where
+  plain_int : ℕ → IntType
+  const_int : ℕ → ℕ → IntType
+
+-- how that is spelled
+abbrev pub spell_type : IntType → List Token
+spell_type (plain_int a) = token int_word a ∷ []
+spell_type (const_int a b) = token const_word a ∷ token int_word b ∷ []
+
 -- the first part of a `for`'s head
 pub data ForFirst : Type 0 where
-  declared_first : ℕ → Declarators → ForFirst
+  declared_first : IntType → Declarators → ForFirst
   updated_first : Updates → ForFirst
 
 -- how it is spelled
 abbrev pub spell_first : ForFirst → List Token
-spell_first (declared_first a xs) = token int_word a ∷ spell_declarators xs
+spell_first (declared_first t xs) = spell_type t ++ spell_declarators xs
 spell_first (updated_first us) = spell_updates us
 
 -- its expressions group as they must
 abbrev pub GoodFirst : ForFirst → Type 0
-GoodFirst (declared_first a xs) = GoodDeclarators xs
+GoodFirst (declared_first t xs) = GoodDeclarators xs
 GoodFirst (updated_first us) = GoodUpdates us
 
 -- Statements: `repeat` is a `while`, `repeat_after` a `do`.
@@ -269,19 +188,19 @@ mutual
     jumps : Jump → ℕ → ℕ → Core
     returns : ℕ → Optional → ℕ → Core
     demands : Demand → ℕ → ℕ → Expr → ℕ → ℕ → Core
-    calls : List ℕ → ℕ → ℕ → Arguments → ℕ → ℕ → Core
+    calls : Name → ℕ → ℕ → Arguments → ℕ → ℕ → Core
     updates : Update → ℕ → Core
 
   -- a statement under another one, with its labels
   pub data Sub : Type 0 where
-    labelled : List ℕ → ℕ → ℕ → Sub → Sub
+    labelled : Name → ℕ → ℕ → Sub → Sub
     plain : Core → Sub
 
   -- the statements, labels and declarations of a block
   pub data Items : Type 0 where
     no_items : Items
-    label : List ℕ → ℕ → ℕ → Items → Items
-    declaration : ℕ → Declarators → ℕ → Items → Items
+    label : Name → ℕ → ℕ → Items → Items
+    declaration : IntType → Declarators → ℕ → Items → Items
     item : Core → Items → Items
 
 abbrev mutual
@@ -315,7 +234,7 @@ abbrev mutual
   pub spell_items : Items → List Token
   spell_items no_items = []
   spell_items (label x a b is) = token (a_name x) a ∷ token colon b ∷ spell_items is
-  spell_items (declaration a xs b is) = token int_word a ∷ (spell_declarators xs ++ token semicolon b ∷ spell_items is)
+  spell_items (declaration t xs b is) = spell_type t ++ (spell_declarators xs ++ token semicolon b ∷ spell_items is)
   spell_items (item c is) = spell_core c ++ spell_items is
 
 -- Whether an `if` at the very end has no `else`.
@@ -370,7 +289,7 @@ abbrev mutual
   pub GoodItems : Items → Type 0
   GoodItems no_items = Unit {0}
   GoodItems (label x a b is) = GoodItems is
-  GoodItems (declaration a xs b is) = GoodDeclarators xs × GoodItems is
+  GoodItems (declaration t xs b is) = GoodDeclarators xs × GoodItems is
   GoodItems (item c is) = GoodCore c × GoodItems is
 
 -- what stands before a function's name: `static`, `inline` and `extern`, and its type
@@ -387,7 +306,7 @@ spell_specifiers (storage a ss) = token storage_word a ∷ spell_specifiers ss
 
 -- a function's name
 pub data FunctionName : Type 0 where
-  called : List ℕ → ℕ → FunctionName
+  called : Name → ℕ → FunctionName
   called_main : ℕ → FunctionName
 
 -- how it is spelled
@@ -395,27 +314,51 @@ abbrev pub spell_function_name : FunctionName → List Token
 spell_function_name (called x a) = token (a_name x) a ∷ []
 spell_function_name (called_main a) = token main_word a ∷ []
 
+-- the brackets of an array that is a parameter; the first may be empty
+pub data Bounds : Type 0 where
+  sized_bounds : Sizes → Bounds
+  open_bound : ℕ → ℕ → Bounds
+  open_bounds : ℕ → ℕ → Sizes → Bounds
+
+-- how they are spelled
+abbrev pub spell_bounds : Bounds → List Token
+spell_bounds (sized_bounds ss) = spell_sizes ss
+spell_bounds (open_bound a b) = token left_bracket a ∷ token right_bracket b ∷ []
+spell_bounds (open_bounds a b ss) = token left_bracket a ∷ token right_bracket b ∷ spell_sizes ss
+
+-- a parameter: a number, or an array by a pointer or with brackets
+pub data Parameter : Type 0 where
+  number_parameter : IntType → Name → ℕ → Parameter
+  pointer_parameter : IntType → ℕ → Name → ℕ → Parameter
+  array_parameter : IntType → Name → ℕ → Bounds → Parameter
+
+-- how it is spelled
+abbrev pub spell_parameter : Parameter → List Token
+spell_parameter (number_parameter t x a) = spell_type t ++ token (a_name x) a ∷ []
+spell_parameter (pointer_parameter t a x b) = spell_type t ++ token (infix_sign times_op) a ∷ token (a_name x) b ∷ []
+spell_parameter (array_parameter t x a bs) = spell_type t ++ token (a_name x) a ∷ spell_bounds bs
+
 -- the parameters behind the first, each with the comma before it
 pub data MoreParameters : Type 0 where
   last_parameter : MoreParameters
-  next_parameter : ℕ → ℕ → List ℕ → ℕ → MoreParameters → MoreParameters
+  next_parameter : ℕ → Parameter → MoreParameters → MoreParameters
 
 -- how they are spelled
 abbrev pub spell_more_parameters : MoreParameters → List Token
 spell_more_parameters last_parameter = []
-spell_more_parameters (next_parameter a b x c ps) = token comma a ∷ token int_word b ∷ token (a_name x) c ∷ spell_more_parameters ps
+spell_more_parameters (next_parameter a p ps) = token comma a ∷ (spell_parameter p ++ spell_more_parameters ps)
 
 -- what stands between the parentheses of a function
 pub data Parameters : Type 0 where
   no_parameters : Parameters
   void_parameters : ℕ → Parameters
-  int_parameters : ℕ → List ℕ → ℕ → MoreParameters → Parameters
+  some_parameters : Parameter → MoreParameters → Parameters
 
 -- how it is spelled
 abbrev pub spell_parameters : Parameters → List Token
 spell_parameters no_parameters = []
 spell_parameters (void_parameters a) = token void_word a ∷ []
-spell_parameters (int_parameters a x b ps) = token int_word a ∷ token (a_name x) b ∷ spell_more_parameters ps
+spell_parameters (some_parameters p ps) = spell_parameter p ++ spell_more_parameters ps
 
 -- a function: what stands before its name, its name, its parameters in parentheses, and its body in braces
 pub data Function : Type 0 where

@@ -1,4 +1,5 @@
 pub mod Tokens
+pub mod Expressions
 pub mod Grammar
 pub mod Depth
 pub mod Faults

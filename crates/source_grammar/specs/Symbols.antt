@@ -1,6 +1,6 @@
 -- What the code's symbols stand for.
-use Rattle.std.specs.Prelude.{[]}
-use Rattle.source_grammar.specs.Tokens.{Relation, Op, Change, Direction, Jump, Demand, Kind}
+use Rattle.std.specs.Prelude.{[], None}
+use Rattle.source_grammar.specs.Tokens.{Relation, Op, Change, Direction, Jump, Demand, Name, Kind}
 use Rattle.source_grammar.specs.Tokens as g
 use Rattle.source_grammar.specs.declared.symbol.Relation as code_relation
 use Rattle.source_grammar.specs.declared.symbol.Op as code_op
@@ -54,9 +54,13 @@ abbrev pub demand_of : code_demand.Demand → Demand
 demand_of code_demand.TheVariants.Assumes = g.assumes
 demand_of code_demand.TheVariants.Asserts = g.asserts
 
+-- a name without its text, and no constant
+abbrev pub nameless : Name
+nameless = record { text = []; value = None }
+
 -- what a symbol of the code stands for, with no name and the number 0
 abbrev pub symbol_kind : code_symbol.Symbol → Kind
-symbol_kind code_symbol.TheVariants.Name = g.a_name []
+symbol_kind code_symbol.TheVariants.Name = g.a_name nameless
 symbol_kind code_symbol.TheVariants.Number = g.a_number 0
 symbol_kind (code_symbol.TheVariants.Infix o) = g.infix_sign (op_of o)
 symbol_kind code_symbol.TheVariants.Bang = g.bang
@@ -76,6 +80,7 @@ symbol_kind code_symbol.TheVariants.Int = g.int_word
 symbol_kind code_symbol.TheVariants.Void = g.void_word
 symbol_kind code_symbol.TheVariants.Main = g.main_word
 symbol_kind code_symbol.TheVariants.Storage = g.storage_word
+symbol_kind code_symbol.TheVariants.Const = g.const_word
 symbol_kind code_symbol.TheVariants.If = g.if_word
 symbol_kind code_symbol.TheVariants.Else = g.else_word
 symbol_kind code_symbol.TheVariants.While = g.while_word

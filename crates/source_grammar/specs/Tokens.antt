@@ -1,5 +1,5 @@
 -- Tokens: what each is to the grammar of a function, and how tightly signs hold.
-use Rattle.std.specs.Prelude.{ℕ, List}
+use Rattle.std.specs.Prelude.{ℕ, ℤ, List, Option}
 
 -- how two numbers are compared
 pub data Relation : Type 0 where
@@ -51,9 +51,14 @@ pub data Demand : Type 0 where
   assumes : Demand
   asserts : Demand
 
+-- a name as it stands in the text, and the number that it stands for there where it is a constant
+pub record Name : Type 0 where
+  pub text : List ℕ
+  pub value : Option ℤ
+
 -- What a token is. The words that stand for one thing are one kind; `other_sign` is whatever stands nowhere in a function.
 pub data Kind : Type 0 where
-  a_name : List ℕ → Kind
+  a_name : Name → Kind
   a_number : ℕ → Kind
   infix_sign : Op → Kind
   bang : Kind
@@ -73,6 +78,7 @@ pub data Kind : Type 0 where
   void_word : Kind
   main_word : Kind
   storage_word : Kind
+  const_word : Kind
   if_word : Kind
   else_word : Kind
   while_word : Kind

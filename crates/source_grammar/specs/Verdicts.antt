@@ -2,8 +2,8 @@
 use Rattle.std.specs.Prelude.{true, false, nat_lt, ℕ, List, [], ◌∷◌, Option, Some, None}
 use Rattle.source_grammar.specs.Tokens.{Kind, infix_sign, bang, question, left_paren, left_bracket, left_brace, if_word, while_word}
 use Rattle.source_grammar.specs.Tokens.{do_word, for_word, Token, token}
-use Rattle.source_grammar.specs.Machine.{Goal, operand, named, more, maybe_expr, maybe_arguments, indexing, statement, after_name, step}
-use Rattle.source_grammar.specs.Machine.{entry, takes, skips, stops}
+use Rattle.source_grammar.specs.Machine.{Goal, operand, named, more, maybe_expr, maybe_arguments, indexing, filling, maybe_values}
+use Rattle.source_grammar.specs.Machine.{statement, after_name, step, entry, takes, skips, stops}
 use Rattle.source_grammar.specs.Faults.{Scan, nested, short, unexpected, whole}
 
 -- what a token opens where an operand has to come
@@ -24,6 +24,16 @@ abbrev pub opened_more : ℕ → Kind → Option ℕ
 opened_more d question = Some d
 opened_more d _ = None
 
+-- what a token opens where a value may stand
+abbrev pub opened_value : ℕ → Kind → Option ℕ
+opened_value d left_brace = Some d
+opened_value d k = opened_operand d k
+
+-- what a token opens where values in braces have to come
+abbrev pub opened_filling : ℕ → Kind → Option ℕ
+opened_filling d left_brace = Some d
+opened_filling d _ = None
+
 -- what a token opens where a statement has to come
 abbrev pub opened_core : ℕ → Kind → Option ℕ
 opened_core d left_brace = Some d
@@ -41,6 +51,8 @@ opened_by (more d) k = opened_more d k
 opened_by (maybe_expr d) k = opened_operand d k
 opened_by (maybe_arguments d) k = opened_operand d k
 opened_by (indexing d) k = opened_named d k
+opened_by (filling d) k = opened_filling d k
+opened_by (maybe_values d) k = opened_value d k
 opened_by (statement p d) k = opened_core d k
 opened_by (after_name p d) k = opened_named d k
 opened_by _ k = None

@@ -1,12 +1,12 @@
--- What tokens are without their names and numbers, and which tokens pieces of the code stand for.
-use Rattle.std.specs.Prelude.{◌≡◌, List, [], map}
+-- What tokens are without their names, constants and numbers, and which tokens pieces of the code stand for.
+use Rattle.std.specs.Prelude.{◌≡◌, List, map}
 use Rattle.source_grammar.specs.Tokens.{Kind, a_name, a_number, Token, token}
-use Rattle.source_grammar.specs.Symbols.{symbol_kind}
+use Rattle.source_grammar.specs.Symbols.{nameless, symbol_kind}
 use Rattle.source_grammar.specs.declared.symbol.Piece as code_piece
 
 -- a kind without its name or number
 abbrev pub plain_kind : Kind → Kind
-plain_kind (a_name x) = a_name []
+plain_kind (a_name x) = a_name nameless
 plain_kind (a_number n) = a_number 0
 plain_kind k = k
 

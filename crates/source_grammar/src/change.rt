@@ -1,12 +1,11 @@
-//! What changes and declarations make of a token.
+//! What changes make of a token.
 
-ghost use Rattle.source_grammar.specs.declared.goal.Goal.TheVariants.{Indexing, Effect, Changing, MoreChanges, MaybeChanges, Declaring};
-ghost use Rattle.source_grammar.specs.declared.goal.Goal.TheVariants.{Initialising, MoreDeclarators};
+ghost use Rattle.source_grammar.specs.declared.goal.Goal.TheVariants.{Indexing, Effect, Changing, MoreChanges, MaybeChanges};
 ghost use Rattle.source_grammar.specs.Goals.{goal_of, Entered};
 ghost use Rattle.source_grammar.specs.Symbols.{symbol_kind};
 
 use crate::goal::{Entry, Goal, Mark, NESTING};
-use crate::symbol::{Change, Symbol};
+use crate::symbol::Symbol;
 
 pub(crate) fn indexing(depth: u32, symbol: Symbol) -> Entry
     ensures { Entered result (goal_of (Indexing depth)) (symbol_kind symbol) }
@@ -14,10 +13,11 @@ pub(crate) fn indexing(depth: u32, symbol: Symbol) -> Entry
     match symbol {
         Symbol::LeftBracket => {
             if depth < NESTING {
-                Entry::Three(
+                Entry::Four(
                     Goal::Operand(depth + 1),
                     Goal::More(depth + 1),
                     Goal::Only(Mark::RightBracket),
+                    Goal::Indexing(depth),
                 )
             } else {
                 Entry::Deep
@@ -63,34 +63,6 @@ pub(crate) fn maybe_changes(depth: u32, symbol: Symbol) -> Entry
     match symbol {
         Symbol::Name => Entry::Three(Goal::Indexing(depth), Goal::Effect(depth), others),
         Symbol::Step(_) => Entry::Three(Goal::SomeName, Goal::Indexing(depth), others),
-        _ => Entry::Skips,
-    }
-}
-
-pub(crate) fn declaring(depth: u32, symbol: Symbol) -> Entry
-    ensures { Entered result (goal_of (Declaring depth)) (symbol_kind symbol) }
-{
-    match symbol {
-        Symbol::Name => Entry::One(Goal::Initialising(depth)),
-        _ => Entry::Stops,
-    }
-}
-
-pub(crate) fn initialising(depth: u32, symbol: Symbol) -> Entry
-    ensures { Entered result (goal_of (Initialising depth)) (symbol_kind symbol) }
-{
-    match symbol {
-        Symbol::Change(Change::Replaces) => Entry::Two(Goal::Operand(depth), Goal::More(depth)),
-        Symbol::LeftBracket => Entry::Two(Goal::SomeNumber, Goal::Only(Mark::RightBracket)),
-        _ => Entry::Skips,
-    }
-}
-
-pub(crate) fn more_declarators(depth: u32, symbol: Symbol) -> Entry
-    ensures { Entered result (goal_of (MoreDeclarators depth)) (symbol_kind symbol) }
-{
-    match symbol {
-        Symbol::Comma => Entry::Two(Goal::Declaring(depth), Goal::MoreDeclarators(depth)),
         _ => Entry::Skips,
     }
 }

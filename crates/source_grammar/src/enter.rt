@@ -3,14 +3,15 @@
 ghost use Rattle.source_grammar.specs.Goals.{goal_of, Entered};
 ghost use Rattle.source_grammar.specs.Symbols.{symbol_kind};
 
-use crate::change::{
-    changing, declaring, effect, indexing, initialising, maybe_changes, more_changes,
-    more_declarators,
+use crate::change::{changing, effect, indexing, maybe_changes, more_changes};
+use crate::declaration::{
+    declaring, filling, initialising, maybe_values, more_declarators, more_values, sizing,
 };
 use crate::expression::{maybe_arguments, maybe_expr, more, more_arguments, named, operand};
 use crate::goal::{Entry, Goal, Site};
 use crate::head::{
-    function_name, more_parameters, only, parameters, some_name, some_number, specifiers,
+    bounding, function_name, maybe_size, more_parameters, more_sizes, only, parameter_name,
+    parameters, some_name, some_size, some_type, specifiers,
 };
 use crate::statement::{
     after_name, condition, do_end, header, header_first, header_rest, item, maybe_else, sub,
@@ -36,6 +37,10 @@ pub(crate) fn enter(goal: Goal, symbol: Symbol) -> Entry
         Goal::Declaring(depth) => declaring(depth, symbol),
         Goal::Initialising(depth) => initialising(depth, symbol),
         Goal::MoreDeclarators(depth) => more_declarators(depth, symbol),
+        Goal::Sizing(depth) => sizing(depth, symbol),
+        Goal::Filling(depth) => filling(depth, symbol),
+        Goal::MaybeValues(depth) => maybe_values(depth, symbol),
+        Goal::MoreValues(depth) => more_values(depth, symbol),
         Goal::Statement(Site::Sub, depth) => sub(depth, symbol),
         Goal::Statement(Site::Block, depth) => item(depth, symbol),
         Goal::AfterName(site, depth) => after_name(site, depth, symbol),
@@ -49,8 +54,13 @@ pub(crate) fn enter(goal: Goal, symbol: Symbol) -> Entry
         Goal::FunctionName => function_name(symbol),
         Goal::Parameters => parameters(symbol),
         Goal::MoreParameters => more_parameters(symbol),
+        Goal::SomeType => some_type(symbol),
+        Goal::ParameterName => parameter_name(symbol),
+        Goal::Bounding => bounding(symbol),
+        Goal::MoreSizes => more_sizes(symbol),
         Goal::SomeName => some_name(symbol),
-        Goal::SomeNumber => some_number(symbol),
+        Goal::SomeSize => some_size(symbol),
+        Goal::MaybeSize => maybe_size(symbol),
         Goal::Only(mark) => only(mark, symbol),
     }
 }

@@ -31,6 +31,7 @@ pub(crate) fn operand(depth: u32, symbol: Symbol) -> Entry
                 Entry::Deep
             }
         }
+        Symbol::Step(_) => Entry::One(Goal::SomeName),
         Symbol::Nondet => Entry::Two(Goal::Only(Mark::LeftParen), Goal::Only(Mark::RightParen)),
         _ => Entry::Stops,
     }
@@ -47,11 +48,13 @@ pub(crate) fn named(depth: u32, symbol: Symbol) -> Entry
                 Goal::Only(Mark::RightParen),
             )
         }
-        Symbol::LeftBracket => Entry::Three(
+        Symbol::LeftBracket => Entry::Four(
             Goal::Operand(depth + 1),
             Goal::More(depth + 1),
             Goal::Only(Mark::RightBracket),
+            Goal::Indexing(depth),
         ),
+        Symbol::Step(_) => Entry::Nothing,
         _ => Entry::Skips,
     }
 }
@@ -102,6 +105,7 @@ pub(crate) fn maybe_expr(depth: u32, symbol: Symbol) -> Entry
                 Entry::Deep
             }
         }
+        Symbol::Step(_) => Entry::Two(Goal::SomeName, more),
         Symbol::Nondet => Entry::Three(
             Goal::Only(Mark::LeftParen),
             Goal::Only(Mark::RightParen),
@@ -139,6 +143,7 @@ pub(crate) fn maybe_arguments(depth: u32, symbol: Symbol) -> Entry
                 Entry::Deep
             }
         }
+        Symbol::Step(_) => Entry::Three(Goal::SomeName, more, others),
         Symbol::Nondet => Entry::Four(
             Goal::Only(Mark::LeftParen),
             Goal::Only(Mark::RightParen),

@@ -13,6 +13,7 @@ pub enum Mark {
     LeftParen,
     RightParen,
     LeftBrace,
+    RightBrace,
     RightBracket,
     Colon,
     Semicolon,
@@ -31,7 +32,7 @@ pub enum Goal {
     MaybeExpr(u32),
     MaybeArguments(u32),
     MoreArguments(u32),
-    /// The brackets behind the name of a place, if it has any.
+    /// Further brackets of an element or a place, if there are any.
     Indexing(u32),
     /// The sign behind a place.
     Effect(u32),
@@ -42,6 +43,12 @@ pub enum Goal {
     /// What may stand behind the name of a declarator.
     Initialising(u32),
     MoreDeclarators(u32),
+    /// Further brackets of a declared array, and its values, if there are any.
+    Sizing(u32),
+    /// The values of an array in their braces.
+    Filling(u32),
+    MaybeValues(u32),
+    MoreValues(u32),
     Statement(Site, u32),
     /// What stands behind the name with which a statement begins.
     AfterName(Site, u32),
@@ -58,8 +65,16 @@ pub enum Goal {
     FunctionName,
     Parameters,
     MoreParameters,
+    /// `int` or `const int`.
+    SomeType,
+    /// A parameter without its type.
+    ParameterName,
+    /// The brackets behind the name of a parameter, if there are any.
+    Bounding,
+    MoreSizes,
     SomeName,
-    SomeNumber,
+    SomeSize,
+    MaybeSize,
     Only(Mark),
 }
 
@@ -73,6 +88,7 @@ pub enum Entry {
     Three(Goal, Goal, Goal),
     Four(Goal, Goal, Goal, Goal),
     Five(Goal, Goal, Goal, Goal, Goal),
+    Six(Goal, Goal, Goal, Goal, Goal, Goal),
     /// Nothing is wanted, and the token belongs to what comes later.
     Skips,
     /// The token may not stand here.

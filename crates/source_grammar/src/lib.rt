@@ -2,6 +2,7 @@
 #![tactic(auto)]
 
 mod change;
+mod declaration;
 mod enter;
 mod expression;
 mod goal;

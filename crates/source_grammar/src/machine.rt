@@ -42,6 +42,14 @@ fn add(stack: &mut Vec<Goal>, entry: Entry) -> Result<(), AllocError>
             stack.push(second)?;
             stack.push(first)?;
         }
+        Entry::Six(first, second, third, fourth, fifth, sixth) => {
+            stack.push(sixth)?;
+            stack.push(fifth)?;
+            stack.push(fourth)?;
+            stack.push(third)?;
+            stack.push(second)?;
+            stack.push(first)?;
+        }
         Entry::Nothing | Entry::Skips | Entry::Stops | Entry::Deep => {}
     }
     Ok(())
@@ -124,7 +132,7 @@ fn recognise(alloc: Global, pieces: &[Piece]) -> Result<Syntax, AllocError>
 /// (docs/MEANING.md, "Functions of C"): they are one, they end too early, or the first fault and its place.
 ///
 /// The tokens are any that have the symbols and places of the pieces; the answer is the same whatever
-/// their names and numbers are.
+/// their names, constants and numbers are.
 pub fn examine(alloc: Global, pieces: &[Piece]) -> Result<Syntax, AllocError>
     // What is answered is so.
     ensures found { IfOk result (λ s. (tokens : List Token) → Are tokens pieces.now → Finds (scan_of s) tokens) }

@@ -61,6 +61,13 @@ pub(crate) fn item(depth: u32, symbol: Symbol) -> Entry
             Goal::Only(Mark::Semicolon),
             next,
         ),
+        Symbol::Const => Entry::Five(
+            Goal::Only(Mark::Int),
+            Goal::Declaring(depth),
+            Goal::MoreDeclarators(depth),
+            Goal::Only(Mark::Semicolon),
+            next,
+        ),
         Symbol::Return => {
             Entry::Three(Goal::MaybeExpr(depth), Goal::Only(Mark::Semicolon), next)
         }
@@ -119,10 +126,11 @@ pub(crate) fn after_name(site: Site, depth: u32, symbol: Symbol) -> Entry
             Goal::Only(Mark::RightParen),
             Goal::Only(Mark::Semicolon),
         ),
-        Symbol::LeftBracket => Entry::Five(
+        Symbol::LeftBracket => Entry::Six(
             Goal::Operand(depth + 1),
             Goal::More(depth + 1),
             Goal::Only(Mark::RightBracket),
+            Goal::Indexing(depth),
             Goal::Effect(depth),
             Goal::Only(Mark::Semicolon),
         ),
@@ -182,6 +190,11 @@ pub(crate) fn header_first(depth: u32, symbol: Symbol) -> Entry
     let others = Goal::MoreChanges(depth);
     match symbol {
         Symbol::Int => Entry::Two(Goal::Declaring(depth), Goal::MoreDeclarators(depth)),
+        Symbol::Const => Entry::Three(
+            Goal::Only(Mark::Int),
+            Goal::Declaring(depth),
+            Goal::MoreDeclarators(depth),
+        ),
         Symbol::Name => Entry::Three(Goal::Indexing(depth), Goal::Effect(depth), others),
         Symbol::Step(_) => Entry::Three(Goal::SomeName, Goal::Indexing(depth), others),
         _ => Entry::Skips,

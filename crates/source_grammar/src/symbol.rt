@@ -56,7 +56,7 @@ pub enum Demand {
     Asserts,
 }
 
-/// What a token is to the grammar, whatever its name or number
+/// What a token is to the grammar, whatever its name, constant or number
 /// (docs/MEANING.md, "Functions of C").
 #[derive(Clone, Copy)]
 pub enum Symbol {
@@ -81,6 +81,8 @@ pub enum Symbol {
     Main,
     /// `static`, `inline` or `extern`.
     Storage,
+    /// `const` before `int`.
+    Const,
     If,
     Else,
     While,

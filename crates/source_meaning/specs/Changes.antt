@@ -1,23 +1,25 @@
 -- What a change of a place is, or its first fault: the place's name before its index, the index before the right side.
-use Rattle.std.specs.Prelude.{ℕ, [], length, List, Result, Ok}
+use Rattle.std.specs.Prelude.{ℕ, pos, [], length, Result, Ok}
 use Rattle.source_grammar.specs.Tokens as g
+use Rattle.source_grammar.specs.Tokens.{Name}
+use Rattle.source_grammar.specs.Grammar as tree
 use Rattle.source_grammar.specs.Grammar.{Expr, Place, place, no_index, index, Effect, assigns, steps, Update, update, step_before}
-use Rattle.source_tree.specs.Expressions.{Expression, Expressions, number, variable, element, joined, none, more, plus, minus}
+use Rattle.source_tree.specs.Expressions.{Expression, Expressions, number, variable, joined, none, more, plus, minus}
 use Rattle.source_tree.specs.Expressions.{times, over, remainder}
 use Rattle.source_tree.specs.Statements.{Change, sets, evaluates}
 use Rattle.source_core.specs.Elaborated.{Result as Value, a_form, a_truth, any, Elaborated, elaborated, evaluated, numbered}
 use Rattle.source_core.specs.Core.{change_deeds}
 use Rattle.source_meaning.specs.declared.fault.FunctionFault.{FunctionFault}
 use Rattle.source_meaning.specs.Results.{◌>>=◌}
-use Rattle.source_meaning.specs.Names.{State, variable_of, array_of}
+use Rattle.source_meaning.specs.Names.{State, variable_of}
 use Rattle.source_meaning.specs.Limits.{limited, counted}
 use Rattle.source_meaning.specs.Expressions.{read, ranged, behind, behind_number}
 use Rattle.base_integers.specs.declared.integers.Integers.{Integers}
 
 -- a place with 1 more or less
 abbrev pub stepped : g.Direction → (sign : ℕ) → Expression → Expression
-stepped g.up sign old = joined plus sign old (number 1 sign)
-stepped g.down sign old = joined minus sign old (number 1 sign)
+stepped g.up sign old = joined plus sign old (number (pos 1) sign)
+stepped g.down sign old = joined minus sign old (number (pos 1) sign)
 
 -- the hidden variable behind a variable's new value: any value is taken without one
 abbrev pub behind_taken : (integers : Integers) (line : ℕ) → Elaborated → Value → ℕ
@@ -70,14 +72,13 @@ module _ (integers : Integers) (n line : ℕ) where
   evaluated_by st old (steps d sign) = ranged integers line sign n (stepped d sign old) >>= λ x. Ok (evaluates (more x none) line)
 
   -- an element of an array
-  abbrev pub read_element : State → List ℕ → (at bracket : ℕ) → Expr → Result Expression FunctionFault
-  read_element st x at bracket e =
-      array_of x at st >>= λ size. read integers line st e n >>= λ i. ranged integers line bracket n (element size bracket i at)
+  abbrev pub read_element : State → Name → (at : ℕ) → tree.Subscripts → Result Expression FunctionFault
+  read_element st x at is = read integers line st (tree.element x at is) n
 
   -- what is done to a place
   abbrev pub changed : State → Place → Effect → Result Change FunctionFault
   changed st (place x a no_index) f = variable_of x a st >>= λ i. affected st i a f
-  changed st (place x a (index b e c)) f = read_element st x a b e >>= λ old. evaluated_by st old f
+  changed st (place x a (index is)) f = read_element st x a is >>= λ old. evaluated_by st old f
 
 -- the place of a change's first token
 abbrev pub first_place : Place → ℕ

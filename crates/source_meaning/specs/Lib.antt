@@ -1,5 +1,6 @@
 pub mod Results
 pub mod Names
+pub mod Arrays
 pub mod Limits
 pub mod Expressions
 pub mod Changes

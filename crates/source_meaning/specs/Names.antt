@@ -1,21 +1,25 @@
 -- The names of a function: its variables, arrays and labels, and where they are known.
-use Rattle.std.specs.Prelude.{ℕ, zero, suc, ◌-◌, Bool, true, false, List, [], ◌∷◌, length, nat_le, nat_lt, ◌&&◌, Option, Some, None, Result}
-use Rattle.std.specs.Prelude.{Ok, Err}
+use Rattle.std.specs.Prelude.{ℕ, zero, suc, ℤ, ◌-◌, Bool, true, false, List, [], ◌∷◌, length, nat_lt, nat_eq, Option, Some, None, Result}
+use Rattle.std.specs.Prelude.{Ok}
+use Rattle.std.specs.Prelude.{Err}
 use Rattle.std.specs.Prelude.{if◌then◌else◌}
 use Rattle.std.specs.Str.{bytes_eq}
 use Rattle.lang_tree.specs.declared.limits.TheConstants.{MOST_VARIABLES}
+use Rattle.source_grammar.specs.Tokens.{Name}
+use Rattle.source_tree.specs.Expressions.{Extent}
 use Rattle.source_meaning.specs.declared.fault.FunctionFault.{FunctionFault}
-use Rattle.source_meaning.specs.declared.fault.FunctionFault.TheVariants.{UnknownName, NameTwice, WrongKind, Array}
+use Rattle.source_meaning.specs.declared.fault.FunctionFault.TheVariants.{UnknownName, NameTwice, WrongKind}
 use Rattle.source_meaning.specs.declared.fault.FunctionFault.TheVariants as fault
 use Rattle.source_meaning.specs.declared.fault.Limit.TheVariants as limit
 use Rattle.source_meaning.specs.Results.{◌>>=◌, provided}
 
--- what a name is: the variable of this number, or an array of so many elements
+-- what a name is: the variable of this number, an array by the extents of its indexes, or a constant
 pub data Thing : Type 0 where
   variable : (number : ℕ) → Thing
-  array : (size : ℕ) → Thing
+  array : (extents : List Extent) → Thing
+  constant : (value : ℤ) → Thing
 
--- a name that was declared
+-- a variable or an array that was declared; one that is declared again stands there twice
 pub record Named : Type 0 where
   -- its text
   pub name : List ℕ
@@ -26,10 +30,10 @@ pub record Named : Type 0 where
 
 -- what has been met
 pub record State : Type 0 where
-  -- the names so far, the last one first
+  -- the declarations so far, the last one first
   pub names : List Named
-  -- how many of them are variables
-  pub variables : ℕ
+  -- the variables so far, the last one first
+  pub variables : List (List ℕ)
   -- the labels
   pub labels : List (List ℕ)
   -- how many statements the program has
@@ -37,9 +41,9 @@ pub record State : Type 0 where
 
 -- nothing has been met
 abbrev pub start_state : State
-start_state = record { names = []; variables = 0; labels = []; count = 0 }
+start_state = record { names = []; variables = []; labels = []; count = 0 }
 
--- a name that was declared, known or not
+-- the last declaration of a name, known or not
 abbrev pub declared : List ℕ → List Named → Option Named
 declared x [] = None
 declared x (n ∷ ns) = if bytes_eq x n.name then Some n else declared x ns
@@ -52,44 +56,87 @@ known_if n = if n.is_known then Some n.thing else None
 abbrev pub known : List ℕ → List Named → Option Thing
 known x ns = elim (declared x ns) [ None ↦ None | Some n ↦ known_if n ]
 
+-- what a name is where it stands: a constant there, or what it was declared as
+abbrev pub thing_of : Name → State → Option Thing
+thing_of x st = elim x.value [ None ↦ known x.text st.names | Some v ↦ Some (constant v) ]
+
 -- the variable of this name at this place
 abbrev pub as_variable : (at : ℕ) → Option Thing → Result ℕ FunctionFault
 as_variable at None = Err (UnknownName at)
 as_variable at (Some (variable i)) = Ok i
-as_variable at (Some (array size)) = Err (WrongKind at)
+as_variable at (Some (array extents)) = Err (WrongKind at)
+as_variable at (Some (constant v)) = Err (WrongKind at)
 
--- the size of the array of this name
-abbrev pub as_array : (at : ℕ) → Option Thing → Result ℕ FunctionFault
-as_array at None = Err (UnknownName at)
-as_array at (Some (variable i)) = Err (WrongKind at)
-as_array at (Some (array size)) = Ok size
+-- the extents of the array of this name, which has so many indexes
+abbrev pub as_array : (at count : ℕ) → Option Thing → Result (List Extent) FunctionFault
+as_array at count None = Err (UnknownName at)
+as_array at count (Some (variable i)) = Err (WrongKind at)
+as_array at count (Some (array extents)) = provided (nat_eq (length extents) count) (WrongKind at) extents
+as_array at count (Some (constant v)) = Err (WrongKind at)
 
--- a name may be called that is neither
+-- a name may be called that is nothing of these
 abbrev pub as_called : {A : Type 0} → (at : ℕ) → Option Thing → A → Result A FunctionFault
 as_called at None x = Ok x
 as_called at (Some thing) x = Err (WrongKind at)
 
 -- the variable of a name
-abbrev pub variable_of : List ℕ → (at : ℕ) → State → Result ℕ FunctionFault
-variable_of x at st = as_variable at (known x st.names)
+abbrev pub variable_of : Name → (at : ℕ) → State → Result ℕ FunctionFault
+variable_of x at st = as_variable at (thing_of x st)
 
--- the size of the array of a name
-abbrev pub array_of : List ℕ → (at : ℕ) → State → Result ℕ FunctionFault
-array_of x at st = as_array at (known x st.names)
+-- the extents of the array of a name
+abbrev pub array_of : Name → (at count : ℕ) → State → Result (List Extent) FunctionFault
+array_of x at count st = as_array at count (thing_of x st)
 
--- a name that is declared here has not been before
-abbrev pub fresh : List ℕ → (at : ℕ) → State → Result State FunctionFault
-fresh x at st = elim (declared x st.names) [ None ↦ Ok st | Some n ↦ Err (NameTwice at) ]
+-- what a name was declared as before, if it was; it may be declared here where it is no constant and isn't known
+abbrev pub fresh : Name → (at : ℕ) → State → Result (Option Thing) FunctionFault
+fresh x at st = elim x.value [
+  | Some v ↦ Err (NameTwice at)
+  | None ↦ elim (declared x.text st.names) [
+    | None ↦ Ok None
+    | Some n ↦ if n.is_known then Err (NameTwice at) else Ok (Some n.thing)
+  ]
+]
 
--- a variable more, within the limit
-abbrev pub with_variable : List ℕ → (at : ℕ) → State → Result State FunctionFault
-with_variable x at st = fresh x at st >>= λ st. provided (nat_lt st.variables MOST_VARIABLES) (fault.Limit at limit.Variables)
-    (record st { names = record { name = x; thing = variable st.variables; is_known = true } ∷ st.names; variables = suc st.variables })
+-- a name is declared
+abbrev pub with_name : List ℕ → Thing → State → State
+with_name x t st = record st { names = record { name = x; thing = t; is_known = true } ∷ st.names }
 
--- an array more, whose number stands at this place
-abbrev pub with_array : List ℕ → (at size place : ℕ) → State → Result State FunctionFault
-with_array x at size place st = fresh x at st >>= λ st. provided (nat_le 1 size && nat_le size 2147483647) (Array place)
-    (record st { names = record { name = x; thing = array size; is_known = true } ∷ st.names })
+-- a name is declared as a variable: as one more, within the limit, or as the one that it was before
+abbrev pub as_variable_again : List ℕ → (at : ℕ) → State → Option Thing → Result State FunctionFault
+as_variable_again x at st None = provided (nat_lt (length st.variables) MOST_VARIABLES) (fault.Limit at limit.Variables)
+    (with_name x (variable (length st.variables)) (record st { variables = x ∷ st.variables }))
+as_variable_again x at st (Some (variable i)) = Ok (with_name x (variable i) st)
+as_variable_again x at st (Some (array extents)) = Err (NameTwice at)
+as_variable_again x at st (Some (constant v)) = Err (NameTwice at)
+
+-- a variable is declared
+abbrev pub with_variable : Name → (at : ℕ) → State → Result State FunctionFault
+with_variable x at st = fresh x at st >>= λ before. as_variable_again x.text at st before
+
+-- the number of a variable
+abbrev pub number_in : Thing → ℕ
+number_in (variable i) = i
+number_in (array extents) = 0
+number_in (constant v) = 0
+
+-- the number of the variable that was declared last
+abbrev pub declared_number : State → ℕ
+declared_number st = elim st.names [ [] ↦ 0 | n ∷ ns ↦ number_in n.thing ]
+
+-- a name may be declared as an array: it is new, or was one before
+abbrev pub as_array_again : (at : ℕ) → Option Thing → State → Result State FunctionFault
+as_array_again at None st = Ok st
+as_array_again at (Some (variable i)) st = Err (NameTwice at)
+as_array_again at (Some (array extents)) st = Ok st
+as_array_again at (Some (constant v)) st = Err (NameTwice at)
+
+-- the name of an array may be declared here
+abbrev pub fresh_array : Name → (at : ℕ) → State → Result State FunctionFault
+fresh_array x at st = fresh x at st >>= λ before. as_array_again at before st
+
+-- an array is declared
+abbrev pub with_array : Name → List Extent → State → State
+with_array x extents st = with_name x.text (array extents) st
 
 -- names are known no longer
 abbrev pub forgotten : ℕ → List Named → List Named

@@ -1,14 +1,14 @@
 -- What the statements of a function are with their names resolved, or their first fault, in order of the text.
-use Rattle.std.specs.Prelude.{ℕ, ◌+◌, ◌∷◌, Bool, true, List, [], length, Result, Ok, Err, codes}
+use Rattle.std.specs.Prelude.{ℕ, pos, ◌+◌, ◌∷◌, Bool, true, List, [], length, Result, Ok, Err, codes}
 use Rattle.std.specs.Prelude.{if◌then◌else◌, ◌||◌}
 use Rattle.std.specs.List.{list_any}
 use Rattle.std.specs.Str.{bytes_eq}
 use Rattle.lang_tree.specs.declared.cond.Rel.TheVariants.{Le}
 use Rattle.lang_tree.specs.Tree.{breaks, continues, returns, nodes_in}
 use Rattle.source_grammar.specs.Tokens as g
-use Rattle.source_grammar.specs.Tokens.{Jump, Demand}
+use Rattle.source_grammar.specs.Tokens.{Name, Jump, Demand}
 use Rattle.source_grammar.specs.Grammar.{Expr, Arguments, Optional, absent, present, Update, MoreUpdates, last_update, next_update, Updates}
-use Rattle.source_grammar.specs.Grammar.{no_updates, some_updates, Initialiser, bare, given, sized, Declarator, declarator, MoreDeclarators}
+use Rattle.source_grammar.specs.Grammar.{no_updates, some_updates, bare, given, sized, filled, Declarator, declarator, MoreDeclarators}
 use Rattle.source_grammar.specs.Grammar.{last_declarator, next_declarator, Declarators, ForFirst, declared_first, updated_first}
 use Rattle.source_grammar.specs.Grammar.{Core, Sub, Items, empty, block, if_alone, if_else, repeat, repeat_after, repeat_for, jumps}
 use Rattle.source_grammar.specs.Grammar.{demands}
@@ -22,9 +22,10 @@ use Rattle.source_core.specs.Core.{taken_any, change_deeds, condition_of, core_i
 use Rattle.source_meaning.specs.declared.fault.FunctionFault.{FunctionFault}
 use Rattle.source_meaning.specs.declared.fault.FunctionFault.TheVariants.{NameTwice, OutsideLoop}
 use Rattle.source_meaning.specs.Results.{◌>>=◌, provided}
-use Rattle.source_meaning.specs.Names.{State, with_variable, with_array, closed, known, as_called}
+use Rattle.source_meaning.specs.Names.{State, with_variable, declared_number, fresh_array, with_array, closed, thing_of, as_called}
+use Rattle.source_meaning.specs.Arrays.{read_sizes}
 use Rattle.source_meaning.specs.Limits.{limited, counted}
-use Rattle.source_meaning.specs.Expressions.{read, read_arguments, as_condition, first_of}
+use Rattle.source_meaning.specs.Expressions.{read, read_arguments, read_values, as_condition, first_of}
 use Rattle.source_meaning.specs.Changes.{few, read_update}
 use Rattle.base_integers.specs.declared.integers.Integers.{Integers}
 
@@ -44,7 +45,7 @@ as_statements (g ∷ gs) = cons (changes g) (as_statements gs)
 
 -- the condition of a `for` without one: 0 is at most 0
 abbrev pub always : (at : ℕ) → Expression
-always at = compared Le at (number 0 at) (number 0 at)
+always at = compared Le at (number (pos 0) at) (number (pos 0) at)
 
 -- calls that end the run
 abbrev pub is_end : List ℕ → Bool
@@ -55,9 +56,9 @@ abbrev pub is_error : List ℕ → Bool
 is_error x = bytes_eq x (codes "reach_error") || bytes_eq x (codes "__VERIFIER_error")
 
 -- a label that has not been met
-abbrev pub new_label : List ℕ → (at : ℕ) → State → Result State FunctionFault
-new_label x at st = if list_any (λ y. bytes_eq x y) st.labels then Err (NameTwice at)
-    else counted at 1 (record st { labels = x ∷ st.labels })
+abbrev pub new_label : Name → (at : ℕ) → State → Result State FunctionFault
+new_label x at st = if list_any (λ y. bytes_eq x.text y) st.labels then Err (NameTwice at)
+    else counted at 1 (record st { labels = x.text ∷ st.labels })
 
 -- a `break` or a `continue` stands in a loop's body
 abbrev pub jumped : (inside : Bool) → (at : ℕ) → State → Result State FunctionFault
@@ -74,9 +75,9 @@ demand_of g.assumes e at line = assumes e line
 demand_of g.asserts e at line = asserts e at line
 
 -- what a call as a statement does behind its arguments
-abbrev pub call_of : List ℕ → (at line : ℕ) → Statements
-call_of x at line = if is_error x then cons (never at line) (one (jump returns line))
-    else (if is_end x then one (jump returns line) else nil)
+abbrev pub call_of : Name → (at line : ℕ) → Statements
+call_of x at line = if is_error x.text then cons (never at line) (one (jump returns line))
+    else (if is_end x.text then one (jump returns line) else nil)
 
 module _ (integers : Integers) (line : ℕ → ℕ) (n : ℕ) where
   -- a condition of the statement that begins at this place, its limits told behind its faults
@@ -89,16 +90,27 @@ module _ (integers : Integers) (line : ℕ → ℕ) (n : ℕ) where
   abbrev pub prelude_of : (at : ℕ) → Expression → ℕ
   prelude_of at e = length (condition_of integers n (line at) e).prelude
 
+  -- what is evaluated at this place, its value not used
+  abbrev pub read_evaluated : State → (at : ℕ) → Change → Result (State × Statements) FunctionFault
+  read_evaluated st at g = few integers n (line at) at g st >>= λ now. counted at (length (change_deeds integers n g)) now
+      >>= λ now. Ok (now, one (changes g))
+
   -- a name that is declared
   abbrev pub read_declarator : State → Declarator → Result (State × Statements) FunctionFault
   read_declarator st (declarator x at bare) =
-      with_variable x at st >>= λ now. counted at (length (taken_any integers st.variables (line at))) now
-      >>= λ now. Ok (now, one (declares st.variables (line at)))
+      with_variable x at st
+      >>= λ now. (let i = declared_number now in counted at (length (taken_any integers i (line at))) now
+      >>= λ now. Ok (now, one (declares i (line at))))
   read_declarator st (declarator x at (given b e)) =
       read integers (line at) st e n >>= λ e. with_variable x at st
-      >>= λ now. (let g : Change = sets st.variables e (line at) in few integers n (line at) at g now
+      >>= λ now. (let g : Change = sets (declared_number now) e (line at) in few integers n (line at) at g now
       >>= λ now. counted at (length (change_deeds integers n g)) now >>= λ now. Ok (now, one (changes g)))
-  read_declarator st (declarator x at (sized b size c d)) = with_array x at size c st >>= λ now. Ok (now, nil)
+  read_declarator st (declarator x at (sized ss)) =
+      fresh_array x at st >>= λ now. read_sizes now ss >>= λ extents. Ok (with_array x extents now, nil)
+  read_declarator st (declarator x at (filled ss a b vs c)) =
+      fresh_array x at st >>= λ now. read_sizes now ss
+      >>= λ extents. read_values integers (line at) now vs n >>= λ es. read_evaluated now at (evaluates es (line at))
+      >>= λ r. Ok (with_array x extents r.0, r.1)
 
   -- the names that are declared behind the first
   abbrev pub read_more_declarators : State → MoreDeclarators → Result (State × Statements) FunctionFault
@@ -125,18 +137,13 @@ module _ (integers : Integers) (line : ℕ → ℕ) (n : ℕ) where
 
   -- the first part of a `for`'s head
   abbrev pub read_first : State → ForFirst → Result (State × Statements) FunctionFault
-  read_first st (declared_first a xs) = read_declarators st xs
+  read_first st (declared_first t xs) = read_declarators st xs
   read_first st (updated_first us) = read_updates st us >>= λ r. Ok (r.0, as_statements r.1)
 
   -- the condition of the `for` at this place
   abbrev pub read_test : State → (at : ℕ) → Optional → Result Expression FunctionFault
   read_test st at absent = Ok (always at)
   read_test st at (present e) = read_condition st at e
-
-  -- what is evaluated at this place, its value not used
-  abbrev pub read_evaluated : State → (at : ℕ) → Change → Result (State × Statements) FunctionFault
-  read_evaluated st at g = few integers n (line at) at g st >>= λ now. counted at (length (change_deeds integers n g)) now
-      >>= λ now. Ok (now, one (changes g))
 
   -- what is returned
   abbrev pub read_returned : State → (at : ℕ) → Optional → Result (State × Statements) FunctionFault
@@ -172,7 +179,7 @@ module _ (integers : Integers) (line : ℕ → ℕ) (n : ℕ) where
         >>= λ x. (let s : Statement = demand_of k x at (line at) in counted at (nodes_in (core_of integers n s)) st
         >>= λ now. Ok (now, one s))
     read_core inside st (calls x at b es c d) =
-        as_called at (known x st.names) es >>= λ es. read_arguments integers (line at) st es n
+        as_called at (thing_of x st) es >>= λ es. read_arguments integers (line at) st es n
         >>= λ es. read_evaluated st at (evaluates es (line at))
         >>= λ r. (let after : Statements = call_of x at (line at) in counted at (nodes_in (core_in integers n after)) r.0
         >>= λ now. Ok (now, followed_by r.1 after))
@@ -181,14 +188,14 @@ module _ (integers : Integers) (line : ℕ → ℕ) (n : ℕ) where
     -- a statement with its labels
     pub read_sub : (inside : Bool) → State → Sub → Result (State × Statements) FunctionFault
     read_sub inside st (labelled x at b s) = new_label x at st >>= λ now. read_sub inside now s
-        >>= λ r. Ok (r.0, cons (label x (line at)) r.1)
+        >>= λ r. Ok (r.0, cons (label x.text (line at)) r.1)
     read_sub inside st (plain c) = read_core inside st c
 
     -- the statements of a block
     pub read_items : (inside : Bool) → State → Items → Result (State × Statements) FunctionFault
     read_items inside st no_items = Ok (st, nil)
     read_items inside st (tree.label x at b is) = new_label x at st >>= λ now. read_items inside now is
-        >>= λ r. Ok (r.0, cons (label x (line at)) r.1)
-    read_items inside st (tree.declaration a xs b is) = read_declarators st xs >>= λ r. read_items inside r.0 is
+        >>= λ r. Ok (r.0, cons (label x.text (line at)) r.1)
+    read_items inside st (tree.declaration t xs b is) = read_declarators st xs >>= λ r. read_items inside r.0 is
         >>= λ q. Ok (q.0, followed_by r.1 q.1)
     read_items inside st (item c is) = read_core inside st c >>= λ r. read_items inside r.0 is >>= λ q. Ok (q.0, followed_by r.1 q.1)

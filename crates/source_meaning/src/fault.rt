@@ -24,14 +24,17 @@ pub enum Limit {
 pub enum FunctionFault {
     /// A name is used where it is not known.
     UnknownName { at: u32 },
-    /// A parameter, a variable, an array or a label is declared a second time.
+    /// A variable, an array or a label is declared while it is known, or as another thing than before; or a constant is declared.
     NameTwice { at: u32 },
-    /// A variable is called or has an index, or an array is called or has none.
+    /// A variable is called or has an index, or an array is called or has none, or not as many as it is declared with; or a constant is
+    /// called, changed or has an index.
     WrongKind { at: u32 },
     /// An array has no element, or more than 2^31 - 1.
     Array { at: u32 },
     /// A number leaves its range.
     BigNumber { at: u32 },
+    /// A variable is stepped inside an expression.
+    SideEffect { at: u32 },
     /// The first token past a limit, or the first one of the statement that passes it.
     Limit { at: u32, which: Limit },
     /// A `break` or a `continue` stands in no loop's body.

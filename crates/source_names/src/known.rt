@@ -1,43 +1,54 @@
 //! What has been met of a function.
 
-ghost use Rattle.std.specs.Prelude.{◌≡◌, length, reverse, IfOk};
-ghost use Rattle.source_meaning.specs.Names.{start_state, variable_of, array_of, known, as_called, with_variable, with_array, closed};
+ghost use Rattle.std.specs.Prelude.{◌≡◌, ◌∷◌, ℕ, ℤ, length, map, reverse, nat_lt, Option, None, Ok, IfOk};
+ghost use Rattle.lang_tree.specs.declared.limits.TheConstants.{MOST_VARIABLES};
+ghost use Rattle.std.specs.Option.{option_map};
+ghost use Rattle.source_tree.specs.Extents.{extent_of};
+ghost use Rattle.source_meaning.specs.Names.{State, start_state, thing_of as spelled_thing, variable_of, array_of, as_called, fresh};
+ghost use Rattle.source_meaning.specs.Names.{with_variable, declared_number, fresh_array, with_array, closed};
+ghost use Rattle.source_meaning.specs.declared.fault.FunctionFault.TheVariants as fault;
+ghost use Rattle.source_meaning.specs.declared.fault.Limit.TheVariants as limit;
+ghost use Rattle.source_meaning.specs.Results.{provided};
+ghost use Rattle.source_meaning.specs.Arrays.{sized_by_name};
 ghost use Rattle.source_meaning.specs.Limits.{counted};
 ghost use Rattle.source_meaning.specs.Statements.{new_label};
-ghost use Rattle.source_meaning.specs.Walk.{variables_of};
-ghost use Rattle.source_names.specs.Gives.{Gives};
+ghost use Rattle.source_names.specs.Entries.{named, thing_of, again};
+ghost use Rattle.source_names.specs.Gives.{Gives, seen};
 
-use crate::entry::Thing;
+use crate::entry::{Kept, Thing};
 use crate::labels::Labels;
+use crate::sizes::sized;
 use crate::table::Table;
 use lang_tree::{MOST_VARIABLES, Name, Names};
 use source_meaning::{FunctionFault, Limit};
-use std::alloc::{AllocError, Global};
+use source_tree::Extent;
+use std::alloc::Global;
 use std::marker::Model;
 
 // The most statements of a program.
 const MOST_STATEMENTS: usize = 4096;
 
-/// What has been met of a function: its names with what they are and whether they are known here, its labels, and how many statements the
-/// program has (docs/MEANING.md, "Functions of C").
+/// What has been met of a function: its names with what they are and whether they are known here, its variables, its labels, and how many
+/// statements the program has (docs/MEANING.md, "Functions of C"). A name is given by its bytes, by the number that it stands for where it
+/// is a constant there, and by its place.
 #[derive(Drop)]
 pub struct Known {
     names: Table,
-    variables: u32,
+    variables: Vec<Name>,
     labels: Labels,
     count: usize,
 }
 
 impl Model for Known {
-    ghost use Rattle.std.specs.Prelude.{◌≤◌};
+    ghost use Rattle.std.specs.Prelude.{◌≤◌, length, reverse};
     ghost use Rattle.lang_tree.specs.declared.limits.TheConstants.{MOST_VARIABLES};
     ghost use Rattle.source_meaning.specs.Names.{State};
 
     ghost Value = { State };
 
-    ghost view = { λ k. record { names = k.names; variables = k.variables; labels = k.labels; count = k.count } };
+    ghost view = { λ k. record { names = k.names; variables = reverse k.variables.items; labels = k.labels; count = k.count } };
 
-    ghost invariant = { λ k. (k.variables ≤ MOST_VARIABLES) × (k.count ≤ 4096) };
+    ghost invariant = { λ k. (length k.variables.items ≤ MOST_VARIABLES) × (k.count ≤ 4096) };
 }
 
 impl Known {
@@ -47,92 +58,159 @@ impl Known {
     {
         Known {
             names: Table::new(alloc),
-            variables: 0,
+            variables: Vec::new(alloc),
             labels: Labels::new(alloc),
             count: 0,
         }
     }
 
-    /// How many variables have been declared.
-    pub fn variables(&self) -> u32
-        ensures { result ≡ self.now.variables }
+    /// What a name is, if it is known.
+    pub fn thing(&self, name: &[u8], value: Option<i64>) -> Option<Thing<'_>>
+        ensures { option_map thing_of result ≡ spelled_thing (named name.now value) self.now }
     {
-        self.variables
+        match value {
+            Some(number) => Some(Thing::Constant(number)),
+            None => self.names.known(name),
+        }
     }
 
     /// The variable with this name, which stands at `at`.
-    pub fn variable(&self, name: &[u8], at: u32) -> Result<u32, FunctionFault>
-        ensures { result ≡ variable_of name.now at self.now }
+    pub fn variable(&self, name: &[u8], value: Option<i64>, at: u32) -> Result<u32, FunctionFault>
+        ensures { result ≡ variable_of (named name.now value) at self.now }
     {
-        match self.names.known(name) {
+        match self.thing(name, value) {
             Some(Thing::Variable(number)) => Ok(number),
-            Some(Thing::Array(_)) => Err(FunctionFault::WrongKind { at }),
-            None => Err(FunctionFault::UnknownName { at }),
-        }
-    }
-
-    /// How many elements the array with this name has; the name stands at `at`.
-    pub fn array(&self, name: &[u8], at: u32) -> Result<u64, FunctionFault>
-        ensures { result ≡ array_of name.now at self.now }
-    {
-        match self.names.known(name) {
-            Some(Thing::Array(size)) => Ok(size),
-            Some(Thing::Variable(_)) => Err(FunctionFault::WrongKind { at }),
-            None => Err(FunctionFault::UnknownName { at }),
-        }
-    }
-
-    /// The name at `at` may be called: it is neither a variable nor an array that is known.
-    pub fn called(&self, name: &[u8], at: u32) -> Result<(), FunctionFault>
-        ensures { result ≡ as_called at (known name.now self.now.names) tt }
-    {
-        match self.names.known(name) {
             Some(_) => Err(FunctionFault::WrongKind { at }),
-            None => Ok(()),
+            None => Err(FunctionFault::UnknownName { at }),
         }
     }
 
-    /// Declares a variable, whose name stands at `at`. Past a fault nothing is known of what has been met; so below.
-    pub fn add_variable(&mut self, name: &Name, at: u32) -> Result<(), FunctionFault>
-        ensures { Gives (λ _. self.new) result (with_variable name.now at self.old) }
+    /// The extents of the array with this name, which has `count` indexes where it stands, at `at`.
+    pub fn array(
+        &self,
+        name: &[u8],
+        value: Option<i64>,
+        at: u32,
+        count: usize,
+    ) -> Result<&[Extent], FunctionFault>
+        ensures { seen (λ extents. map extent_of extents.now) result ≡ array_of (named name.now value) at count self.now }
     {
-        if self.names.is_declared(name.bytes()) {
+        match self.thing(name, value) {
+            Some(Thing::Array(extents)) if extents.len() == count => Ok(extents),
+            Some(_) => Err(FunctionFault::WrongKind { at }),
+            None => Err(FunctionFault::UnknownName { at }),
+        }
+    }
+
+    /// The name at `at` may be called: it is no variable and no array that is known, and no constant.
+    pub fn called(&self, name: &[u8], value: Option<i64>, at: u32) -> Result<(), FunctionFault>
+        ensures { result ≡ as_called at (spelled_thing (named name.now value) self.now) tt }
+    {
+        if self.thing(name, value).is_some() {
+            return Err(FunctionFault::WrongKind { at });
+        }
+        Ok(())
+    }
+
+    /// How many elements an array has by the constant with this name, which stands at `at`.
+    pub fn size(&self, name: &[u8], value: Option<i64>, at: u32) -> Result<Extent, FunctionFault>
+        ensures { seen extent_of result ≡ sized_by_name at (spelled_thing (named name.now value) self.now) }
+    {
+        match self.thing(name, value) {
+            Some(Thing::Constant(number)) => sized(number, at),
+            Some(_) => Err(FunctionFault::WrongKind { at }),
+            None => Err(FunctionFault::UnknownName { at }),
+        }
+    }
+
+    // What a name was declared as before, if it was, where it may be declared.
+    fn fresh(
+        &self,
+        name: &[u8],
+        value: Option<i64>,
+        at: u32,
+    ) -> Result<Option<Thing<'_>>, FunctionFault>
+        ensures { seen (option_map thing_of) result ≡ fresh (named name.now value) at self.now }
+    {
+        if value.is_some() {
             return Err(FunctionFault::NameTwice { at });
         }
-        if self.variables >= MOST_VARIABLES as u32 {
+        match self.names.find(name) {
+            Some(entry) if entry.is_known => Err(FunctionFault::NameTwice { at }),
+            Some(entry) => Ok(Some(entry.kept.thing())),
+            None => Ok(None),
+        }
+    }
+
+    // The number of the variable that a name was before, if it was one.
+    fn again(&self, name: &[u8], value: Option<i64>, at: u32) -> Result<Option<u32>, FunctionFault>
+        ensures { result ≡ again (named name.now value) at self.now }
+    {
+        match self.fresh(name, value, at)? {
+            None => Ok(None),
+            Some(Thing::Variable(number)) => Ok(Some(number)),
+            Some(_) => Err(FunctionFault::NameTwice { at }),
+        }
+    }
+
+    // The number of one variable more.
+    fn more(&mut self, name: &Name, at: u32) -> Result<u32, FunctionFault>
+        ensures { Gives {B = ℕ × State} (λ number. (number, self.new)) result (provided (nat_lt (length self.old.variables) MOST_VARIABLES)
+            (fault.Limit at limit.Variables)
+            (length self.old.variables, record self.old { variables = name.now ∷ self.old.variables })) }
+    {
+        let number = self.variables.len();
+        if number >= MOST_VARIABLES {
             return Err(FunctionFault::Limit {
                 at,
                 which: Limit::Variables,
             });
         }
-        self.names.add(name, Thing::Variable(self.variables))?;
-        self.variables += 1;
-        Ok(())
+        self.variables.push(name.again())?;
+        Ok(number as u32)
     }
 
-    /// Declares an array of so many elements, whose name stands at `at`, and the number at `place`.
-    pub fn add_array(
+    /// Declares a variable, whose name stands at `at`: one more, or the one that the name was before. Answers its number. Past a fault
+    /// nothing is known of what has been met; so below.
+    pub fn add_variable(
         &mut self,
         name: &Name,
+        value: Option<i64>,
         at: u32,
-        size: u64,
-        place: u32,
-    ) -> Result<(), FunctionFault>
-        ensures { Gives (λ _. self.new) result (with_array name.now at size place self.old) }
+    ) -> Result<u32, FunctionFault>
+        ensures known { Gives (λ _. self.new) result (with_variable (named name.now value) at self.old) }
+        ensures number { IfOk result (λ number. number ≡ declared_number self.new) }
     {
-        if self.names.is_declared(name.bytes()) {
-            return Err(FunctionFault::NameTwice { at });
+        let number = match self.again(name.bytes(), value, at)? {
+            Some(number) => number,
+            None => self.more(name, at)?,
+        };
+        self.names.add(name, Kept::Variable(number))?;
+        Ok(number)
+    }
+
+    /// The name at `at` may be declared as an array.
+    pub fn fresh_array(&self, name: &[u8], value: Option<i64>, at: u32) -> Result<(), FunctionFault>
+        ensures { seen (λ _. self.now) result ≡ fresh_array (named name.now value) at self.now }
+    {
+        match self.fresh(name, value, at)? {
+            None => Ok(()),
+            Some(Thing::Array(_)) => Ok(()),
+            Some(_) => Err(FunctionFault::NameTwice { at }),
         }
-        if size < 1 || size > i32::MAX as u64 {
-            return Err(FunctionFault::Array { at: place });
-        }
-        self.names.add(name, Thing::Array(size))?;
+    }
+
+    /// Declares an array with these extents of its indexes, whose name may be declared so.
+    pub fn add_array(&mut self, name: &Name, extents: Vec<Extent>) -> Result<(), FunctionFault>
+        ensures { Gives (λ _. self.new) result (Ok (with_array (named name.now None) (map extent_of extents.items) self.old)) }
+    {
+        self.names.add(name, Kept::Array(extents))?;
         Ok(())
     }
 
     /// Declares the label at `at`, which is a statement.
     pub fn add_label(&mut self, name: &Name, at: u32) -> Result<(), FunctionFault>
-        ensures { Gives (λ _. self.new) result (new_label name.now at self.old) }
+        ensures { (value : Option ℤ) → Gives (λ _. self.new) result (new_label (named name.now value) at self.old) }
     {
         if self.labels.contains(name.bytes()) {
             return Err(FunctionFault::NameTwice { at });
@@ -155,14 +233,14 @@ impl Known {
         Ok(())
     }
 
-    /// How many names have been declared.
+    /// How many declarations there have been.
     pub fn mark(&self) -> usize
         ensures { result ≡ length self.now.names }
     {
         self.names.len()
     }
 
-    /// Leaves a block before which so many names had been declared: those of it are known no longer.
+    /// Leaves a block before which there had been so many declarations: the names of it are known no longer.
     pub fn close(&mut self, before: usize)
         ensures { self.new ≡ closed before self.old }
     {
@@ -170,9 +248,9 @@ impl Known {
     }
 
     /// The variables in order of declaration.
-    pub fn into_names(self) -> Result<Names, AllocError>
-        ensures { IfOk result (λ names. names ≡ reverse (variables_of self.names)) }
+    pub fn into_names(self) -> Names
+        ensures { result ≡ reverse self.variables }
     {
-        self.names.into_names()
+        Names::new(self.variables)
     }
 }

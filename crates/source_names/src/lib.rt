@@ -5,7 +5,9 @@
 mod entry;
 mod known;
 mod labels;
+mod sizes;
 mod table;
 
 pub use entry::Thing;
 pub use known::Known;
+pub use sizes::sized;

@@ -1,18 +1,17 @@
 //! The names that were declared, with their places.
 
-ghost use Rattle.std.specs.Prelude.{◌≡◌, ◌-◌, ◌∷◌, [], length, false, true, reverse, is_some, OnOk, IfOk, ℕ};
+ghost use Rattle.std.specs.Prelude.{◌≡◌, ◌-◌, ◌∷◌, [], length, true, OnOk};
 ghost use Rattle.std.specs.Option.{option_map};
-ghost use Rattle.source_meaning.specs.Names.{Named, declared, known, forgotten};
-ghost use Rattle.source_meaning.specs.Walk.{variables_of};
-ghost use Rattle.source_names.specs.Entries.{thing_of, named_of, names_in};
+ghost use Rattle.source_meaning.specs.Names.{declared, known, forgotten};
+ghost use Rattle.source_names.specs.Entries.{thing_of, kept_of, named_of};
 
-use crate::entry::{Entry, Thing, forget};
+use crate::entry::{Entry, Kept, Thing, forget};
 use indexmap::IndexMap;
-use lang_tree::{Name, Names};
+use lang_tree::Name;
 use std::alloc::{AllocError, Global};
 use std::marker::Model;
 
-// Names that were declared, no two with one text, the last one first.
+// Names that were declared, the last one first, with the place of the last declaration of each text.
 #[derive(Drop)]
 pub(crate) struct Table {
     alloc: Global,
@@ -49,34 +48,27 @@ impl Table {
         self.list.len()
     }
 
-    // The name with this text.
-    fn find(&self, name: &[u8]) -> Option<&Entry>
+    // The last declaration of the name with this text.
+    pub fn find(&self, name: &[u8]) -> Option<&Entry>
         ensures { option_map (λ e. named_of e.now) result ≡ declared name.now self.now }
     {
         let place = *self.places.get(name)?;
         self.list.get(place as usize)
     }
 
-    pub fn is_declared(&self, name: &[u8]) -> bool
-        ensures { result ≡ is_some (declared name.now self.now) }
-    {
-        self.find(name).is_some()
-    }
-
     // What a name is that is known.
-    pub fn known(&self, name: &[u8]) -> Option<Thing>
+    pub fn known(&self, name: &[u8]) -> Option<Thing<'_>>
         ensures { option_map thing_of result ≡ known name.now self.now }
     {
         match self.find(name) {
-            Some(entry) if entry.is_known => Some(entry.thing),
+            Some(entry) if entry.is_known => Some(entry.kept.thing()),
             _ => None,
         }
     }
 
-    // One name more, which has not been declared.
-    pub fn add(&mut self, name: &Name, thing: Thing) -> Result<(), AllocError>
-        requires { is_some (declared name.now self.old) ≡ false }
-        ensures { OnOk result (self.new ≡ named_of (record { name = name.now; thing = thing; is_known = true }) ∷ self.old) }
+    // One declaration more.
+    pub fn add(&mut self, name: &Name, kept: Kept) -> Result<(), AllocError>
+        ensures { OnOk result (self.new ≡ (record { name = name.now; thing = kept_of kept; is_known = true }) ∷ self.old) }
     {
         if self.list.len() >= u32::MAX as usize {
             return Err(AllocError);
@@ -85,7 +77,7 @@ impl Table {
         let place = self.list.len() as u32;
         self.list.push(Entry {
             name: name.again(),
-            thing,
+            kept,
             is_known: true,
         })?;
         match self.places.insert(key, place) {
@@ -102,18 +94,5 @@ impl Table {
         ensures { self.new ≡ forgotten (length self.old - before) self.old }
     {
         forget(&mut self.list, before);
-    }
-
-    // The variables in order of declaration.
-    pub fn into_names(self) -> Result<Names, AllocError>
-        ensures { IfOk result (λ names. names ≡ reverse (variables_of self)) }
-    {
-        let mut names = Vec::new(self.alloc);
-        for entry in self.list {
-            if let Thing::Variable(_) = entry.thing {
-                names.push(entry.name)?;
-            }
-        }
-        Ok(Names::new(names))
     }
 }

@@ -1,3 +1,4 @@
+pub mod Counting
 pub mod Firsts
 pub mod Going
 pub mod Placing

@@ -1,3 +1,4 @@
+pub mod Brackets
 pub mod Marks
 pub mod Reading
 pub mod Answers

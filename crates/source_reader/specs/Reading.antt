@@ -1,5 +1,5 @@
 -- Where a reader is: the text, the tokens still to come, the number of the function's variables, and the integers by which it computes.
-use Rattle.std.specs.Prelude.{◌≡◌, ◌≤◌, ℕ, List, [], ◌∷◌, length}
+use Rattle.std.specs.Prelude.{◌≡◌, ◌≤◌, ℕ, ℤ, List, [], ◌∷◌, length, Option, None}
 use Rattle.base_integers.specs.declared.integers.Integers.{Integers}
 use Rattle.source_grammar.specs.Tokens.{Kind, a_name, a_number, other_sign, Token, token}
 
@@ -30,8 +30,13 @@ first_place (token k a ∷ ts) = a
 
 -- the bytes of a name
 abbrev pub name_in : Kind → List ℕ
-name_in (a_name x) = x
+name_in (a_name x) = x.text
 name_in k = []
+
+-- the number that a name stands for
+abbrev pub constant_in : Kind → Option ℤ
+constant_in (a_name x) = x.value
+constant_in k = None
 
 -- the value of a number
 abbrev pub number_in : Kind → ℕ

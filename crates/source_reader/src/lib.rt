@@ -2,6 +2,7 @@
 //! (docs/MEANING.md, "Functions of C").
 #![tactic(auto)]
 
+mod brackets;
 mod faults;
 mod mark;
 mod reader;

@@ -4,7 +4,7 @@ ghost use Rattle.std.specs.Prelude.{◌≡◌};
 ghost use Rattle.source_grammar.specs.Symbols.{symbol_kind};
 ghost use Rattle.source_reader.specs.Marks.{mark_in};
 
-use source_grammar::Symbol;
+use source_grammar::{Op, Symbol};
 
 /// A sign or a word that stands where the grammar asks for it.
 #[derive(Clone, Copy, Debug, PartialEq, Eq)]
@@ -31,6 +31,10 @@ pub enum Mark {
     Semicolon,
     /// `int`
     Int,
+    /// `const`
+    Const,
+    /// `*`
+    Star,
     /// `else`
     Else,
     /// `while`
@@ -53,6 +57,8 @@ pub(crate) fn mark_in(symbol: Symbol) -> Option<Mark>
         Symbol::Comma => Some(Mark::Comma),
         Symbol::Semicolon => Some(Mark::Semicolon),
         Symbol::Int => Some(Mark::Int),
+        Symbol::Const => Some(Mark::Const),
+        Symbol::Infix(Op::Times) => Some(Mark::Star),
         Symbol::Else => Some(Mark::Else),
         Symbol::While => Some(Mark::While),
         _ => None,

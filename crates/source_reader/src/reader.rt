@@ -1,35 +1,39 @@
 //! A reader of tokens.
 
-ghost use Rattle.std.specs.Prelude.{◌≡◌, ◌≤◌, ℕ, List, ◌∷◌, length, Some, IsTrue, MatchResult};
+ghost use Rattle.std.specs.Prelude.{◌≡◌, ◌≤◌, ◌++◌, ℕ, ℤ, pos, List, ◌∷◌, length, Option, Some, IsTrue, MatchResult};
 ghost use Rattle.base_limits.specs.declared.limits.TheConstants.{MOST_TEXT_BYTES};
 ghost use Rattle.lang_tokens.specs.Lines.{line_at};
 ghost use Rattle.lang_tree.specs.Word.{is_word};
-ghost use Rattle.source_grammar.specs.Tokens.{Token as Spelled, token, a_name};
+ghost use Rattle.source_grammar.specs.Tokens.{Name, Token as Spelled, token, a_name, left_bracket};
+ghost use Rattle.source_grammar.specs.Grammar.{Subscripts, spell_subscripts};
 ghost use Rattle.source_grammar.specs.Symbols.{symbol_kind};
 ghost use Rattle.source_grammar.specs.View.{plain_kind};
 ghost use Rattle.source_tokens.specs.View.{bytes_of, kind_of, tokens_of};
 ghost use Rattle.source_tokens.specs.Texts.{IsTokenIn, AreTokensIn};
+ghost use Rattle.source_meaning.specs.Expressions.{subscript_count};
 ghost use Rattle.source_reader.specs.Marks.{mark_in};
-ghost use Rattle.source_reader.specs.Reading.{behind_first, first_kind, first_place, name_in, number_in, passed};
+ghost use Rattle.source_reader.specs.Reading.{behind_first, constant_in, first_kind, first_place, name_in, number_in, passed};
 ghost use Rattle.source_reader.specs.declared.stop.Stop.TheVariants.{Unlike};
 
+use crate::brackets::{Brackets, bracket_in};
 use crate::mark::{Mark, mark_in};
 use crate::stop::Stop;
 use base_integers::Integers;
 use lang_tokens::{Kind, Token, line_of};
 use source_grammar::Symbol;
-use source_tokens::symbol_of;
+use source_tokens::{Definition, bytes_of, constant_of, symbol_of};
 use source_value::Site;
 use std::alloc::Global;
 use std::marker::Model;
 
-/// The tokens of a function that are still to come. Contracts see the text, these tokens as the grammar does, the number of the
-/// function's variables, and the integers by which it computes (`specs/Reading.antt`).
+/// The tokens of a function that are still to come. Contracts see the text, these tokens as the grammar does, with the numbers that names
+/// stand for, the number of the function's variables, and the integers by which it computes (`specs/Reading.antt`).
 #[derive(Drop)]
 pub struct Reader<'a> {
     alloc: Global,
     text: &'a [u8],
     rest: &'a [Token],
+    definitions: &'a [Definition],
     variables: u32,
     integers: Integers,
 }
@@ -45,7 +49,7 @@ impl<'a> Model for Reader<'a> {
 
     ghost view = { λ r. record {
       text = r.text.now;
-      ahead = tokens_of r.text.now r.rest.now;
+      ahead = tokens_of r.definitions.now r.text.now r.rest.now;
       variables = r.variables;
       integers = r.integers;
     } };
@@ -56,45 +60,51 @@ impl<'a> Model for Reader<'a> {
 // The bytes of a name; none of another token.
 fn name_of<'a>(text: &'a [u8], token: &Token) -> &'a [u8]
     requires { IsTokenIn text.now token.now }
-    ensures bytes { result.now ≡ name_in (kind_of (bytes_of text.now token.now) token.now.kind) }
-    ensures word { (x : List ℕ) → kind_of (bytes_of text.now token.now) token.now.kind ≡ a_name x → IsTrue (is_word x) }
+    ensures bytes { (value : Option ℤ) → result.now ≡ name_in (kind_of (bytes_of text.now token.now) value token.now.kind) }
+    ensures word { (value : Option ℤ) (x : Name) → kind_of (bytes_of text.now token.now) value token.now.kind ≡ a_name x
+        → IsTrue (is_word x.text) }
 {
     match token.kind {
-        Kind::Name => {
-            let from = token.at as usize;
-            &text[from..from + token.len as usize]
-        }
+        Kind::Name => bytes_of(text, token),
         _ => &[],
     }
 }
 
 // The value of a number; 0 of another token.
-fn value_of(token: &Token) -> u64
-    ensures { (bytes : List ℕ) → result ≡ number_in (kind_of bytes token.now.kind) }
+fn value_of(token: &Token) -> i64
+    ensures { (bytes : List ℕ) (value : Option ℤ) → result ≡ pos (number_in (kind_of bytes value token.now.kind)) }
 {
     match token.kind {
-        Kind::Number(number) if number >= 0 => number as u64,
+        Kind::Number(number) if number >= 0 => number,
         _ => 0,
     }
 }
 
 impl<'a> Reader<'a> {
-    /// Before the first of these tokens of a text, which are those of a function with so many variables that computes by these integers.
+    /// Before the first of these tokens of a text, which are those of a function with so many variables that computes by these integers,
+    /// where names are defined so, in the order of the text.
     pub fn new(
         alloc: Global,
         text: &'a [u8],
         tokens: &'a [Token],
+        definitions: &'a [Definition],
         variables: u32,
         integers: Integers,
     ) -> Self
         requires few { length text.now ≤ MOST_TEXT_BYTES }
         requires placed { AreTokensIn text.now tokens.now }
-        ensures { result ≡ record { text = text.now; ahead = tokens_of text.now tokens.now; variables = variables; integers = integers } }
+        ensures { result ≡ record {
+          text = text.now;
+          ahead = tokens_of definitions.now text.now tokens.now;
+          variables = variables;
+          integers = integers;
+        } }
     {
         Reader {
             alloc,
             text,
             rest: tokens,
+            definitions,
             variables,
             integers,
         }
@@ -172,7 +182,7 @@ impl<'a> Reader<'a> {
     /// The bytes of the name that comes next, which are a word of 1 to 32 bytes; none where no name does.
     pub fn name(&self) -> &'a [u8]
         ensures bytes { result.now ≡ name_in (first_kind self.now.ahead) }
-        ensures word { (x : List ℕ) (at : ℕ) (ts : List Spelled) → self.now.ahead ≡ token (a_name x) at ∷ ts → IsTrue (is_word x) }
+        ensures word { (x : Name) (at : ℕ) (ts : List Spelled) → self.now.ahead ≡ token (a_name x) at ∷ ts → IsTrue (is_word x.text) }
     {
         match self.rest {
             [] => &[],
@@ -180,14 +190,45 @@ impl<'a> Reader<'a> {
         }
     }
 
-    /// The value of the number that comes next, at most 2^63 - 1; 0 where no number does.
-    pub fn number(&self) -> u64
-        ensures { result ≡ number_in (first_kind self.now.ahead) }
+    /// The number that the name stands for that comes next; none where it is no constant, or no name comes next.
+    pub fn constant(&self) -> Option<i64>
+        ensures { result ≡ constant_in (first_kind self.now.ahead) }
+    {
+        match self.rest {
+            [] => None,
+            [first, ..] => match first.kind {
+                Kind::Name => constant_of(self.definitions, name_of(self.text, first), first.at),
+                _ => None,
+            },
+        }
+    }
+
+    /// The value of the number that comes next, at least 0; 0 where no number does.
+    pub fn number(&self) -> i64
+        ensures { result ≡ pos (number_in (first_kind self.now.ahead)) }
     {
         match self.rest {
             [] => 0,
             [first, ..] => value_of(first),
         }
+    }
+
+    /// How many indexes of an element come next, each in its brackets.
+    pub fn subscripts(&self) -> usize
+        ensures { (is : Subscripts) (ts : List Spelled) → self.now.ahead ≡ spell_subscripts is ++ ts
+            → (first_kind ts ≡ left_bracket → ⊥) → result ≡ subscript_count is }
+    {
+        let mut brackets = Brackets {
+            opened: 0,
+            depth: 0,
+        };
+        for token in self.rest {
+            match brackets.behind(bracket_in(symbol_of(token))) {
+                Some(next) => brackets = next,
+                None => return brackets.opened,
+            }
+        }
+        brackets.opened
     }
 
     /// Passes what comes next.

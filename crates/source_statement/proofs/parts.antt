@@ -1,4 +1,3 @@
-pub mod Pushed
 pub mod Read
 pub mod Starting
 pub mod Heads

@@ -11,7 +11,7 @@ use Rattle.source_core.specs.Core.{condition_of, changes_deeds, core_in}
 use Rattle.source_meaning.specs.Names.{State}
 use Rattle.source_reader.specs.Reading.{Reading, at_tokens}
 use Rattle.source_change.specs.Tests.{IsTest}
-use Rattle.source_statement.specs.Pushed.{WasPushed}
+use Rattle.source_change.specs.Pushed.{WasPushed}
 use Rattle.source_statement.specs.declared.head.Head.{Head}
 use Rattle.base_integers.specs.declared.integers.Integers.{Integers}
 
@@ -32,10 +32,6 @@ pub record WasBlock (integers : Integers) (n : ℕ) (rest : List Token) (old new
   pub known : met ≡ r.0
   pub block : made ≡ core_in integers n r.1
   pub reader : new ≡ at_tokens old rest
-
--- What is evaluated was counted, and stands behind what was there.
-abbrev pub WasEvaluated : (integers : Integers) (n : ℕ) (met : State) (before after : List Stmt) → State × Statements → Type 0
-WasEvaluated integers n known before after r = (known ≡ r.0) × WasPushed integers n before after r.1
 
 -- there is no fault
 abbrev pub no_fault : Result (Unit {0}) FunctionFault

@@ -1,4 +1,3 @@
-pub mod Pushed
 pub mod Onto
 pub mod Parts
 pub mod Whole

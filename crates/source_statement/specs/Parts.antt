@@ -1,6 +1,6 @@
 -- Parts of statements, each with what it may be followed by, and what it is.
 use Rattle.std.specs.Prelude.{◌≡◌, ◌+◌, ℕ, Bool, List, ◌∷◌, Result, Ok}
-use Rattle.source_grammar.specs.Tokens.{Kind, else_word, Token, token}
+use Rattle.source_grammar.specs.Tokens.{Name, Kind, else_word, Token, token}
 use Rattle.source_grammar.specs.Grammar.{Expr, Optional, Updates, ForFirst, Sub, Core, Items, GoodSub, GoodCore, GoodDeclarators, Ending}
 use Rattle.source_grammar.specs.Grammar.{shut, ending_sub, no_items, item}
 use Rattle.source_grammar.specs.Grammar as tree
@@ -58,28 +58,28 @@ module _ (integers : Integers) (line : ℕ → ℕ) (n : ℕ) where
       >>= λ now. read_updates integers line n now us >>= λ u. Ok (u.0, r.1, x, u.1)
 
   -- a label
-  abbrev pub read_label : State → List ℕ → (at : ℕ) → Result (State × Statements) FunctionFault
-  read_label st x at = new_label x at st >>= λ now. Ok (now, one (label x (line at)))
+  abbrev pub read_label : State → Name → (at : ℕ) → Result (State × Statements) FunctionFault
+  read_label st x at = new_label x at st >>= λ now. Ok (now, one (label x.text (line at)))
 
   -- one thing of a block, before others
   abbrev pub read_one : (inside : Bool) → State → Items → Result (State × Statements) FunctionFault
   read_one inside st no_items = Ok (st, nil)
   read_one inside st (tree.label x at b is) = read_label st x at
-  read_one inside st (tree.declaration a xs b is) = read_declarators integers line n st xs
+  read_one inside st (tree.declaration t xs b is) = read_declarators integers line n st xs
   read_one inside st (item c is) = read_core integers line n inside st c
 
 -- those behind it
 abbrev pub others : Items → Items
 others no_items = no_items
 others (tree.label x at b is) = is
-others (tree.declaration a xs b is) = is
+others (tree.declaration t xs b is) = is
 others (item c is) = is
 
 -- it is good
 abbrev pub GoodOne : Items → Type 0
 GoodOne no_items = ⊥
 GoodOne (tree.label x at b is) = Unit {0}
-GoodOne (tree.declaration a xs b is) = GoodDeclarators xs
+GoodOne (tree.declaration t xs b is) = GoodDeclarators xs
 GoodOne (item c is) = GoodCore c
 
 -- a statement has no statements in it

@@ -19,7 +19,9 @@ pub data Begins : Type 0 where
   a_semicolon : Begins
   a_name : Begins
   a_step : Begins
-  an_int : Begins
+  a_type : Begins
+  a_star : Begins
+  a_bracket : Begins
   a_void : Begins
   an_else : Begins
   a_colon : Begins
@@ -42,7 +44,10 @@ start_in (g.demand_word k) = a_demand k
 start_in g.semicolon = a_semicolon
 start_in (g.a_name x) = a_name
 start_in (g.step_sign d) = a_step
-start_in g.int_word = an_int
+start_in g.int_word = a_type
+start_in g.const_word = a_type
+start_in (g.infix_sign g.times_op) = a_star
+start_in g.left_bracket = a_bracket
 start_in g.void_word = a_void
 start_in g.else_word = an_else
 start_in g.colon = a_colon
@@ -65,7 +70,9 @@ start_of (start.Demand k) = a_demand (demand_of k)
 start_of start.Semicolon = a_semicolon
 start_of start.Name = a_name
 start_of start.Step = a_step
-start_of start.Int = an_int
+start_of start.Type = a_type
+start_of start.Star = a_star
+start_of start.Bracket = a_bracket
 start_of start.Void = a_void
 start_of start.Else = an_else
 start_of start.Colon = a_colon
@@ -79,3 +86,13 @@ start_of start.Other = another
 abbrev pub is_closing : Begins → Bool
 is_closing a_closing = true
 is_closing b = false
+
+-- whether a token of this kind is `const`
+abbrev pub is_const : Kind → Bool
+is_const g.const_word = true
+is_const k = false
+
+-- whether a token of this kind is a `]`
+abbrev pub closes : Kind → Bool
+closes g.right_bracket = true
+closes k = false

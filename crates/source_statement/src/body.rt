@@ -8,7 +8,7 @@ ghost use Rattle.source_grammar.proofs.grammar.Follow.{AfterCore};
 ghost use Rattle.source_meaning.specs.Statements.{read_core, read_sub};
 ghost use Rattle.source_reader.specs.Answers.{Answers};
 ghost use Rattle.source_reader.specs.Reading.{first_kind};
-ghost use Rattle.source_change.specs.Tests.{WasRead};
+ghost use Rattle.source_change.specs.Tests.{WasRead, name_of};
 ghost use Rattle.source_statement.specs.Headed.{WasBlock};
 ghost use Rattle.source_statement.specs.Onto.{onto_core, onto_sub};
 ghost use Rattle.source_statement.specs.Parts.{Other, onto_other, GoodOther, AfterOther, read_label, read_other};
@@ -33,7 +33,7 @@ pub(crate) fn label(
     ensures reads { (b : ℕ) (rest : List Token) → reader.old.ahead ≡ token colon b ∷ rest
         → Answers (λ _ r. WasRead reader.old.integers reader.old.variables rest reader.old reader.new
         known.new out.old.items out.new.items r) result
-        (read_label reader.old.integers (line_at reader.old.text) reader.old.variables known.old first.name first.at) }
+        (read_label reader.old.integers (line_at reader.old.text) reader.old.variables known.old (name_of first) first.at) }
     ensures shorter { OnOk result (length reader.new.ahead < length reader.old.ahead) }
 {
     reader.take(Mark::Colon)?;

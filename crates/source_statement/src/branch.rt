@@ -12,7 +12,7 @@ ghost use Rattle.source_meaning.specs.Statements.{one};
 ghost use Rattle.source_reader.specs.Answers.{Answers};
 ghost use Rattle.source_reader.specs.Reading.{first_kind};
 ghost use Rattle.source_change.specs.Tests.{IsTest, WasRead};
-ghost use Rattle.source_statement.specs.Pushed.{WasPushed};
+ghost use Rattle.source_change.specs.Pushed.{WasPushed};
 ghost use Rattle.source_statement.specs.Onto.{onto_sub};
 ghost use Rattle.source_statement.specs.Parts.{Other, onto_other, GoodOther, AfterOther, read_branch};
 

@@ -10,16 +10,15 @@ ghost use Rattle.source_core.specs.Core.{core_in};
 ghost use Rattle.source_meaning.specs.Limits.{counted};
 ghost use Rattle.source_meaning.specs.Statements.{call_of, is_end, is_error, read_core};
 ghost use Rattle.source_reader.specs.Answers.{Answers};
-ghost use Rattle.source_change.specs.Tests.{WasRead};
-ghost use Rattle.source_statement.specs.Pushed.{WasPushed};
+ghost use Rattle.source_change.specs.Tests.{WasRead, name_of};
+ghost use Rattle.source_change.specs.Pushed.{WasPushed};
 ghost use Rattle.lang_tree.specs.View.{statement_of};
 ghost use Rattle.source_tree.specs.Statements.{never};
 ghost use Rattle.source_core.specs.Core as core;
 ghost use Rattle.source_core.specs.Core.{core_of};
 
-use crate::jump::push_evaluated;
 use lang_tree::{Check, CheckKind, Coeffs, Cond, Form, Rel, Stmt};
-use source_change::Named;
+use source_change::{Named, push_evaluated};
 use source_expression::arguments;
 use source_names::Known;
 use source_reader::{Mark, Reader, Stop};
@@ -64,7 +63,7 @@ fn push_call(
     first: &Named,
     out: &mut Vec<Stmt>,
 ) -> Result<(), Stop>
-    ensures { let after = call_of first.now.name first.now.at (line_at reader.now.text first.now.at) in
+    ensures { let after = call_of (name_of first.now) first.now.at (line_at reader.now.text first.now.at) in
         Answers (λ _ st. (known.new ≡ st) × WasPushed reader.now.integers reader.now.variables out.old.items out.new.items after)
         result (counted first.now.at (nodes_in (core_in reader.now.integers reader.now.variables after)) known.old) }
 {
@@ -95,11 +94,11 @@ pub(crate) fn call(
         → Answers (λ _ r. WasRead reader.old.integers reader.old.variables rest reader.old reader.new
         known.new out.old.items out.new.items r)
         result (read_core reader.old.integers (line_at reader.old.text) reader.old.variables inside known.old
-        (calls first.now.name first.now.at b es c d)) }
+        (calls (name_of first.now) first.now.at b es c d)) }
     ensures shorter { OnOk result (length reader.new.ahead ≤ length reader.old.ahead) }
 {
     reader.skip();
-    known.called(first.name.bytes(), first.at)?;
+    known.called(first.name.bytes(), first.value, first.at)?;
     let site = reader.site(first.at);
     let all = arguments(reader, known, site, site.variables)?;
     reader.take(Mark::RightParen)?;

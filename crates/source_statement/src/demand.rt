@@ -12,7 +12,7 @@ ghost use Rattle.source_core.specs.Core.{condition_of, core_of};
 ghost use Rattle.source_meaning.specs.Statements.{demand_of as node_of, one, read_core};
 ghost use Rattle.source_reader.specs.Answers.{Answers};
 ghost use Rattle.source_change.specs.Tests.{IsTest, WasRead};
-ghost use Rattle.source_statement.specs.Pushed.{WasPushed};
+ghost use Rattle.source_change.specs.Pushed.{WasPushed};
 
 use lang_tree::{Check, CheckKind, Stmt};
 use source_change::{Test, parenthesised, push_deeds};

@@ -18,6 +18,7 @@ use lang_tree::{Block, Names, Program, Stmt};
 use source_meaning::{FunctionFault, functions_are_within_limits, names_are_resolved};
 use source_names::Known;
 use source_reader::{Mark, Reader, Stop};
+use source_tokens::Definition;
 use std::alloc::Global;
 
 // The variables and the statements of a function.
@@ -38,31 +39,33 @@ fn read_whole(reader: &mut Reader) -> Result<Whole, Stop>
     parameters(reader, &mut known, &mut list)?;
     reader.take(Mark::LeftBrace)?;
     items(reader, &mut known, false, &mut list)?;
-    let names = known.into_names()?;
+    let names = known.into_names();
     if names.as_slice().is_empty() {
         return Err(Stop::Fault(FunctionFault::NoVariables));
     }
     Ok(Whole { names, list })
 }
 
-/// The function that these tokens of a text are, as a program, or its first fault; `variables` is how many variables it declares, at most
-/// `MOST_VARIABLES`, and `integers` those by which it computes (docs/MEANING.md, "Functions of C"; faults: docs/FORMATS.md, "Functions").
+/// The function that these tokens of a text are, as a program, or its first fault; `constants` are the definitions of names outside of it,
+/// in the order of the text, `variables` is how many variables it declares, at most `MOST_VARIABLES`, and `integers` those by which it
+/// computes (docs/MEANING.md, "Functions of C"; faults: docs/FORMATS.md, "Functions").
 pub fn function(
     alloc: Global,
     text: &[u8],
     tokens: &[Token],
+    constants: &[Definition],
     variables: u32,
     integers: Integers,
 ) -> Result<Program, Stop>
     requires few { length text.now ≤ MOST_TEXT_BYTES }
     requires placed { AreTokensIn text.now tokens.now }
-    requires read { (f : Function) × Reads (tokens_of text.now tokens.now) f × (variables ≡ width_of f) }
-    ensures { (f : Function) → Reads (tokens_of text.now tokens.now) f → variables ≡ width_of f
+    requires read { (f : Function) × Reads (tokens_of constants.now text.now tokens.now) f × (variables ≡ width_of f) }
+    ensures { (f : Function) → Reads (tokens_of constants.now text.now tokens.now) f → variables ≡ width_of f
         → Answers (IsProgram integers) result (walk integers (line_at text.now) f) }
 {
     functions_are_within_limits();
     names_are_resolved();
-    let mut reader = Reader::new(alloc, text, tokens, variables, integers);
+    let mut reader = Reader::new(alloc, text, tokens, constants, variables, integers);
     let whole = read_whole(&mut reader)?;
     Ok(Program {
         names: whole.names,

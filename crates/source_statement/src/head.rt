@@ -15,6 +15,7 @@ ghost use Rattle.source_statement.specs.Onto.{onto_first, onto_optional};
 ghost use Rattle.source_statement.specs.Parts.{read_head};
 ghost use Rattle.source_statement.specs.Headed.{WasHeaded};
 
+use crate::parameters::pass_type;
 use crate::starts::{Start, coming};
 use lang_tree::{Coeffs, Cond, Deed, Form, Rel, Stmt};
 use source_change::{Test, declarators, push_deeds, read_test, updates};
@@ -38,8 +39,8 @@ fn first(reader: &mut Reader, known: &mut Known, out: &mut Vec<Stmt>) -> Result<
     ensures shorter { OnOk result (length reader.new.ahead ≤ length reader.old.ahead) }
 {
     match coming(reader) {
-        Start::Int => {
-            reader.skip();
+        Start::Type => {
+            pass_type(reader);
             declarators(reader, known, out)
         }
         _ => {

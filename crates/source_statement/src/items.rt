@@ -2,16 +2,17 @@
 
 ghost use Rattle.std.specs.Prelude.{◌≡◌, ◌<◌, ◌≤◌, ◌∷◌, ℕ, Bool, List, length, OnOk};
 ghost use Rattle.lang_tokens.specs.Lines.{line_at};
-ghost use Rattle.source_grammar.specs.Tokens.{Token, token, int_word, semicolon, right_brace};
-ghost use Rattle.source_grammar.specs.Grammar.{Items, GoodItems, block, Declarators, GoodDeclarators};
+ghost use Rattle.source_grammar.specs.Tokens.{Token, token, semicolon, right_brace};
+ghost use Rattle.source_grammar.specs.Grammar.{Items, GoodItems, block, IntType, Declarators, GoodDeclarators};
 ghost use Rattle.source_meaning.specs.Statements.{read_core, read_items, read_declarators};
 ghost use Rattle.source_change.specs.Onto.{onto_declarators};
 ghost use Rattle.source_reader.specs.Answers.{Answers};
 ghost use Rattle.source_change.specs.Tests.{WasRead};
-ghost use Rattle.source_statement.specs.Onto.{onto_core, onto_items};
+ghost use Rattle.source_statement.specs.Onto.{onto_core, onto_items, onto_type};
 ghost use Rattle.source_statement.specs.Parts.{GoodOne, others, read_one};
 
 use crate::body::{core, label};
+use crate::parameters::pass_type;
 use crate::simple::named_statement;
 use crate::starts::{Start, coming, is_closing};
 use lang_tree::Stmt;
@@ -19,16 +20,16 @@ use source_change::{declarators, take_name};
 use source_names::Known;
 use source_reader::{Mark, Reader, Stop};
 
-// The names that are declared behind an `int`, and their `;`.
+// A declaration and its `;`.
 fn declaration(reader: &mut Reader, known: &mut Known, out: &mut Vec<Stmt>) -> Result<(), Stop>
-    ensures reads { (a : ℕ) (xs : Declarators) (b : ℕ) (rest : List Token) → GoodDeclarators xs
-        → reader.old.ahead ≡ token int_word a ∷ onto_declarators xs (token semicolon b ∷ rest)
+    ensures reads { (t : IntType) (xs : Declarators) (b : ℕ) (rest : List Token) → GoodDeclarators xs
+        → reader.old.ahead ≡ onto_type t (onto_declarators xs (token semicolon b ∷ rest))
         → Answers (λ _ r. WasRead reader.old.integers reader.old.variables rest reader.old reader.new
         known.new out.old.items out.new.items r)
         result (read_declarators reader.old.integers (line_at reader.old.text) reader.old.variables known.old xs) }
     ensures shorter { OnOk result (length reader.new.ahead < length reader.old.ahead) }
 {
-    reader.skip();
+    pass_type(reader);
     declarators(reader, known, out)?;
     reader.take(Mark::Semicolon)?;
     Ok(())
@@ -51,7 +52,7 @@ fn item(
     ensures shorter { OnOk result (length reader.new.ahead < length reader.old.ahead) }
 {
     match coming(reader) {
-        Start::Int => declaration(reader, known, out),
+        Start::Type => declaration(reader, known, out),
         Start::Name => {
             let first = take_name(reader)?;
             match coming(reader) {

@@ -7,26 +7,21 @@ ghost use Rattle.lang_tree.specs.View.{statement_of};
 ghost use Rattle.source_grammar.specs.Symbols.{jump_of};
 ghost use Rattle.source_grammar.specs.Tokens.{Token, token, jump_word, return_word, semicolon};
 ghost use Rattle.source_grammar.specs.Grammar.{Optional, GoodOptional, jumps, returns};
-ghost use Rattle.source_tree.specs.Statements.{Change, evaluates};
-ghost use Rattle.source_tree.specs.Expressions.{Expressions};
 ghost use Rattle.source_core.specs.Core.{core_of, one};
-ghost use Rattle.source_core.specs.Elaborated.{evaluated};
-ghost use Rattle.source_meaning.specs.Statements.{jump_of as node_of, read_core, read_returned, read_evaluated};
+ghost use Rattle.source_meaning.specs.Statements.{jump_of as node_of, read_core, read_returned};
 ghost use Rattle.source_reader.specs.Answers.{Answers};
-ghost use Rattle.source_value.specs.Stands.{StandsEvaluated};
 ghost use Rattle.source_change.specs.Tests.{WasRead};
-ghost use Rattle.source_statement.specs.Headed.{WasEvaluated};
 ghost use Rattle.source_statement.specs.Onto.{onto_optional};
 
 use crate::starts::{Start, coming};
 use lang_tree::Stmt;
-use source_change::{evaluated, push_deeds};
+use source_change::push_evaluated;
 use source_expression::expression;
 use source_grammar::Jump;
 use source_meaning::FunctionFault;
 use source_names::Known;
 use source_reader::{Mark, Reader, Stop};
-use source_value::{Evaluated, Site};
+use source_value::Evaluated;
 
 fn jump_node(jump: Jump, line: u32) -> Stmt
     ensures { (integers : Integers) (n : ℕ) → one (statement_of result) ≡ core_of integers n (node_of (jump_of jump) line) }
@@ -59,25 +54,6 @@ pub(crate) fn jump(
     known.count(at, 1)?;
     reader.take(Mark::Semicolon)?;
     out.push(jump_node(jump, reader.line(at)))?;
-    Ok(())
-}
-
-// What the statement that begins at `at` evaluates, without use of its value.
-pub(crate) fn push_evaluated(
-    known: &mut Known,
-    site: Site,
-    at: u32,
-    all: Evaluated,
-    out: &mut Vec<Stmt>,
-) -> Result<(), Stop>
-    ensures { (line : ℕ → ℕ) (es : Expressions) → site.line ≡ line at
-        → StandsEvaluated site.variables all (evaluated site.integers (line at) es site.variables)
-        → Answers (λ _ r. WasEvaluated site.integers site.variables known.new out.old.items out.new.items r) result
-        (read_evaluated site.integers line site.variables known.old at (evaluates es (line at))) }
-{
-    let deeds = evaluated(site, at, all)?;
-    known.count(at, deeds.len())?;
-    push_deeds(out, deeds)?;
     Ok(())
 }
 

@@ -9,7 +9,7 @@ ghost use Rattle.source_grammar.specs.Grammar.{Core, GoodCore, Update, GoodUpdat
 ghost use Rattle.source_core.specs.Core.{followed_by, behind};
 ghost use Rattle.source_meaning.specs.Statements.{read_core};
 ghost use Rattle.source_reader.specs.Answers.{Answers};
-ghost use Rattle.source_change.specs.Tests.{WasRead};
+ghost use Rattle.source_change.specs.Tests.{WasRead, name_of};
 ghost use Rattle.source_statement.specs.Onto.{onto_core};
 ghost use Rattle.source_statement.specs.Headed.{no_fault};
 ghost use Rattle.source_statement.specs.Parts.{IsSimple};
@@ -46,7 +46,7 @@ pub(crate) fn named_statement(
     out: &mut Vec<Stmt>,
 ) -> Result<(), Stop>
     ensures reads { (inside : Bool) (c : Core) (rest : List Token) → GoodCore c
-        → token (a_name first.now.name) first.now.at ∷ reader.old.ahead ≡ onto_core c rest
+        → token (a_name (name_of first.now)) first.now.at ∷ reader.old.ahead ≡ onto_core c rest
         → Answers (λ _ r. WasRead reader.old.integers reader.old.variables rest reader.old reader.new
         known.new out.old.items out.new.items r)
         result (read_core reader.old.integers (line_at reader.old.text) reader.old.variables inside known.old c) }

@@ -2,10 +2,10 @@
 
 ghost use Rattle.std.specs.Prelude.{◌≡◌};
 ghost use Rattle.source_grammar.specs.Symbols.{symbol_kind};
-ghost use Rattle.source_reader.specs.Reading.{first_kind};
-ghost use Rattle.source_statement.specs.Starts.{is_closing, start_in, start_of};
+ghost use Rattle.source_reader.specs.Reading.{behind_first, first_kind};
+ghost use Rattle.source_statement.specs.Starts.{closes, is_closing, is_const, start_in, start_of};
 
-use source_grammar::{Demand, Jump, Symbol};
+use source_grammar::{Demand, Jump, Op, Symbol};
 use source_reader::Reader;
 
 // What comes next, as far as statements ask.
@@ -22,7 +22,9 @@ pub(crate) enum Start {
     Semicolon,
     Name,
     Step,
-    Int,
+    Type,
+    Star,
+    Bracket,
     Void,
     Else,
     Colon,
@@ -48,7 +50,9 @@ fn start_in(symbol: Symbol) -> Start
         Symbol::Semicolon => Start::Semicolon,
         Symbol::Name => Start::Name,
         Symbol::Step(_) => Start::Step,
-        Symbol::Int => Start::Int,
+        Symbol::Int | Symbol::Const => Start::Type,
+        Symbol::Infix(Op::Times) => Start::Star,
+        Symbol::LeftBracket => Start::Bracket,
         Symbol::Void => Start::Void,
         Symbol::Else => Start::Else,
         Symbol::Colon => Start::Colon,
@@ -72,4 +76,30 @@ pub(crate) fn is_closing(reader: &Reader) -> bool
     ensures { result ≡ is_closing (start_in (first_kind reader.now.ahead)) }
 {
     matches!(coming(reader), Start::Closing)
+}
+
+fn is_const(symbol: Symbol) -> bool
+    ensures { result ≡ is_const (symbol_kind symbol) }
+{
+    matches!(symbol, Symbol::Const)
+}
+
+// Whether `const` comes next.
+pub(crate) fn has_const(reader: &Reader) -> bool
+    ensures { result ≡ is_const (first_kind reader.now.ahead) }
+{
+    is_const(reader.symbol())
+}
+
+fn closes(symbol: Symbol) -> bool
+    ensures { result ≡ closes (symbol_kind symbol) }
+{
+    matches!(symbol, Symbol::RightBracket)
+}
+
+// Whether the brackets that come next, if some do, are empty: a `]` comes behind what comes next.
+pub(crate) fn is_empty(reader: &Reader) -> bool
+    ensures { result ≡ closes (first_kind (behind_first reader.now.ahead)) }
+{
+    closes(reader.second())
 }

@@ -1,8 +1,7 @@
 -- Tokens of a text, and which of them spell names.
 use Rattle.std.specs.Prelude.{◌≤◌, ◌+◌, ℕ, List, [], ◌∷◌, length}
-use Rattle.lang_tokens.specs.declared.word.Word.{Word}
-use Rattle.lang_tokens.specs.declared.word.Word.TheVariants.{Main}
-use Rattle.lang_tokens.specs.declared.token.Kind as lex_kind
+use Rattle.lang_tokens.specs.declared.token.Aside.TheVariants as aside
+use Rattle.lang_tokens.specs.declared.token.Kind as kind
 use Rattle.lang_tokens.specs.declared.token.Token.{Token}
 use Rattle.lang_tokens.specs.Lexemes.{IsToken}
 use Rattle.source_tokens.specs.View.{bytes_of}
@@ -17,15 +16,10 @@ abbrev pub AreTokensIn : (text : List ℕ) → List Token → Type 0
 AreTokensIn text [] = Unit {0}
 AreTokensIn text (t ∷ ts) = IsTokenIn text t × AreTokensIn text ts
 
--- the word is `main`
-abbrev pub IsMain : Word → Type 0
-IsMain Main = Unit {0}
-IsMain word = ⊥
-
--- a token of this kind is the name of a function: a name, or `main`
-abbrev pub IsNaming : lex_kind.Kind → Type 0
-IsNaming lex_kind.TheVariants.Name = Unit {0}
-IsNaming (lex_kind.TheVariants.Word word) = IsMain word
-IsNaming (lex_kind.TheVariants.Number n) = ⊥
-IsNaming (lex_kind.TheVariants.Sign sign) = ⊥
-IsNaming lex_kind.TheVariants.End = ⊥
+-- a token of this kind is a word of at most 32 bytes: a name, or reserved
+abbrev pub IsNaming : kind.Kind → Type 0
+IsNaming kind.TheVariants.Name = Unit {0}
+IsNaming (kind.TheVariants.Word word) = Unit {0}
+IsNaming (kind.TheVariants.Aside aside.Name) = Unit {0}
+IsNaming (kind.TheVariants.Aside (aside.Word word)) = Unit {0}
+IsNaming sort = ⊥

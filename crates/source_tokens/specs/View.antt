@@ -1,5 +1,5 @@
 -- What the tokens of a text are to the grammar of functions and to the division of a file into items.
-use Rattle.std.specs.Prelude.{◌+◌, ℕ, ℤ, pos, negsuc, List, map, slice_range}
+use Rattle.std.specs.Prelude.{◌+◌, ℕ, ℤ, pos, negsuc, List, map, slice_range, Option}
 use Rattle.source_grammar.specs.Tokens as g
 use Rattle.source_grammar.specs.Tokens.{Kind, Token}
 use Rattle.source_items.specs.declared.mark.Bracket.TheVariants.{Round, Square, Curly}
@@ -9,6 +9,8 @@ use Rattle.lang_tokens.specs.declared.word.Word as lex_word
 use Rattle.lang_tokens.specs.declared.sign.Sign as lex_sign
 use Rattle.lang_tokens.specs.declared.token.Kind as lex_kind
 use Rattle.lang_tokens.specs.declared.token.Token as lex_token
+use Rattle.source_tokens.specs.declared.definition.Definition.{Definition}
+use Rattle.source_tokens.specs.Constants.{constant_at}
 
 -- what a sign is to the grammar
 abbrev pub sign_kind : lex_sign.Sign → Kind
@@ -53,6 +55,7 @@ word_kind lex_word.TheVariants.Main = g.main_word
 word_kind lex_word.TheVariants.Static = g.storage_word
 word_kind lex_word.TheVariants.Inline = g.storage_word
 word_kind lex_word.TheVariants.Extern = g.storage_word
+word_kind lex_word.TheVariants.Const = g.const_word
 word_kind lex_word.TheVariants.If = g.if_word
 word_kind lex_word.TheVariants.Else = g.else_word
 word_kind lex_word.TheVariants.While = g.while_word
@@ -74,25 +77,27 @@ abbrev pub literal : ℤ → ℕ
 literal (pos n) = n
 literal (negsuc n) = 0
 
--- what a token with these bytes is to the grammar
-abbrev pub kind_of : List ℕ → lex_kind.Kind → Kind
-kind_of bytes (lex_kind.TheVariants.Word w) = word_kind w
-kind_of bytes lex_kind.TheVariants.Name = g.a_name bytes
-kind_of bytes (lex_kind.TheVariants.Number n) = g.a_number (literal n)
-kind_of bytes (lex_kind.TheVariants.Sign s) = sign_kind s
-kind_of bytes lex_kind.TheVariants.End = g.other_sign
+-- what a token with these bytes, for which a name may stand as a number, is to the grammar
+abbrev pub kind_of : List ℕ → Option ℤ → lex_kind.Kind → Kind
+kind_of bytes value (lex_kind.TheVariants.Word w) = word_kind w
+kind_of bytes value lex_kind.TheVariants.Name = g.a_name (record { text = bytes; value = value })
+kind_of bytes value (lex_kind.TheVariants.Number n) = g.a_number (literal n)
+kind_of bytes value (lex_kind.TheVariants.Sign s) = sign_kind s
+kind_of bytes value _ = g.other_sign
 
 -- the bytes of a token of this text
 abbrev pub bytes_of : List ℕ → lex_token.Token → List ℕ
 bytes_of text t = slice_range text t.at (t.at + t.len)
 
--- a token of this text
-abbrev pub token_of : List ℕ → lex_token.Token → Token
-token_of text t = g.token (kind_of (bytes_of text t) t.kind) t.at
+-- by these definitions, in the order of the text
+module _ (constants : List Definition) where
+  -- a token of this text
+  abbrev pub token_of : List ℕ → lex_token.Token → Token
+  token_of text t = let bytes = bytes_of text t in g.token (kind_of bytes (constant_at constants bytes t.at) t.kind) t.at
 
--- the tokens of this text
-abbrev pub tokens_of : List ℕ → List lex_token.Token → List Token
-tokens_of text ts = map (token_of text) ts
+  -- the tokens of this text
+  abbrev pub tokens_of : List ℕ → List lex_token.Token → List Token
+  tokens_of text ts = map (token_of text) ts
 
 -- what a sign is to the division of a file
 abbrev pub sign_mark : lex_sign.Sign → Mark
@@ -126,9 +131,8 @@ abbrev pub mark_of : lex_token.Token → Mark
 mark_of t = elim t.kind [
   | lex_kind.TheVariants.Word w ↦ word_mark w
   | lex_kind.TheVariants.Name ↦ mark.Name
-  | lex_kind.TheVariants.Number n ↦ mark.Other
   | lex_kind.TheVariants.Sign s ↦ sign_mark s
-  | lex_kind.TheVariants.End ↦ mark.Other
+  | _ ↦ mark.Other
 ]
 
 -- what tokens are to it

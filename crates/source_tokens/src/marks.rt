@@ -46,9 +46,8 @@ pub fn mark_of(token: &Token) -> Mark
     match token.kind {
         Kind::Word(word) => word_mark(word),
         Kind::Name => Mark::Name,
-        Kind::Number(_) => Mark::Other,
         Kind::Sign(sign) => sign_mark(sign),
-        Kind::End => Mark::Other,
+        _ => Mark::Other,
     }
 }
 

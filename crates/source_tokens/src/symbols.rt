@@ -1,8 +1,9 @@
 //! Tokens as the grammar of functions sees them.
 
-ghost use Rattle.std.specs.Prelude.{◌≡◌, ℕ, List, IfOk};
+ghost use Rattle.std.specs.Prelude.{◌≡◌, ℕ, ℤ, List, Option, IfOk};
 ghost use Rattle.source_grammar.specs.Symbols.{symbol_kind};
 ghost use Rattle.source_grammar.specs.View.{plain_kind, Are};
+ghost use Rattle.source_tokens.specs.declared.definition.Definition.{Definition};
 ghost use Rattle.source_tokens.specs.View.{kind_of, sign_kind, word_kind, tokens_of};
 
 use lang_tokens::{Kind, Sign, Token, Word};
@@ -56,6 +57,7 @@ fn word_symbol(word: Word) -> Symbol
         Word::Void => Symbol::Void,
         Word::Main => Symbol::Main,
         Word::Static | Word::Inline | Word::Extern => Symbol::Storage,
+        Word::Const => Symbol::Const,
         Word::If => Symbol::If,
         Word::Else => Symbol::Else,
         Word::While => Symbol::While,
@@ -71,22 +73,23 @@ fn word_symbol(word: Word) -> Symbol
     }
 }
 
-/// What a token is to the grammar of functions, whatever its name or number.
+/// What a token is to the grammar of functions, whatever its name, its constant or its number.
 pub fn symbol_of(token: &Token) -> Symbol
-    ensures { (bytes : List ℕ) → symbol_kind result ≡ plain_kind (kind_of bytes token.now.kind) }
+    ensures { (bytes : List ℕ) (value : Option ℤ) → symbol_kind result ≡ plain_kind (kind_of bytes value token.now.kind) }
 {
     match token.kind {
         Kind::Word(word) => word_symbol(word),
         Kind::Name => Symbol::Name,
         Kind::Number(_) => Symbol::Number,
         Kind::Sign(sign) => sign_symbol(sign),
-        Kind::End => Symbol::Other,
+        _ => Symbol::Other,
     }
 }
 
 /// What tokens are to the grammar of functions, in order.
 pub fn pieces_of(alloc: Global, tokens: &[Token]) -> Result<Vec<Piece>, AllocError>
-    ensures { IfOk result (λ pieces. (text : List ℕ) → Are (tokens_of text tokens.now) pieces.items) }
+    ensures { IfOk result (λ pieces. (constants : List Definition) (text : List ℕ)
+        → Are (tokens_of constants text tokens.now) pieces.items) }
 {
     let mut pieces = Vec::new(alloc);
     for token in tokens {

@@ -16,7 +16,7 @@ pub fn bytes_of<'a>(text: &'a [u8], token: &Token) -> &'a [u8]
     &text[at..at + token.len as usize]
 }
 
-/// The name that a token of a text is, or `main` as a name.
+/// The word that a token of a text is: a name, or one that is reserved; in a directive or not.
 pub fn name_of(text: &[u8], token: &Token) -> Name
     requires token { IsTokenIn text.now token.now }
     requires name { IsNaming token.now.kind }

@@ -1,6 +1,6 @@
 -- Expressions of C. A variable is its number. Places are counted in bytes from 0: `at` is that of an expression's first token, `sign` that
--- of the sign between its operands, `bracket` that of an element's bracket.
-use Rattle.std.specs.Prelude.{ℕ}
+-- of the sign between its operands, `bracket` that of an index's bracket.
+use Rattle.std.specs.Prelude.{ℕ, ℤ}
 use Rattle.lang_tree.specs.declared.cond.Rel.{Rel}
 
 -- what is done with two numbers
@@ -16,19 +16,26 @@ pub data Operation : Type 0 where
   -- `%`
   remainder : Operation
 
+-- how many elements an array has
+pub data Extent : Type 0 where
+  -- one at each index from 0 on
+  endless : Extent
+  -- so many
+  elements : ℕ → Extent
+
 mutual
   -- an expression of C
   pub data Expression : Type 0 where
-    -- a number
-    number : (value at : ℕ) → Expression
+    -- a number, or a constant's
+    number : (value : ℤ) → (at : ℕ) → Expression
     -- a variable
     variable : (var at : ℕ) → Expression
     -- `nondet()`
     unknown : (at : ℕ) → Expression
     -- a call of a function with these arguments; nothing is known of its answer
     call : Expressions → (at : ℕ) → Expression
-    -- an element of an array of so many, with the place of its bracket
-    element : (size bracket : ℕ) → (index : Expression) → (at : ℕ) → Expression
+    -- an element of an array, by its indexes
+    element : Subscripts → (at : ℕ) → Expression
     -- one in parentheses
     grouped : (at : ℕ) → Expression → Expression
     -- `-e`
@@ -47,6 +54,12 @@ mutual
     either : Expression → Expression → Expression
     -- `c ? e : f`, with the place of its `?`
     chosen : (sign : ℕ) → (condition yes no : Expression) → Expression
+
+  -- the indexes of an element, from the left
+  pub data Subscripts : Type 0 where
+    no_subscript : Subscripts
+    -- one within this extent, with the place of its bracket
+    subscript : Extent → (bracket : ℕ) → (index : Expression) → Subscripts → Subscripts
 
   -- expressions in order: the arguments of a call, or what is evaluated without use of its value
   pub data Expressions : Type 0 where

@@ -9,6 +9,7 @@ use Rattle.base_integers.specs.Integers.{Has}
 use Rattle.source_tree.specs.Expressions.{Operation, plus, minus, times, over, remainder}
 use Rattle.source_tree.specs.Expressions.{Expression, Expressions, number, variable, unknown, call, element, grouped, negative, positive}
 use Rattle.source_tree.specs.Expressions.{inverse, joined, compared, both, either, chosen, none, more}
+use Rattle.source_tree.specs.Expressions.{Extent, endless, elements, Subscripts, no_subscript, subscript}
 
 -- the number that a truth is
 abbrev pub truth_number : Bool → ℤ
@@ -34,9 +35,10 @@ abbrev pub Compares : Bool → Rel → ℤ → ℤ → Type 0
 Compares true rel a b = Relates rel (a -ℤ b)
 Compares false rel a b = ¬ (Relates rel (a -ℤ b))
 
--- a number is the index of an element of an array of so many
-abbrev pub IsIndex : ℕ → ℤ → Type 0
-IsIndex size i = (pos 0 ≤ℤ i) × (i <ℤ pos size)
+-- a number is an index within this extent
+abbrev pub IsIndex : Extent → ℤ → Type 0
+IsIndex endless i = pos 0 ≤ℤ i
+IsIndex (elements size) i = (pos 0 ≤ℤ i) × (i <ℤ pos size)
 
 -- by these integers
 module _ (integers : Integers) where
@@ -53,11 +55,11 @@ module _ (integers : Integers) where
     -- false, that of `||` where it is true, and one side of `?:`. `nondet()`, a call and an element may have any of the integers, and the
     -- exact result of an operation has to be one of them
     pub May : Expression → State → ℤ → Type 0
-    May (number v at) x z = (z ≡ pos v) × Has integers z
+    May (number v at) x z = (z ≡ v) × Has integers z
     May (variable i at) x z = z ≡ get_or x i (pos 0)
     May (unknown at) x z = Has integers z
     May (call es at) x z = AllMay es x × Has integers z
-    May (element size bracket e at) x z = (i : ℤ) × May e x i × IsIndex size i × Has integers z
+    May (element is at) x z = AreIndexes is x × Has integers z
     May (grouped at e) x z = May e x z
     May (negative at e) x z = (a : ℤ) × May e x a × (z ≡ neg_ℤ a) × Has integers z
     May (positive at e) x z = May e x z
@@ -76,6 +78,11 @@ module _ (integers : Integers) where
     pub AllMay : Expressions → State → Type 0
     AllMay none x = Unit {0}
     AllMay (more e es) x = ((z : ℤ) × May e x z) × AllMay es x
+
+    -- each index may have some value within its extent
+    pub AreIndexes : Subscripts → State → Type 0
+    AreIndexes no_subscript x = Unit {0}
+    AreIndexes (subscript extent bracket e is) x = ((i : ℤ) × May e x i × IsIndex extent i) × AreIndexes is x
 
 -- an operation of this sign has no value, since the number on its right is 0, as a check of it says
 abbrev pub DividesByZero : Operation → (sign : ℕ) → Check → ℤ → Type 0
@@ -101,12 +108,11 @@ module _ (integers : Integers) where
   abbrev mutual
     -- evaluated from the left at the state, the expression may come to an operation without a value, where this check isn't true
     pub Breaks : Expression → State → Check → Type 0
-    Breaks (number v at) x about = Exceeds at about (pos v)
+    Breaks (number v at) x about = Exceeds at about v
     Breaks (variable i at) x about = ⊥
     Breaks (unknown at) x about = ⊥
     Breaks (call es at) x about = SomeBreaks es x about
-    Breaks (element size bracket e at) x about =
-        Breaks e x about ⊎ ((i : ℤ) × May integers e x i × ¬ (IsIndex size i) × (about ≡ record { kind = Index; at = bracket }))
+    Breaks (element is at) x about = IndexBreaks is x about
     Breaks (grouped at e) x about = Breaks e x about
     Breaks (negative at e) x about = Breaks e x about ⊎ ((a : ℤ) × May integers e x a × Exceeds at about (neg_ℤ a))
     Breaks (positive at e) x about = Breaks e x about
@@ -126,3 +132,11 @@ module _ (integers : Integers) where
     pub SomeBreaks : Expressions → State → Check → Type 0
     SomeBreaks none x about = ⊥
     SomeBreaks (more e es) x about = Breaks e x about ⊎ (((z : ℤ) × May integers e x z) × SomeBreaks es x about)
+
+    -- an index may, or may leave its extent, those before it being within theirs
+    pub IndexBreaks : Subscripts → State → Check → Type 0
+    IndexBreaks no_subscript x about = ⊥
+    IndexBreaks (subscript extent bracket e is) x about =
+        Breaks e x about
+        ⊎ (((i : ℤ) × May integers e x i × ¬ (IsIndex extent i) × (about ≡ record { kind = Index; at = bracket }))
+        ⊎ (((i : ℤ) × May integers e x i × IsIndex extent i) × IndexBreaks is x about))

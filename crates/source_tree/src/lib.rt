@@ -1,2 +1,6 @@
 //! Functions of C as trees: expressions and statements, and which values expressions may have.
 #![tactic(auto)]
+
+mod extent;
+
+pub use extent::Extent;

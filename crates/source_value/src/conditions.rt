@@ -9,11 +9,13 @@ ghost use Rattle.source_core.specs.Elaborated.{related, divides, is_index, is_he
 ghost use Rattle.base_integers.specs.Integers.{greatest};
 ghost use Rattle.source_value.specs.Answers.{Answers, IsCondition};
 ghost use Rattle.source_core.specs.Fits.{condition_fits};
+ghost use Rattle.source_tree.specs.Extents.{extent_of};
 
 use crate::fault::OperationFault;
 use crate::forms::{difference, less, rest, variable_form, zero_form};
 use base_integers::Width;
 use lang_tree::{Coeffs, Cond, Form, Rel};
+use source_tree::Extent;
 use std::alloc::{AllocError, Global};
 
 /// The number of a condition's leaves, or one more than `most` where it has more. It calls itself at most so many times deeper than `!`
@@ -203,19 +205,24 @@ pub(crate) fn divides(
     Ok(either(alloc, up, down)?)
 }
 
-/// The form is an index of an array of so many elements.
-pub(crate) fn is_index(alloc: Global, size: u64, form: &Form) -> Result<Cond, OperationFault>
-    ensures { Answers IsCondition condition_fits result (is_index size form.now) }
+/// The form is an index within this extent.
+pub(crate) fn is_index(alloc: Global, extent: Extent, form: &Form) -> Result<Cond, OperationFault>
+    ensures { Answers IsCondition condition_fits result (is_index (extent_of extent) form.now) }
 {
     let from_first = related(alloc, Rel::Le, &zero_form(alloc), form)?;
-    let to_last = bounded(
-        form,
-        Bound {
-            rel: Rel::Le,
-            number: size as i128 - 1,
-        },
-    )?;
-    Ok(both(alloc, from_first, to_last)?)
+    match extent {
+        Extent::Endless => Ok(from_first),
+        Extent::Elements(size) => {
+            let to_last = bounded(
+                form,
+                Bound {
+                    rel: Rel::Le,
+                    number: i128::from(size) - 1,
+                },
+            )?;
+            Ok(both(alloc, from_first, to_last)?)
+        }
+    }
 }
 
 // The least integer of this width.

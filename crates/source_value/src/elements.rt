@@ -1,20 +1,22 @@
-//! Signs before numbers, and elements of arrays.
+//! Signs before numbers, and indexes of elements.
 
 ghost use Rattle.std.specs.Prelude.{◌≡◌, ℕ};
 ghost use Rattle.source_core.specs.Forms.{opposite};
-ghost use Rattle.source_core.specs.Elaborated.{Numbered as CoreNumber, form_behind, element_behind, ranged, is_held};
+ghost use Rattle.source_core.specs.Elaborated.{Numbered as CoreNumber, form_behind, index_behind, ranged, is_held};
 ghost use Rattle.source_value.specs.Answers.{Answers};
-ghost use Rattle.source_core.specs.Fits.{fits};
-ghost use Rattle.source_value.specs.Stands.{Stands, StandsNumber};
+ghost use Rattle.source_core.specs.Fits.{fits, evaluated_fits};
+ghost use Rattle.source_tree.specs.Extents.{extent_of};
+ghost use Rattle.source_value.specs.Stands.{Stands, StandsNumber, StandsEvaluated};
 
 use crate::conditions::{is_held, is_index};
 use crate::fault::OperationFault;
 use crate::forms::multiple;
 use crate::site::Site;
 use crate::truth::Truth;
-use crate::value::{Number, Outcome, Value};
+use crate::value::{Evaluated, Number, Outcome, Value};
 use base_integers::Integers;
 use lang_tree::{Check, CheckKind};
+use source_tree::Extent;
 use std::alloc::Global;
 
 /// `+` before a number.
@@ -57,27 +59,26 @@ pub fn negative(
     }
 }
 
-/// An element of an array of so many: any value, behind a check of its index; `bracket` is the place of its bracket. What is compared has
-/// to be in range.
-pub fn element(
+/// An index within this extent, behind which stands a check that it is; `bracket` is the place of its bracket. What is compared has to be
+/// in range.
+pub fn indexed(
     alloc: Global,
     site: Site,
-    size: u64,
+    extent: Extent,
     bracket: u32,
     index: Number,
-) -> Result<Value, OperationFault>
+) -> Result<Evaluated, OperationFault>
     ensures { (a : CoreNumber) → StandsNumber site.variables index a
-        → Answers (Stands site.variables) fits result (element_behind site.line size bracket a) }
+        → Answers (StandsEvaluated site.variables) evaluated_fits result (index_behind site.line (extent_of extent) bracket a) }
 {
-    let condition = is_index(alloc, size, &index.form)?;
+    let condition = is_index(alloc, extent, &index.form)?;
     let truth = Truth::of(site, index.next, condition);
     let check = Check {
         kind: CheckKind::Index,
         at: bracket,
     };
-    Ok(Value {
+    Ok(Evaluated {
         prelude: index.prelude.with_check(site, check, truth)?,
-        result: Outcome::Any,
         next: index.next,
     })
 }

@@ -17,7 +17,7 @@ mod truth;
 mod truths;
 mod value;
 
-pub use elements::{element, negative, positive};
+pub use elements::{indexed, negative, positive};
 pub use fault::OperationFault;
 pub use hidden::declared;
 pub use operation::{Operation, operated};

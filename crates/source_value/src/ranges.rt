@@ -5,7 +5,7 @@ ghost use Rattle.std.specs.Ordering.{int_eq};
 ghost use Rattle.lang_tree.specs.Tree.{Condition as Tree};
 ghost use Rattle.lang_tree.specs.declared.check.CheckKind.TheVariants.{Range};
 ghost use Rattle.source_core.specs.Forms.{opposite};
-ghost use Rattle.source_core.specs.Elaborated.{Elaborated as Core, Result as CoreResult, is_held, operation_held, form_in, checked};
+ghost use Rattle.source_core.specs.Elaborated.{Elaborated as Core, Result as CoreResult, has, is_held, operation_held, form_in, checked};
 ghost use Rattle.source_core.specs.Fits.{condition_fits};
 ghost use Rattle.source_value.specs.Answers.{Answers, IsCondition};
 ghost use Rattle.source_value.specs.Stands.{Stands, kept_result};
@@ -21,6 +21,14 @@ use crate::value::{Outcome, Value};
 use base_integers::Width;
 use lang_tree::{Check, CheckKind, Cond, Form};
 use std::alloc::{AllocError, Global};
+
+/// Whether the number is one of the integers of this width.
+pub(crate) fn has(width: Width, number: i64) -> bool
+    ensures { result ≡ has width number }
+{
+    let greatest = i64::from(width.greatest());
+    -greatest - 1 <= number && number <= greatest
+}
 
 // The number is -1.
 fn is_minus_one(number: i64) -> bool

@@ -12,6 +12,7 @@ use crate::fault::OperationFault;
 use crate::forms::{constant_form, variable_form};
 use crate::hidden::{havocked, truth_number};
 use crate::prelude::Prelude;
+use crate::ranges::has;
 use crate::site::Site;
 use crate::truth::Truth;
 use base_integers::Integers;
@@ -59,13 +60,13 @@ pub struct Evaluated {
 }
 
 impl Value {
-    /// A number of the text at this place, where `next` is the next hidden variable. Behind one that is above all of the integers stands a
-    /// check.
+    /// A number of the text, or a constant's, at this place, where `next` is the next hidden variable. Behind one that is none of the
+    /// integers stands a check.
     pub fn number(
         alloc: Global,
         site: Site,
         next: u32,
-        number: u64,
+        number: i64,
         at: u32,
     ) -> Result<Value, OperationFault>
         ensures { Answers (Stands site.variables) fits result (number_at site.integers site.line number at next) }
@@ -78,7 +79,7 @@ impl Value {
         match site.integers {
             Integers::Mathematical => Ok(value),
             Integers::Machine(width) => {
-                if number <= u64::from(width.greatest()) {
+                if has(width, number) {
                     Ok(value)
                 } else {
                     let holds = is_held(alloc, width, &constant_form(alloc, number as i128)?)?;
@@ -178,7 +179,18 @@ impl Evaluated {
         })
     }
 
-    /// The value of a call with these arguments: any.
+    /// What was evaluated, and then what was evaluated behind it.
+    pub fn joined(self, later: Evaluated) -> Result<Evaluated, AllocError>
+        ensures { IfOk result (λ all. (n : ℕ) (d e : CorePrelude) → d.next ≤ e.next → StandsEvaluated n self d
+            → StandsEvaluated n later e → StandsEvaluated n all (record { prelude = d.prelude ++ e.prelude; next = e.next })) }
+    {
+        Ok(Evaluated {
+            prelude: self.prelude.joined(later.prelude)?,
+            next: later.next,
+        })
+    }
+
+    /// The value of a call with these arguments, or of an element with these indexes: any.
     pub fn into_any(self) -> Value
         ensures { (n : ℕ) (d : CorePrelude) → StandsEvaluated n self d
             → Stands n result (record { prelude = d.prelude; result = any; next = d.next }) }

@@ -1,5 +1,6 @@
 //! Texts that are annotated.
 
+mod files;
 mod fractions;
 mod functions;
 mod labels;

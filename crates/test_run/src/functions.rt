@@ -1,3 +1,4 @@
+mod files;
 mod judged;
 mod limits;
 mod machine;

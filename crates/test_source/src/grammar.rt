@@ -5,13 +5,13 @@ use source_grammar::{Piece, Syntax, examine};
 use std::alloc::{AllocError, Global};
 
 /// A row of a table: what the grammar is given, and what it is to say.
-trait Case {
+pub(crate) trait Case {
     /// Whether it says so. Without memory it doesn't.
     fn is_right(&self, alloc: Global) -> bool;
 }
 
-// The number of the first row of a table that isn't right, counted from 0.
-fn first_wrong<C: Case>(alloc: Global, table: &[C]) -> Option<usize> {
+/// The number of the first row of a table that isn't right, counted from 0.
+pub(crate) fn first_wrong<C: Case>(alloc: Global, table: &[C]) -> Option<usize> {
     table.iter().position(|case| !case.is_right(alloc))
 }
 
@@ -75,12 +75,55 @@ const TEXTS: &[(&str, Syntax)] = &[
         "int f ( ) { while ( a [ f ( 1 ) ] < - 1 * + x ) ; }",
         Syntax::Whole,
     ),
+    (
+        "int f ( const int x , int * p , int a [ ] , int b [ 10 ] , const int c [ ] [ n ] [ 1 ] ) { }",
+        Syntax::Whole,
+    ),
+    (
+        "int f ( int a [ n ] [ 1 ] , const int * p ) { const int x = 1 , y ; for ( const int i = 1 ; ; ) ; }",
+        Syntax::Whole,
+    ),
+    (
+        "int f ( ) { x = a [ 1 ] [ i ] + a [ 1 ] [ i ] [ x ] ; a [ 1 ] [ 1 ] [ 1 ] *= 1 ; -- a [ 1 ] [ 1 ] ; }",
+        Syntax::Whole,
+    ),
+    (
+        "int f ( ) { for ( a [ 1 ] [ 1 ] = 1 ; ; a [ i ] [ i ] ++ , ++ a [ 1 ] [ 1 ] ) ; }",
+        Syntax::Whole,
+    ),
+    (
+        "int f ( ) { x = - ++ x - -- y * z -- ; g ( x ++ , ++ y ) ; while ( x -- ) ; a [ ++ i ] = x ++ ; return x ++ ; }",
+        Syntax::Whole,
+    ),
+    (
+        "int f ( ) { int a [ 1 ] [ n ] = { { 1 , x } , { } , 1 + 1 , } , b [ n ] = { } , c [ n ] [ n ] ; }",
+        Syntax::Whole,
+    ),
+    (
+        "int f ( ) { for ( const int a [ 1 ] = { ++ x , { { 1 , } , } } ; ; ) return -- x ; }",
+        Syntax::Whole,
+    ),
     ("", Syntax::Short),
     ("int", Syntax::Short),
     ("int f ( ) {", Syntax::Short),
     ("int f ( ) { x = a ?", Syntax::Short),
     ("int f ( ) { if ( 1 ) ; else", Syntax::Short),
+    ("int f ( int *", Syntax::Short),
+    ("int f ( ) { int a [ 1 ] = { 1 ,", Syntax::Short),
+    ("int f ( ) { int a [ 1 ] = { 1 }", Syntax::Short),
+    ("int f ( ) { x = a [ 1 ]", Syntax::Short),
     (";", Syntax::Unexpected { at: 0 }),
+    ("const int f ( ) { }", Syntax::Unexpected { at: 0 }),
+    ("int f ( const x ) { }", Syntax::Unexpected { at: 4 }),
+    ("int f ( int const x ) { }", Syntax::Unexpected { at: 4 }),
+    ("int f ( int * p [ 1 ] ) { }", Syntax::Unexpected { at: 6 }),
+    ("int f ( int * * p ) { }", Syntax::Unexpected { at: 5 }),
+    ("int f ( int % p ) { }", Syntax::Unexpected { at: 4 }),
+    ("int f ( int a [ ] [ ] ) { }", Syntax::Unexpected { at: 8 }),
+    (
+        "int f ( int a [ 1 + 1 ] ) { }",
+        Syntax::Unexpected { at: 7 },
+    ),
     ("int ( ) { }", Syntax::Unexpected { at: 1 }),
     ("void static f ( ) { }", Syntax::Unexpected { at: 1 }),
     ("int f ( int , int b ) { }", Syntax::Unexpected { at: 4 }),
@@ -89,15 +132,80 @@ const TEXTS: &[(&str, Syntax)] = &[
     ("int f ( ) { x = 1 ? 1 ; }", Syntax::Unexpected { at: 10 }),
     ("int f ( ) { x = 1 : 1 ; }", Syntax::Unexpected { at: 8 }),
     (
-        "int f ( ) { a [ 1 ] [ 1 ] = 1 ; }",
+        "int f ( ) { int a [ 1 ] = 1 ; }",
+        Syntax::Unexpected { at: 11 },
+    ),
+    ("int f ( ) { int a [ ] ; }", Syntax::Unexpected { at: 8 }),
+    (
+        "int f ( ) { int a [ 1 ] [ ] = { 1 } ; }",
+        Syntax::Unexpected { at: 11 },
+    ),
+    (
+        "int f ( ) { int a [ n + 1 ] ; }",
         Syntax::Unexpected { at: 9 },
     ),
-    ("int f ( ) { int a [ n ] ; }", Syntax::Unexpected { at: 8 }),
     (
-        "int f ( ) { int a [ 1 ] = 1 ; }",
+        "int f ( ) { int x = { 1 } ; }",
+        Syntax::Unexpected { at: 8 },
+    ),
+    (
+        "int f ( ) { int a [ 1 ] += { 1 } ; }",
+        Syntax::Unexpected { at: 10 },
+    ),
+    (
+        "int f ( ) { int a [ 1 ] = { , } ; }",
+        Syntax::Unexpected { at: 12 },
+    ),
+    (
+        "int f ( ) { int a [ 1 ] = { 1 , , } ; }",
+        Syntax::Unexpected { at: 14 },
+    ),
+    (
+        "int f ( ) { int a [ 1 ] = { 1 1 } ; }",
+        Syntax::Unexpected { at: 13 },
+    ),
+    (
+        "int f ( ) { int a [ 1 ] = { { 1 } 1 } ; }",
+        Syntax::Unexpected { at: 15 },
+    ),
+    (
+        "int f ( ) { int a [ 1 ] = { 1 } [ 1 ] ; }",
+        Syntax::Unexpected { at: 14 },
+    ),
+    (
+        "int f ( ) { a [ 1 ] = { 1 } ; }",
         Syntax::Unexpected { at: 10 },
     ),
     ("int f ( ) { int x += 1 ; }", Syntax::Unexpected { at: 7 }),
+    ("int f ( ) { const x ; }", Syntax::Unexpected { at: 6 }),
+    ("int f ( ) { int const x ; }", Syntax::Unexpected { at: 6 }),
+    (
+        "int f ( ) { if ( 1 ) const int x ; }",
+        Syntax::Unexpected { at: 9 },
+    ),
+    ("int f ( ) { x = a [ ] ; }", Syntax::Unexpected { at: 9 }),
+    (
+        "int f ( ) { x = a [ 1 ] ++ ; }",
+        Syntax::Unexpected { at: 11 },
+    ),
+    (
+        "int f ( ) { x = ++ a [ 1 ] ; }",
+        Syntax::Unexpected { at: 9 },
+    ),
+    ("int f ( ) { x = ++ 1 ; }", Syntax::Unexpected { at: 8 }),
+    (
+        "int f ( ) { x = ( y ) ++ ; }",
+        Syntax::Unexpected { at: 10 },
+    ),
+    (
+        "int f ( ) { x = f ( ) ++ ; }",
+        Syntax::Unexpected { at: 10 },
+    ),
+    ("int f ( ) { x = ++ y ++ ; }", Syntax::Unexpected { at: 9 }),
+    (
+        "int f ( ) { f ( ) [ 1 ] = 1 ; }",
+        Syntax::Unexpected { at: 8 },
+    ),
     ("int f ( ) { int main ; }", Syntax::Unexpected { at: 6 }),
     ("int f ( ) { x = y = 1 ; }", Syntax::Unexpected { at: 8 }),
     (
@@ -105,7 +213,6 @@ const TEXTS: &[(&str, Syntax)] = &[
         Syntax::Unexpected { at: 8 },
     ),
     ("int f ( ) { x ++ ++ ; }", Syntax::Unexpected { at: 7 }),
-    ("int f ( ) { return x ++ ; }", Syntax::Unexpected { at: 7 }),
     ("int f ( ) { f ( ) = 1 ; }", Syntax::Unexpected { at: 8 }),
     ("int f ( ) { f ( 1 , ) ; }", Syntax::Unexpected { at: 9 }),
     ("int f ( ) { nondet ( ) ; }", Syntax::Unexpected { at: 5 }),
@@ -140,285 +247,4 @@ const TEXTS: &[(&str, Syntax)] = &[
 #[test]
 fn texts_are_told(rt: HostRuntime) {
     assert_eq!(rt; first_wrong(rt.alloc(), TEXTS), None);
-}
-
-// What stands before, a piece so many times, what stands in the middle, what ends a piece as often, and what stands behind.
-type Nest = (
-    &'static str,
-    &'static str,
-    usize,
-    &'static str,
-    &'static str,
-    &'static str,
-    Syntax,
-);
-
-// The words of such a text.
-fn nest(alloc: Global, row: &Nest) -> Result<Vec<Piece>, AllocError> {
-    let mut pieces = Vec::new(alloc);
-    let mut at = add_words(&mut pieces, 0, row.0)?;
-    for _ in 0..row.2 {
-        at = add_words(&mut pieces, at, row.1)?;
-    }
-    at = add_words(&mut pieces, at, row.3)?;
-    for _ in 0..row.2 {
-        at = add_words(&mut pieces, at, row.4)?;
-    }
-    add_words(&mut pieces, at, row.5)?;
-    Ok(pieces)
-}
-
-impl Case for Nest {
-    fn is_right(&self, alloc: Global) -> bool {
-        match nest(alloc, self) {
-            Ok(pieces) => examine(alloc, pieces.as_slice()) == Ok(self.6),
-            Err(_) => false,
-        }
-    }
-}
-
-const NESTS: &[Nest] = &[
-    (
-        "int f ( ) { x =",
-        "1 ? 1 :",
-        64,
-        "1 ;",
-        "",
-        "}",
-        Syntax::Whole,
-    ),
-    (
-        "int f ( ) { x =",
-        "1 ? 1 :",
-        65,
-        "1 ;",
-        "",
-        "}",
-        Syntax::Nested { at: 264 },
-    ),
-    (
-        "int f ( ) { x =",
-        "1 ?",
-        64,
-        "1",
-        ": 1",
-        "; }",
-        Syntax::Whole,
-    ),
-    (
-        "int f ( ) { x =",
-        "1 ?",
-        65,
-        "1",
-        ": 1",
-        "; }",
-        Syntax::Nested { at: 136 },
-    ),
-    ("int f ( ) { x =", "f (", 64, "1", ")", "; }", Syntax::Whole),
-    (
-        "int f ( ) { x =",
-        "f (",
-        65,
-        "1",
-        ")",
-        "; }",
-        Syntax::Nested { at: 136 },
-    ),
-    ("int f ( ) { x =", "a [", 64, "1", "]", "; }", Syntax::Whole),
-    (
-        "int f ( ) { x =",
-        "a [",
-        65,
-        "1",
-        "]",
-        "; }",
-        Syntax::Nested { at: 136 },
-    ),
-    ("int f ( ) { x =", "-", 64, "1", "", "; }", Syntax::Whole),
-    (
-        "int f ( ) { x =",
-        "-",
-        65,
-        "1",
-        "",
-        "; }",
-        Syntax::Nested { at: 71 },
-    ),
-    ("int f ( ) { x =", "(", 64, "1", ")", "; }", Syntax::Whole),
-    (
-        "int f ( ) { x =",
-        "(",
-        65,
-        "1",
-        ")",
-        "; }",
-        Syntax::Nested { at: 71 },
-    ),
-    (
-        "int f ( ) {",
-        "{",
-        64,
-        "int a [ 1 ] ; x = nondet ( ) ; assume ( x ) ;",
-        "}",
-        "}",
-        Syntax::Whole,
-    ),
-    (
-        "int f ( ) {",
-        "{",
-        65,
-        "",
-        "}",
-        "}",
-        Syntax::Nested { at: 69 },
-    ),
-    (
-        "int f ( ) {",
-        "if ( 1 )",
-        64,
-        ";",
-        "else ;",
-        "}",
-        Syntax::Whole,
-    ),
-    (
-        "int f ( ) {",
-        "if ( 1 )",
-        65,
-        ";",
-        "",
-        "}",
-        Syntax::Nested { at: 261 },
-    ),
-    (
-        "int f ( ) {",
-        "do",
-        64,
-        ";",
-        "while ( 1 ) ;",
-        "}",
-        Syntax::Whole,
-    ),
-    (
-        "int f ( ) {",
-        "do",
-        65,
-        ";",
-        "while ( 1 ) ;",
-        "}",
-        Syntax::Nested { at: 69 },
-    ),
-    (
-        "int f ( ) {",
-        "for ( ; ; )",
-        64,
-        ";",
-        "",
-        "}",
-        Syntax::Whole,
-    ),
-    (
-        "int f ( ) {",
-        "for ( ; ; )",
-        65,
-        ";",
-        "",
-        "}",
-        Syntax::Nested { at: 325 },
-    ),
-    (
-        "int f ( ) {",
-        "while ( 1 )",
-        65,
-        ";",
-        "",
-        "}",
-        Syntax::Nested { at: 261 },
-    ),
-    (
-        "int f ( ) {",
-        "{",
-        63,
-        "f ( ) ; a [ 1 ] ++ ; -- a [ 1 ] ;",
-        "}",
-        "}",
-        Syntax::Whole,
-    ),
-    (
-        "int f ( ) {",
-        "{",
-        64,
-        "f ( ) ;",
-        "}",
-        "}",
-        Syntax::Nested { at: 70 },
-    ),
-    (
-        "int f ( ) {",
-        "{",
-        64,
-        "a [ 1 ] = 1 ;",
-        "}",
-        "}",
-        Syntax::Nested { at: 70 },
-    ),
-    (
-        "int f ( ) {",
-        "{",
-        64,
-        "++ a [ 1 ] ;",
-        "}",
-        "}",
-        Syntax::Nested { at: 71 },
-    ),
-    (
-        "int f ( ) {",
-        "{",
-        63,
-        "int x = 1 ? 1 : 1 , y = 1 ? 1 : 1 ;",
-        "}",
-        "}",
-        Syntax::Whole,
-    ),
-    (
-        "int f ( ) {",
-        "{",
-        62,
-        "f ( 1 ? 1 : 1 , 1 ? 1 : 1 ) ;",
-        "}",
-        "}",
-        Syntax::Whole,
-    ),
-    (
-        "int f ( ) {",
-        "{",
-        62,
-        "for ( x = 1 ? 1 : 1 , y = 1 ? 1 : 1 ; ; ) ;",
-        "}",
-        "}",
-        Syntax::Whole,
-    ),
-    (
-        "int f ( ) {",
-        "{",
-        63,
-        "x = 1 ? ( 1 ) : 1 ;",
-        "}",
-        "}",
-        Syntax::Nested { at: 72 },
-    ),
-    (
-        "int f ( ) {",
-        "{",
-        63,
-        "x = 1 ? 1 : ( 1 ) ;",
-        "}",
-        "}",
-        Syntax::Nested { at: 74 },
-    ),
-];
-
-#[test]
-fn constructs_are_counted(rt: HostRuntime) {
-    assert_eq!(rt; first_wrong(rt.alloc(), NESTS), None);
 }

@@ -2,6 +2,10 @@
 #![tactic(auto)]
 
 #[cfg(test)]
+mod constants;
+#[cfg(test)]
+mod constructs;
+#[cfg(test)]
 mod files;
 #[cfg(test)]
 mod grammar;
@@ -13,6 +17,8 @@ mod limits;
 mod machine;
 #[cfg(test)]
 mod rows;
+#[cfg(test)]
+mod walks;
 #[cfg(test)]
 mod words;
 #[cfg(test)]

@@ -2,8 +2,9 @@
 
 use base_integers::{Integers, Width};
 use lang_tree::Rel;
+use source_tree::Extent;
 use source_value::{
-    Number, Operation, OperationFault, Site, Tested, Value, both, compared, element, negative,
+    Number, Operation, OperationFault, Site, Tested, Value, both, compared, indexed, negative,
     operated,
 };
 use std::alloc::Global;
@@ -20,9 +21,9 @@ const BY_8_BITS: Site = Site {
     ..SITE
 };
 
-const GREATEST: u64 = 9223372036854775807;
+const GREATEST: i64 = 9223372036854775807;
 
-fn number(alloc: Global, number: u64) -> Result<Number, OperationFault> {
+fn number(alloc: Global, number: i64) -> Result<Number, OperationFault> {
     Ok(Value::number(alloc, SITE, 2, number, 3)?.into_number(alloc, SITE)?)
 }
 
@@ -83,7 +84,8 @@ fn many_leaves(rt: HostRuntime) -> Result<(), Fail> {
 fn large_numbers(rt: HostRuntime) -> Result<(), Fail> {
     let alloc = rt.alloc();
     assert!(rt; !big(number(alloc, GREATEST)));
-    assert!(rt; big(number(alloc, GREATEST + 1)));
+    assert!(rt; !big(number(alloc, -GREATEST)));
+    assert!(rt; big(number(alloc, -GREATEST - 1)));
     // The check behind a number compares it with the least integer, -128.
     assert!(rt; !big(Value::number(alloc, BY_8_BITS, 2, GREATEST - 129, 3)));
     assert!(rt; big(Value::number(alloc, BY_8_BITS, 2, GREATEST - 128, 3)));
@@ -159,7 +161,25 @@ fn large_numbers(rt: HostRuntime) -> Result<(), Fail> {
             number(alloc, GREATEST)?
         ))
     );
-    assert!(rt; !big(element(alloc, SITE, GREATEST, 9, x(alloc)?)));
-    assert!(rt; big(element(alloc, SITE, GREATEST + 1, 9, x(alloc)?)));
+    let within = operated(
+        alloc,
+        SITE,
+        Operation::Plus,
+        5,
+        x(alloc)?,
+        number(alloc, GREATEST - 1)?,
+    )?
+    .into_number(alloc, SITE)?;
+    assert!(rt; !big(indexed(alloc, SITE, Extent::Elements(1), 9, within)));
+    let past = operated(
+        alloc,
+        SITE,
+        Operation::Plus,
+        5,
+        x(alloc)?,
+        number(alloc, GREATEST)?,
+    )?
+    .into_number(alloc, SITE)?;
+    assert!(rt; big(indexed(alloc, SITE, Extent::Endless, 9, past)));
     Ok(())
 }

@@ -4,9 +4,10 @@
 use crate::written::written;
 use base_integers::Integers;
 use lang_tree::Rel;
+use source_tree::Extent;
 use source_value::{
     Number, Operation, OperationFault, Site, Tested, Value, both, chosen, compared, either,
-    element, inverse, negative, operated,
+    indexed, inverse, negative, operated,
 };
 use std::alloc::Global;
 use std::test::Fail;
@@ -17,7 +18,7 @@ const SITE: Site = Site {
     integers: Integers::Mathematical,
 };
 
-fn number(alloc: Global, next: u32, number: u64) -> Result<Number, OperationFault> {
+fn number(alloc: Global, next: u32, number: i64) -> Result<Number, OperationFault> {
     Ok(Value::number(alloc, SITE, next, number, 3)?.into_number(alloc, SITE)?)
 }
 
@@ -25,7 +26,7 @@ fn variable(alloc: Global, next: u32, var: u32) -> Result<Number, OperationFault
     Ok(Value::variable(alloc, SITE, next, var)?.into_number(alloc, SITE)?)
 }
 
-fn minus(alloc: Global, size: u64) -> Result<Number, OperationFault> {
+fn minus(alloc: Global, size: i64) -> Result<Number, OperationFault> {
     Ok(negative(alloc, SITE, 4, number(alloc, 2, size)?)?.into_number(alloc, SITE)?)
 }
 
@@ -234,7 +235,15 @@ fn choices(rt: HostRuntime) -> Result<(), Fail> {
 #[test]
 fn elements(rt: HostRuntime) -> Result<(), Fail> {
     let alloc = rt.alloc();
-    let tenth = element(alloc, SITE, 10, 9, x(alloc, 2)?);
-    assert!(rt; is(alloc, tenth, "index@9 ([-1|0] <= 0 && [1|-9] <= 0); any; 2")?);
+    let tenth = indexed(alloc, SITE, Extent::Elements(10), 9, x(alloc, 2)?)?.into_any();
+    assert!(rt;
+        is(
+            alloc,
+            Ok(tenth),
+            "index@9 ([-1|0] <= 0 && [1|-9] <= 0); any; 2"
+        )?
+    );
+    let endless = indexed(alloc, SITE, Extent::Endless, 9, x(alloc, 2)?)?.into_any();
+    assert!(rt; is(alloc, Ok(endless), "index@9 [-1|0] <= 0; any; 2")?);
     Ok(())
 }

@@ -42,6 +42,7 @@ fn word_symbol(word: &str) -> Symbol {
         "void" => Symbol::Void,
         "main" => Symbol::Main,
         "static" | "inline" | "extern" => Symbol::Storage,
+        "const" => Symbol::Const,
         "if" => Symbol::If,
         "else" => Symbol::Else,
         "while" => Symbol::While,

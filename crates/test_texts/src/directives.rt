@@ -1,7 +1,7 @@
 //! Directives, and signs that stand near comments.
 
 use crate::texts::{Case, first_wrong};
-use lang_tokens::{Kind, Sign, Token, lex};
+use lang_tokens::{Kind, Lexicon, Sign, Token, lex};
 use std::alloc::Global;
 
 // A text, and its tokens before the end: the kind, the place and the length of each.
@@ -15,7 +15,7 @@ impl Case for (&[u8], &[(Kind, u32, u32)]) {
             at: self.0.len() as u32,
             len: 0,
         };
-        match lex(alloc, self.0) {
+        match lex(alloc, self.0, Lexicon::Own) {
             Ok(mut tokens) => {
                 tokens.pop() == Some(end)
                     && tokens.len() == self.1.len()

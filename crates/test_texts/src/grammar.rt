@@ -2,7 +2,7 @@
 
 use crate::texts::{Case, first_wrong};
 use lang_grammar::{Syntax, examine};
-use lang_tokens::lex;
+use lang_tokens::{Lexicon, lex};
 use std::alloc::Global;
 use test_cases::repeated;
 
@@ -11,7 +11,7 @@ fn is_told(alloc: Global, text: &[u8], wanted: Syntax) -> bool {
     if text.len() > 65_536 {
         return false;
     }
-    match lex(alloc, text) {
+    match lex(alloc, text, Lexicon::Own) {
         Ok(tokens) => examine(alloc, tokens.as_slice()) == Ok(wanted),
         Err(_) => false,
     }

@@ -3,6 +3,8 @@
 #![tactic(auto)]
 
 #[cfg(test)]
+mod c_tokens;
+#[cfg(test)]
 mod claims;
 #[cfg(test)]
 mod directives;

@@ -1,7 +1,7 @@
 //! Texts, the programs that they read as, and tables of cases.
 
 use lang_parser::{ParseFault, parse};
-use lang_tokens::lex;
+use lang_tokens::{Lexicon, lex};
 use lang_tree::Program;
 use std::alloc::Global;
 
@@ -21,7 +21,7 @@ pub(crate) fn read(alloc: Global, text: &[u8]) -> Option<Result<Program, ParseFa
     if text.len() > 65_536 {
         return None;
     }
-    match lex(alloc, text) {
+    match lex(alloc, text, Lexicon::Own) {
         Ok(tokens) => Some(parse(alloc, tokens.as_slice(), text)),
         Err(_) => None,
     }

@@ -1,7 +1,7 @@
 //! Tokens: what texts are cut into, and their faults.
 
 use crate::texts::{Case, first_wrong};
-use lang_tokens::{Kind, LexFault, Sign, Token, Word, lex, line_of};
+use lang_tokens::{Kind, LexFault, Lexicon, Sign, Token, Word, lex, line_of};
 use std::alloc::Global;
 
 // Whether the text reads as these tokens and the end.
@@ -14,7 +14,7 @@ fn reads_as(alloc: Global, text: &[u8], wanted: &[Token]) -> bool {
         at: text.len() as u32,
         len: 0,
     };
-    match lex(alloc, text) {
+    match lex(alloc, text, Lexicon::Own) {
         Ok(mut tokens) => tokens.pop() == Some(end) && tokens.as_slice() == wanted,
         Err(_) => false,
     }
@@ -284,7 +284,7 @@ fn texts_are_read(rt: HostRuntime) {
 // A text, and its first fault.
 impl Case for (&[u8], LexFault) {
     fn is_right(&self, alloc: Global) -> bool {
-        self.0.len() <= 65_536 && lex(alloc, self.0).err() == Some(self.1)
+        self.0.len() <= 65_536 && lex(alloc, self.0, Lexicon::Own).err() == Some(self.1)
     }
 }
 

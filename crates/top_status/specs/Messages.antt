@@ -2,6 +2,8 @@
 use Rattle.std.specs.Prelude.{ℕ, List, [], ◌++◌, Option, Some, None, codes, decimal}
 use Rattle.lang_tokens.specs.declared.fault.LexFault.{LexFault}
 use Rattle.lang_tokens.specs.declared.fault.LexFault.TheVariants as lex
+use Rattle.lang_tokens.specs.declared.token.Foreign.{Foreign}
+use Rattle.lang_tokens.specs.declared.token.Foreign.TheVariants as foreign
 use Rattle.lang_tokens.specs.Lines.{line_at}
 use Rattle.lang_meaning.specs.declared.fault.Limit.{Limit}
 use Rattle.lang_meaning.specs.declared.fault.Limit.TheVariants.{Nesting, Variables, Statements, Leaves}
@@ -65,6 +67,7 @@ function_place (function.NameTwice at) = Some at
 function_place (function.WrongKind at) = Some at
 function_place (function.Array at) = Some at
 function_place (function.BigNumber at) = Some at
+function_place (function.SideEffect at) = Some at
 function_place (function.Limit at which) = Some at
 function_place (function.OutsideLoop at) = Some at
 function_place function.NoVariables = None
@@ -76,6 +79,8 @@ source_place (source.Unexpected at) = Some at
 source_place (source.Nesting at) = Some at
 source_place (source.NameTwice at) = Some at
 source_place source.WhichFunction = None
+source_place (source.Foreign at foreign) = Some at
+source_place (source.Macro at) = Some at
 source_place (source.Function fault) = function_place fault
 source_place source.NoMemory = None
 
@@ -220,16 +225,25 @@ function_words line (function.NameTwice at) = counted program_refused (codes "na
 function_words line (function.WrongKind at) = counted program_refused (codes "wrong kind at line ") line
 function_words line (function.Array at) = counted program_refused (codes "array at line ") line
 function_words line (function.BigNumber at) = counted program_refused (codes "big number at line ") line
+function_words line (function.SideEffect at) = counted program_refused (codes "side effect at line ") line
 function_words line (function.Limit at which) = function_limit_words line which
 function_words line (function.OutsideLoop at) = counted program_refused (codes "outside a loop at line ") line
 function_words line function.NoVariables = plain program_refused (codes "no variables")
 function_words line function.NoMemory = words (codes "out of memory")
+
+abbrev pub foreign_words : ℕ → Foreign → Words
+foreign_words line foreign.Byte = counted program_refused (codes "bad byte at line ") line
+foreign_words line foreign.Number = counted program_refused (codes "bad number at line ") line
+foreign_words line foreign.LongNumber = counted program_refused (codes "long number at line ") line
+foreign_words line foreign.LongName = counted program_refused (codes "long name at line ") line
 
 abbrev pub source_words : ℕ → SourceFault → Words
 source_words line (source.Unexpected at) = counted program_refused (codes "unexpected token at line ") line
 source_words line (source.Nesting at) = counted program_refused (codes "nesting at line ") line
 source_words line (source.NameTwice at) = counted program_refused (codes "name twice at line ") line
 source_words line source.WhichFunction = plain program_refused (codes "which function")
+source_words line (source.Foreign at foreign) = foreign_words line foreign
+source_words line (source.Macro at) = counted program_refused (codes "macro at line ") line
 source_words line (source.Function fault) = function_words line fault
 source_words line source.NoMemory = words (codes "out of memory")
 

@@ -3,7 +3,7 @@
 ghost use Rattle.std.specs.Prelude.{◌≡◌, ◌≤◌, ◌+◌, ◌++◌, [], None, Some, codes, length};
 ghost use Rattle.top_status.specs.Messages.{auto_words, claim_words, counted, counted_in, equation_words, flow_words, lex_words};
 ghost use Rattle.top_status.specs.Messages.{function_limit_words, function_words, limit_words, line_text, message_of, parse_words};
-ghost use Rattle.top_status.specs.Messages.{plain, read_words, row_words, source_words, text_words, words, words_of};
+ghost use Rattle.top_status.specs.Messages.{foreign_words, plain, read_words, row_words, source_words, text_words, words, words_of};
 ghost use Rattle.top_status.specs.Parts.{told};
 ghost use Rattle.top_status.specs.declared.limits.TheConstants.{MOST_MESSAGE_BYTES};
 ghost use Rattle.top_status.specs.declared.status.Status.TheVariants as StatusValue;
@@ -24,7 +24,7 @@ use flow_templates::RowFault;
 use flow_transitions::AutoFault;
 use itoa::Buffer;
 use lang_meaning::{Limit, ParseFault};
-use lang_tokens::LexFault;
+use lang_tokens::{Foreign, LexFault};
 use source_file::SourceFault;
 use source_meaning::{FunctionFault, Limit as FunctionLimit};
 use std::marker::Model;
@@ -148,10 +148,22 @@ fn function_parts(line: u32, fault: FunctionFault) -> Parts
         FunctionFault::WrongKind { .. } => counted(PROGRAM, b"wrong kind at line ", line),
         FunctionFault::Array { .. } => counted(PROGRAM, b"array at line ", line),
         FunctionFault::BigNumber { .. } => counted(PROGRAM, b"big number at line ", line),
+        FunctionFault::SideEffect { .. } => counted(PROGRAM, b"side effect at line ", line),
         FunctionFault::Limit { which, .. } => function_limit_parts(line, which),
         FunctionFault::OutsideLoop { .. } => counted(PROGRAM, b"outside a loop at line ", line),
         FunctionFault::NoVariables => plain_in(PROGRAM, b"no variables"),
         FunctionFault::NoMemory => plain(b"out of memory"),
+    }
+}
+
+fn foreign_parts(line: u32, foreign: Foreign) -> Parts
+    ensures { told result ≡ foreign_words line foreign }
+{
+    match foreign {
+        Foreign::Byte => counted(PROGRAM, b"bad byte at line ", line),
+        Foreign::Number => counted(PROGRAM, b"bad number at line ", line),
+        Foreign::LongNumber => counted(PROGRAM, b"long number at line ", line),
+        Foreign::LongName => counted(PROGRAM, b"long name at line ", line),
     }
 }
 
@@ -163,6 +175,8 @@ fn source_parts(line: u32, fault: SourceFault) -> Parts
         SourceFault::Nesting { .. } => counted(PROGRAM, b"nesting at line ", line),
         SourceFault::NameTwice { .. } => counted(PROGRAM, b"name twice at line ", line),
         SourceFault::WhichFunction => plain_in(PROGRAM, b"which function"),
+        SourceFault::Foreign { foreign, .. } => foreign_parts(line, foreign),
+        SourceFault::Macro { .. } => counted(PROGRAM, b"macro at line ", line),
         SourceFault::Function(fault) => function_parts(line, fault),
         SourceFault::NoMemory => plain(b"out of memory"),
     }

@@ -1,5 +1,6 @@
 -- The functions of the text of a C file, and what is written of them.
 use Rattle.std.specs.Prelude.{◌≡◌, ◌++◌, ℕ, List, [], ◌∷◌, Result, Ok, Err, flat_map, length}
+use Rattle.lang_tokens.specs.declared.lexicon.Lexicon.TheVariants.{C}
 use Rattle.lang_tokens.specs.declared.token.Token.{Token}
 use Rattle.lang_tokens.specs.Reading.{Reads, end_at}
 use Rattle.lang_tokens.specs.Faults.{HasFault}
@@ -11,11 +12,11 @@ use Rattle.top_status.specs.declared.status.TextCause.TheVariants.{Lex, Source}
 
 -- the tokens of the text are those of a file whose functions have these names in order, or of one with a fault
 abbrev pub Lists : List ℕ → Result (List (List ℕ)) SourceFault → Type 0
-Lists text answer = (front : List Token) × Reads text (front ++ end_at (length text) ∷ []) × NamesAre text front answer
+Lists text answer = (front : List Token) × Reads C text (front ++ end_at (length text) ∷ []) × NamesAre text front answer
 
 -- the text is refused by this cause
 abbrev pub AreNoFunctions : List ℕ → TextCause → Type 0
-AreNoFunctions text (Lex fault) = HasFault text fault
+AreNoFunctions text (Lex fault) = HasFault C text fault
 AreNoFunctions text (Source fault) = Lists text (Err fault)
 AreNoFunctions text _ = ⊥
 

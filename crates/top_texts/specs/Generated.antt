@@ -1,5 +1,6 @@
 -- Systems of generated programs. Their texts are read as programs of the language, which needs no function to be asked about.
 use Rattle.std.specs.Prelude.{ℕ, List, Ok}
+use Rattle.lang_tokens.specs.declared.lexicon.Lexicon.TheVariants.{Own}
 use Rattle.lang_tokens.specs.declared.token.Token.{Token}
 use Rattle.lang_tokens.specs.Reading.{Reads}
 use Rattle.lang_grammar.specs.View.{tokens_of}
@@ -12,7 +13,7 @@ use Rattle.top_texts.specs.Rounds.{IsSystemFor}
 
 -- the text's tokens mean this in the language: names and statements, or a fault
 abbrev pub ReadsAs : List ℕ → Answer → Type 0
-ReadsAs text answer = (tokens : List Token) × Reads text tokens × Means text (tokens_of text tokens) answer
+ReadsAs text answer = (tokens : List Token) × Reads Own text tokens × Means text (tokens_of text tokens) answer
 
 -- the system of a generated program over intervals: the text of the program means its names and its body, and these have the system
 pub record IsGenerated (seed loops : ℕ) (system : System) : Type 0 where

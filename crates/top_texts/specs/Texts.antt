@@ -1,6 +1,7 @@
 -- What texts are: a system to be solved, or refused by a cause. Tokens come first, then the function that is asked about, its points and
 -- edges, the template, and the unknowns.
 use Rattle.std.specs.Prelude.{◌≡◌, ◌*◌, ◌++◌, ◌≤◌, ◌<◌, ℕ, ℤ, List, [], ◌∷◌, Result, Ok, Err, Some, None, length}
+use Rattle.lang_tokens.specs.declared.lexicon.Lexicon.TheVariants.{C}
 use Rattle.lang_tokens.specs.declared.token.Token.{Token}
 use Rattle.lang_tokens.specs.Reading.{Reads, end_at}
 use Rattle.lang_tokens.specs.Faults.{HasFault}
@@ -29,7 +30,7 @@ Program = Source (List ℕ)
 
 -- the tokens of the file mean this: the names and the statements of the function that is asked about, or a fault
 abbrev pub Reading : Program → Answer → Type 0
-Reading program answer = (front : List Token) × Reads program.text (front ++ end_at (length program.text) ∷ [])
+Reading program answer = (front : List Token) × Reads C program.text (front ++ end_at (length program.text) ∷ [])
     × Means program.integers program.text program.function front answer
 
 -- a function with these names has this core: its statements of C as those of a program
@@ -76,7 +77,7 @@ pub record IsSolvedSystem (program : Program) (rows : Domain (List ℕ)) (system
 
 -- the program is refused by this cause, whatever template it is for
 abbrev pub IsRefusedProgram : Program → TextCause → Type 0
-IsRefusedProgram program (Lex fault) = HasFault program.text fault
+IsRefusedProgram program (Lex fault) = HasFault C program.text fault
 IsRefusedProgram program (InSource fault) = Reading program (Err fault)
 IsRefusedProgram program (Flow fault) =
     (names : List (List ℕ)) × (body : Statements) × HasCore program names body × (fault_of_program body ≡ Some fault)

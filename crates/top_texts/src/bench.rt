@@ -14,7 +14,7 @@ use crate::refusal::Refusal;
 use ask_words::{Domain, Policy};
 use base_watch::Watch;
 use lang_parser::parse;
-use lang_tokens::lex;
+use lang_tokens::{Lexicon, lex};
 use lang_tree::Program;
 use out_workload::{generate, generated_texts_read, summary};
 use std::alloc::Global;
@@ -28,7 +28,7 @@ fn generated_program(alloc: Global, text: &[u8]) -> Result<Program, Refusal>
     ensures ok { IfOk result (λ program. ReadsAs text.now (Ok (program.names, program.body))) }
     ensures err { IfErr result (λ refusal. refusal ≡ Refusal.NoMemory) }
 {
-    let tokens = match lex(alloc, text) {
+    let tokens = match lex(alloc, text, Lexicon::Own) {
         Ok(tokens) => tokens,
         Err(_) => return Err(Refusal::NoMemory),
     };

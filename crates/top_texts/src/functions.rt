@@ -8,7 +8,7 @@ ghost use Rattle.top_texts.specs.FunctionTexts.{AreFunctionsOf, Lists, name_line
 ghost use Rattle.top_texts.specs.Outcomes.{AreUnlisted};
 
 use crate::refusal::Refusal;
-use lang_tokens::{LexFault, lex};
+use lang_tokens::{LexFault, Lexicon, lex};
 use lang_tree::{Name, Names};
 use source_file::{SourceFault, names};
 use std::alloc::{AllocError, Global};
@@ -16,7 +16,7 @@ use top_status::TextCause;
 
 // The refusal of a text that has this fault instead of tokens.
 fn lex_refusal(fault: LexFault) -> Refusal
-    ensures { (text : List ℕ) → HasFault text fault ⊎ (fault ≡ LexFault.NoMemory) → AreUnlisted text result }
+    ensures { (text : List ℕ) → HasFault Lexicon.C text fault ⊎ (fault ≡ LexFault.NoMemory) → AreUnlisted text result }
 {
     match fault {
         LexFault::NoMemory => Refusal::NoMemory,
@@ -41,7 +41,7 @@ fn names_of(alloc: Global, text: &[u8]) -> Result<Names, Refusal>
     ensures ok { IfOk result (λ names. Lists text.now (Ok names)) }
     ensures err { IfErr result (λ refusal. AreUnlisted text.now refusal) }
 {
-    let tokens = match lex(alloc, text) {
+    let tokens = match lex(alloc, text, Lexicon::C) {
         Ok(tokens) => tokens,
         Err(fault) => return Err(lex_refusal(fault)),
     };

@@ -15,7 +15,7 @@ ghost use Rattle.top_texts.specs.Texts.{HasCore, Program as ProgramText, Reading
 use crate::refusal::Refusal;
 use ask_words::Source;
 use flow_edges::{Flow, FlowFault, flow};
-use lang_tokens::{LexFault, lex};
+use lang_tokens::{LexFault, Lexicon, lex};
 use lang_tree::Program;
 use source_file::{SourceFault, read};
 use std::alloc::Global;
@@ -23,7 +23,7 @@ use top_status::TextCause;
 
 // The refusal of a program whose text has this fault instead of tokens.
 fn lex_refusal(fault: LexFault) -> Refusal
-    ensures { (program : ProgramText) → HasFault program.text fault ⊎ (fault ≡ LexFault.NoMemory) → IsUnread program result }
+    ensures { (program : ProgramText) → HasFault Lexicon.C program.text fault ⊎ (fault ≡ LexFault.NoMemory) → IsUnread program result }
 {
     match fault {
         LexFault::NoMemory => Refusal::NoMemory,
@@ -58,7 +58,7 @@ pub(crate) fn program_of(alloc: Global, program: Source<&[u8]>) -> Result<Progra
     ensures ok { IfOk result (λ core. HasCore (source_text program.entry) core.names core.body) }
     ensures err { IfErr result (λ refusal. IsUnread (source_text program.entry) refusal) }
 {
-    let tokens = match lex(alloc, program.text) {
+    let tokens = match lex(alloc, program.text, Lexicon::C) {
         Ok(tokens) => tokens,
         Err(fault) => return Err(lex_refusal(fault)),
     };

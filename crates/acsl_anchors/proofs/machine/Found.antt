@@ -3,11 +3,15 @@ use Rattle.std.proofs.Common.{◌≡◌, ◌∙◌, ◌++◌, ◌∷◌, ℕ, Li
 use Rattle.std.proofs.lemmas.List.{append-nil, map-append}
 use Rattle.source_grammar.specs.Tokens.{Kind, else_word, while_word, left_paren, right_paren, right_brace, right_bracket, semicolon, Token}
 use Rattle.source_grammar.specs.Tokens.{token}
-use Rattle.source_grammar.specs.Grammar.{Expr, Optional, spell_expr, spell_arguments, spell_optional, spell_index, spell_effect}
-use Rattle.source_grammar.specs.Grammar.{spell_declarators, spell_first, spell_updates, no_index, index, assigns, steps, update}
-use Rattle.source_grammar.specs.Grammar as g
-use Rattle.source_grammar.specs.Grammar.{step_before, Core, empty, block, if_alone, if_else, repeat, repeat_after, repeat_for, jumps}
-use Rattle.source_grammar.specs.Grammar.{returns}
+use Rattle.source_grammar.specs.Expressions.{Expr, Optional, spell_optional, spell_index, spell_effect}
+use Rattle.source_grammar.specs.Grammar.{spell_expr, spell_arguments}
+use Rattle.source_grammar.specs.Expressions.{spell_updates, no_index, index, assigns, steps, update}
+use Rattle.source_grammar.specs.Grammar.{spell_declarators, spell_first}
+use Rattle.source_grammar.specs.Expressions as g
+use Rattle.source_grammar.specs.Expressions.{step_before}
+use Rattle.source_grammar.specs.Grammar.{Core, empty, block, if_alone, if_else, repeat, repeat_after, repeat_for, jumps}
+use Rattle.source_grammar.specs.Expressions.{last_subscript, next_subscript}
+use Rattle.source_grammar.specs.Grammar.{returns, spell_subscripts, plain_int, const_int}
 use Rattle.source_grammar.specs.Grammar.{demands, calls, updates, spell_core}
 use Rattle.source_grammar.specs.Grammar.{Sub, labelled, plain, Items, no_items, label, declaration, item, spell_sub, spell_items}
 use Rattle.source_grammar.specs.Grammar.{Ending, shut, waiting, ending_core, ending_sub, GoodCore, GoodSub, GoodItems}
@@ -25,7 +29,7 @@ use Rattle.acsl_anchors.specs.declared.goal.Place.TheVariants as place
 use Rattle.acsl_anchors.specs.declared.goal.Entry.TheVariants as enters
 use Rattle.acsl_anchors.proofs.machine.Skipped.{AreInner, inner_append, inner_expr, inner_arguments, inner_optional, inner_index}
 use Rattle.acsl_anchors.proofs.machine.Skipped.{inner_effect, rest_stays, passes, condition_run, declarators_run, first_run, test_run}
-use Rattle.acsl_anchors.proofs.machine.Skipped.{last_run, with_loop}
+use Rattle.acsl_anchors.proofs.machine.Skipped.{last_run, with_loop, inner_subscripts}
 use Rattle.acsl_anchors.proofs.machine.Scopes.{block_closed, for_closed}
 
 -- a token at which what waits for an `else` gives way
@@ -61,7 +65,8 @@ core_head _ w = refl
 pub items_head : (is : Items) (w : List Token) → GoesOn waiting w → GoesOn waiting (spell_items is ++ w)
 items_head no_items w h = h
 items_head (label x b c is) w h = refl
-items_head (declaration a xs b is) w h = refl
+items_head (declaration (plain_int a) xs b is) w h = refl
+items_head (declaration (const_int a c) xs b is) w h = refl
 items_head (item c is) w h = rw append_assoc (core_head c _)
 
 -- Where fewer variables are known, the text goes on with these.
@@ -184,12 +189,18 @@ mutual
       rw (append_assoc (spell_expr e) (token semicolon c ∷ []) w)
       (end_run (spell_expr e) (inner_expr e) c (after p gs) s found w ∙ found_none (after p gs) s found w)
   core_run (updates (update (g.place x a no_index) (steps g b)) c) p n gs s found w i h = found_none (after p gs) s found w
-  core_run (updates (update (g.place x a (index b e d)) f) c) p n gs s found w i h =
+  core_run (updates (update (g.place x a (index (last_subscript b e d))) f) c) p n gs s found w i h =
       rw (append_assoc ((spell_expr e ++ token right_bracket d ∷ []) ++ spell_effect f) (token semicolon c ∷ []) w)
       (end_run ((spell_expr e ++ token right_bracket d ∷ []) ++ spell_effect f)
       (inner_append (spell_expr e ++ token right_bracket d ∷ []) (spell_effect f)
       (inner_append (spell_expr e) (token right_bracket d ∷ []) (inner_expr e) (tt, tt)) (inner_effect f)) c (after p gs) s found w
       ∙ found_none (after p gs) s found w)
+  core_run (updates (update (g.place x a (index (next_subscript b e d is))) f) c) p n gs s found w i h =
+      let ts = spell_expr e ++ token right_bracket d ∷ spell_subscripts is in
+      rw (append_assoc (ts ++ spell_effect f) (token semicolon c ∷ []) w)
+      (end_run (ts ++ spell_effect f) (inner_append ts (spell_effect f)
+      (inner_append (spell_expr e) (token right_bracket d ∷ spell_subscripts is) (inner_expr e) (tt, inner_subscripts is))
+      (inner_effect f)) c (after p gs) s found w ∙ found_none (after p gs) s found w)
   core_run (updates (step_before d a (g.place x b i)) c) p n gs s found w j h =
       rw (append_assoc (spell_index i) (token semicolon c ∷ []) w)
       (end_run (spell_index i) (inner_index i) c (after p gs) s found w ∙ found_none (after p gs) s found w)
@@ -210,7 +221,11 @@ mutual
   items_run (label x a b is) n gs s found w g h = items_run is n gs s
       (found ++ plain_anchor (spec.label_at x a b s) ∷ []) w g h ∙ found_one (goal.Statement (place.Block n) ∷ gs) _ found
       (spec.label_at x a b s) (anchors_items is s) w
-  items_run (declaration a xs b is) n gs s found w g h =
+  items_run (declaration (plain_int a) xs b is) n gs s found w g h =
+      rw (append_assoc (spell_declarators xs) (token semicolon b ∷ spell_items is) w)
+      (declarators_run xs b (goal.Statement (place.Block n) ∷ gs) s found _
+      ∙ items_run is n gs (scope_declarators xs s) found w g.1 h)
+  items_run (declaration (const_int a c) xs b is) n gs s found w g h =
       rw (append_assoc (spell_declarators xs) (token semicolon b ∷ spell_items is) w)
       (declarators_run xs b (goal.Statement (place.Block n) ∷ gs) s found _
       ∙ items_run is n gs (scope_declarators xs s) found w g.1 h)

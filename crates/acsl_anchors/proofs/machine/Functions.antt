@@ -1,16 +1,21 @@
 -- The machine finds the anchors of a function.
 use Rattle.std.proofs.Common.{◌≡◌, ◌∙◌, ◌++◌, ◌∷◌, ℕ, List, [], Option, Some, None, refl, sym, ap, append_assoc}
 use Rattle.std.proofs.lemmas.List.{map-append}
-use Rattle.source_grammar.specs.Tokens.{left_paren, right_paren, left_brace, right_brace, semicolon, Token, token}
-use Rattle.source_grammar.specs.Grammar.{Core, returns, updates, update, step_before, Items, no_items, label, declaration, item, GoodItems}
+use Rattle.source_grammar.specs.Tokens.{comma, left_paren, right_paren, left_brace, right_brace, semicolon, Token, token}
+use Rattle.source_grammar.specs.Expressions.{update, step_before}
+use Rattle.source_grammar.specs.Grammar.{Core, returns, updates, Items, no_items, label, declaration, item, GoodItems}
 use Rattle.source_grammar.specs.Grammar.{ending_core}
-use Rattle.source_grammar.specs.Grammar.{spell_core, spell_items, spell_declarators, Specifiers, gives_int, gives_void}
+use Rattle.source_grammar.specs.Grammar.{spell_core, spell_items, spell_declarators, Declarators, Specifiers, gives_int, gives_void}
 use Rattle.source_grammar.specs.Grammar.{storage, spell_specifiers, FunctionName, called, called_main, spell_function_name, MoreParameters}
 use Rattle.source_grammar.specs.Grammar.{last_parameter, next_parameter, spell_more_parameters, Parameters, no_parameters, void_parameters}
-use Rattle.source_grammar.specs.Grammar.{int_parameters, spell_parameters, Function, function, spell, Good, Reads}
-use Rattle.source_grammar.specs.Grammar as g
+use Rattle.source_grammar.specs.Grammar.{number_size, name_size, Sizes, last_size, next_size, spell_sizes, plain_int, const_int, Bounds}
+use Rattle.source_grammar.specs.Grammar.{sized_bounds, open_bound, open_bounds, spell_bounds, Parameter, number_parameter}
+use Rattle.source_grammar.specs.Grammar.{pointer_parameter}
+use Rattle.source_grammar.specs.Grammar.{array_parameter, spell_parameter}
+use Rattle.source_grammar.specs.Grammar.{some_parameters, spell_parameters, Function, function, spell, Good, Reads}
+use Rattle.source_grammar.specs.Expressions as g
 use Rattle.acsl_anchors.specs.Anchors as spec
-use Rattle.acsl_anchors.specs.Anchors.{Scope, no_scope, declared_one, end_behind, end_at, anchors_of, anchors_items}
+use Rattle.acsl_anchors.specs.Anchors.{Scope, no_scope, scope_parameter, end_behind, end_at, anchors_of, anchors_items}
 use Rattle.acsl_anchors.specs.Anchors.{anchors_core, scope_core, scope_items, scope_declarators, scope_more_parameters, scope_parameters}
 use Rattle.acsl_anchors.specs.View.{plain_anchor, plain_anchors}
 use Rattle.acsl_anchors.specs.Machine.{State, state, run, start}
@@ -35,19 +40,70 @@ name_run : (x : FunctionName) (s : Scope) (w : List Token)
 name_run (called x a) s w = refl
 name_run (called_main a) s w = refl
 
--- The parameters behind the first are declared.
-more_parameters_run : (ps : MoreParameters) (s : Scope) (w : List Token)
-    → run (state (goal.Parameters ∷ []) s []) (spell_more_parameters ps ++ w)
+-- The sizes of a parameter behind the first are passed over,
+sizes_run : (ss : Sizes) (s : Scope) (w : List Token)
+    → run (state (goal.Parameters ∷ []) s []) (spell_sizes ss ++ w) ≡ run (state (goal.Parameters ∷ []) s []) w
+sizes_run (last_size a (number_size m b) c) s w = refl
+sizes_run (last_size a (name_size x b) c) s w = refl
+sizes_run (next_size a (number_size m b) c ss) s w = sizes_run ss s w
+sizes_run (next_size a (name_size x b) c ss) s w = sizes_run ss s w
+
+-- and the first of its brackets tells that it is no variable.
+bounds_run : (y : List ℕ) (bs : Bounds) (s : Scope) (w : List Token)
+    → run (state (goal.NamedParameter y ∷ []) s []) (spell_bounds bs ++ w) ≡ run (state (goal.Parameters ∷ []) s []) w
+bounds_run y (sized_bounds (last_size a (number_size m b) c)) s w = refl
+bounds_run y (sized_bounds (last_size a (name_size x b) c)) s w = refl
+bounds_run y (sized_bounds (next_size a (number_size m b) c ss)) s w = sizes_run ss s w
+bounds_run y (sized_bounds (next_size a (name_size x b) c ss)) s w = sizes_run ss s w
+bounds_run y (open_bound a b) s w = refl
+bounds_run y (open_bounds a b ss) s w = sizes_run ss s w
+
+-- what stands behind a parameter
+abbrev FollowsParameter : List Token → Type 0
+FollowsParameter [] = ⊥
+FollowsParameter (token comma a ∷ ts) = Unit {0}
+FollowsParameter (token right_paren a ∷ ts) = Unit {0}
+FollowsParameter (token k a ∷ ts) = ⊥
+
+-- behind the name of a number
+number_run : (x : List ℕ) (s : Scope) (w : List Token) → FollowsParameter w
+    → run (state (goal.NamedParameter x ∷ []) s []) w ≡ run (state (goal.Parameters ∷ []) (spec.declared x s) []) w
+number_run x s [] h = absurd h
+number_run x s (token comma a ∷ ts) h = refl
+number_run x s (token right_paren a ∷ ts) h = refl
+number_run x s (token _ a ∷ ts) h = absurd h
+
+-- A parameter is declared.
+parameter_run : (p : Parameter) (s : Scope) (w : List Token) → FollowsParameter w
+    → run (state (goal.Parameters ∷ []) s []) (spell_parameter p ++ w) ≡ run (state (goal.Parameters ∷ []) (scope_parameter p s) []) w
+parameter_run (number_parameter (plain_int a) x b) s w h = number_run x.text s w h
+parameter_run (number_parameter (const_int a c) x b) s w h = number_run x.text s w h
+parameter_run (pointer_parameter (plain_int a) b x c) s w h = refl
+parameter_run (pointer_parameter (const_int a d) b x c) s w h = refl
+parameter_run (array_parameter (plain_int a) x b bs) s w h = bounds_run x.text bs s w
+parameter_run (array_parameter (const_int a c) x b bs) s w h = bounds_run x.text bs s w
+
+-- what stands behind one among parameters
+follows : (ps : MoreParameters) (b : ℕ) (w : List Token) → FollowsParameter (spell_more_parameters ps ++ token right_paren b ∷ w)
+follows last_parameter b w = tt
+follows (next_parameter a p ps) b w = tt
+
+-- Those behind the first are declared.
+more_parameters_run : (ps : MoreParameters) (b : ℕ) (s : Scope) (w : List Token)
+    → run (state (goal.Parameters ∷ []) s []) (spell_more_parameters ps ++ token right_paren b ∷ w)
     ≡ run (state (goal.Parameters ∷ []) (scope_more_parameters ps s) []) w
-more_parameters_run last_parameter s w = refl
-more_parameters_run (next_parameter a b x c ps) s w = more_parameters_run ps (declared_one s) w
+more_parameters_run last_parameter b s w = refl
+more_parameters_run (next_parameter a p ps) b s w =
+    rw append_assoc (parameter_run p s _ (follows ps b w) ∙ more_parameters_run ps b (scope_parameter p s) w)
 
 -- So are all parameters.
-parameters_run : (ps : Parameters) (s : Scope) (w : List Token)
-    → run (state (goal.Parameters ∷ []) s []) (spell_parameters ps ++ w) ≡ run (state (goal.Parameters ∷ []) (scope_parameters ps s) []) w
-parameters_run no_parameters s w = refl
-parameters_run (void_parameters a) s w = refl
-parameters_run (int_parameters a x b ps) s w = more_parameters_run ps (declared_one s) w
+parameters_run : (ps : Parameters) (b : ℕ) (s : Scope) (w : List Token)
+    → run (state (goal.Parameters ∷ []) s []) (spell_parameters ps ++ token right_paren b ∷ w)
+    ≡ run (state (goal.Parameters ∷ []) (scope_parameters ps s) []) w
+parameters_run no_parameters b s w = refl
+parameters_run (void_parameters a) b s w = refl
+parameters_run (some_parameters p ps) b s w =
+    rw append_assoc (parameter_run p s _ (follows ps b w) ∙ more_parameters_run ps b (scope_parameter p s) w)
 
 -- ---- the body
 -- what waits for the brace behind a `return`
@@ -81,6 +137,15 @@ found_then o c is d e s found w h =
     ∙ ap (λ (l : List Anchor). found ++ l) (sym (map-append plain_anchor (anchors_core c s) (anchors_items is (scope_core c s) ++ last))
     ∙ ap (λ (l : List spec.Anchor). plain_anchors l) (sym (append_assoc (anchors_core c s) (anchors_items is (scope_core c s)) last)))
 
+-- what is found behind a declaration of the body
+declared_run : (xs : Declarators) (b : ℕ) (is : Items) (d : ℕ) (s : Scope) (found : List Anchor) {last : List Anchor}
+    → (run (state (pending None) (scope_declarators xs s) found) (spell_items is ++ token right_brace d ∷ [])).found ≡ last
+    → (run (state (goal.Declaring ∷ goal.Statement place.Body ∷ []) s found)
+    ((spell_declarators xs ++ token semicolon b ∷ spell_items is) ++ token right_brace d ∷ [])).found ≡ last
+declared_run xs b is d s found h =
+    rw (append_assoc (spell_declarators xs) (token semicolon b ∷ spell_items is) (token right_brace d ∷ []))
+    (ap (λ (st : State). st.found) (declarators_run xs b (goal.Statement place.Body ∷ []) s found _) ∙ h)
+
 -- The anchors of the body, and the end before its last `return` or its brace.
 body_run : (is : Items) (o : Option ℕ) (d : ℕ) (s : Scope) (found : List Anchor) → GoodItems is
     → (run (state (pending o) s found) (spell_items is ++ token right_brace d ∷ [])).found
@@ -93,14 +158,10 @@ body_run (label x a b is) None d s found g =
 body_run (label x a b is) (Some e) d s found g =
     body_run is None d s (found ++ plain_anchor (spec.label_at x a b s) ∷ []) g
     ∙ append_assoc found (plain_anchor (spec.label_at x a b s) ∷ []) _
-body_run (declaration a xs b is) None d s found g =
-    rw (append_assoc (spell_declarators xs) (token semicolon b ∷ spell_items is) (token right_brace d ∷ []))
-    (ap (λ (st : State). st.found) (declarators_run xs b (goal.Statement place.Body ∷ []) s found _)
-    ∙ body_run is None d (scope_declarators xs s) found g.1)
-body_run (declaration a xs b is) (Some e) d s found g =
-    rw (append_assoc (spell_declarators xs) (token semicolon b ∷ spell_items is) (token right_brace d ∷ []))
-    (ap (λ (st : State). st.found) (declarators_run xs b (goal.Statement place.Body ∷ []) s found _)
-    ∙ body_run is None d (scope_declarators xs s) found g.1)
+body_run (declaration (plain_int a) xs b is) None d s found g = declared_run xs b is d s found (body_run is None d _ found g.1)
+body_run (declaration (const_int a c) xs b is) None d s found g = declared_run xs b is d s found (body_run is None d _ found g.1)
+body_run (declaration (plain_int a) xs b is) (Some e) d s found g = declared_run xs b is d s found (body_run is None d _ found g.1)
+body_run (declaration (const_int a c) xs b is) (Some e) d s found g = declared_run xs b is d s found (body_run is None d _ found g.1)
 body_run (item (returns a t b) is) o d s found g =
     ap (λ (ts : List Token). (run (state (pending o) s found) ts).found)
     (append_assoc (spell_core (returns a t b)) (spell_items is) (token right_brace d ∷ []))
@@ -124,7 +185,7 @@ function_found (function ss n a ps b c is d) h =
     ++ token right_paren b ∷ token left_brace c ∷ (spell_items is ++ token right_brace d ∷ [])))
     ∙ (name_run n no_scope (token left_paren a ∷ (spell_parameters ps
     ++ token right_paren b ∷ token left_brace c ∷ (spell_items is ++ token right_brace d ∷ [])))
-    ∙ parameters_run ps no_scope (token right_paren b ∷ token left_brace c ∷ (spell_items is ++ token right_brace d ∷ []))))
+    ∙ parameters_run ps b no_scope (token left_brace c ∷ (spell_items is ++ token right_brace d ∷ []))))
     ∙ body_run is None d (scope_parameters ps no_scope) [] h
 
 -- What the machine finds at the tokens of a function are its anchors.

@@ -2,11 +2,11 @@
 use Rattle.std.proofs.Common.{◌≡◌, ◌∙◌, ◌++◌, ◌∷◌, ℕ, List, [], length, take, refl, ap, append_assoc}
 use Rattle.std.proofs.lemmas.List.{append-nil}
 use Rattle.std.proofs.Math.Seq.{take-append_seam}
-use Rattle.source_grammar.specs.Grammar.{Initialiser, bare, given, sized, declarator, MoreDeclarators, last_declarator}
+use Rattle.source_grammar.specs.Grammar.{Initialiser, bare, given, sized, filled, declarator, MoreDeclarators, last_declarator}
 use Rattle.source_grammar.specs.Grammar.{next_declarator, Declarators, declares, ForFirst, declared_first, updated_first}
 use Rattle.source_grammar.specs.Grammar.{Core, empty, block, if_alone, if_else, repeat, repeat_after, repeat_for, jumps, returns, demands}
 use Rattle.source_grammar.specs.Grammar.{calls, updates, Sub, labelled, plain, Items, no_items, label, declaration, item}
-use Rattle.acsl_anchors.specs.Anchors.{Scope, closing, scope_by, scope_more_declarators, scope_declarators}
+use Rattle.acsl_anchors.specs.Anchors.{Scope, number_among, closing, scope_by, scope_more_declarators, scope_declarators}
 use Rattle.acsl_anchors.specs.Anchors.{scope_first, scope_core, scope_sub, scope_items}
 use Rattle.acsl_anchors.specs.Machine.{kept}
 
@@ -23,25 +23,26 @@ none_more : (xs : List ℕ) → Extends xs xs
 none_more xs = ([], rw append-nil refl)
 
 -- A declaration makes more names known, or an array none,
-by_extends : (i : Initialiser) (s : Scope) → Extends s.known (scope_by i s).known
-by_extends bare s = (s.declared ∷ [], refl)
-by_extends (given a e) s = (s.declared ∷ [], refl)
-by_extends (sized a n b c) s = none_more s.known
+by_extends : (x : List ℕ) (i : Initialiser) (s : Scope) → Extends s.known (scope_by x i s).known
+by_extends x bare s = (number_among x s.variables ∷ [], refl)
+by_extends x (given a e) s = (number_among x s.variables ∷ [], refl)
+by_extends x (sized ss) s = none_more s.known
+by_extends x (filled ss a b vs c) s = none_more s.known
 
 -- so do declarators behind the first,
 more_extend : (xs : MoreDeclarators) (s : Scope) → Extends s.known (scope_more_declarators xs s).known
 more_extend last_declarator s = none_more s.known
-more_extend (next_declarator a (declarator x b i) xs) s = extends_once s.known (scope_by i s).known
-    (scope_more_declarators xs (scope_by i s)).known (by_extends i s) (more_extend xs (scope_by i s))
+more_extend (next_declarator a (declarator x b i) xs) s = extends_once s.known (scope_by x.text i s).known
+    (scope_more_declarators xs (scope_by x.text i s)).known (by_extends x.text i s) (more_extend xs (scope_by x.text i s))
 
 -- and all of them,
 declarators_extend : (xs : Declarators) (s : Scope) → Extends s.known (scope_declarators xs s).known
-declarators_extend (declares (declarator x b i) xs) s = extends_once s.known (scope_by i s).known
-    (scope_more_declarators xs (scope_by i s)).known (by_extends i s) (more_extend xs (scope_by i s))
+declarators_extend (declares (declarator x b i) xs) s = extends_once s.known (scope_by x.text i s).known
+    (scope_more_declarators xs (scope_by x.text i s)).known (by_extends x.text i s) (more_extend xs (scope_by x.text i s))
 
 -- also those in the head of a `for`,
 first_extends : (f : ForFirst) (s : Scope) → Extends s.known (scope_first f s).known
-first_extends (declared_first a xs) s = declarators_extend xs s
+first_extends (declared_first t xs) s = declarators_extend xs s
 first_extends (updated_first us) s = none_more s.known
 
 mutual
@@ -69,7 +70,7 @@ mutual
 items_extend : (is : Items) (s : Scope) → Extends s.known (scope_items is s).known
 items_extend no_items s = none_more s.known
 items_extend (label x a b is) s = items_extend is s
-items_extend (declaration a xs b is) s = extends_once s.known (scope_declarators xs s).known (scope_items is (scope_declarators xs s)).known
+items_extend (declaration t xs b is) s = extends_once s.known (scope_declarators xs s).known (scope_items is (scope_declarators xs s)).known
     (declarators_extend xs s) (items_extend is (scope_declarators xs s))
 items_extend (item c is) s = let (more, h) = items_extend is (scope_core c s) in (more, h ∙ ap (λ l. l ++ more) (core_known c s))
 
@@ -79,7 +80,7 @@ taken_back xs ys (more, h) = rw h (take-append_seam xs more)
 
 -- So what is known behind a block is told by their number,
 pub block_closed : (is : Items) (s : Scope) → kept (length s.known) (scope_items is s) ≡ closing s (scope_items is s)
-block_closed is s = ap (λ (l : List ℕ). let t : Scope = record { declared = (scope_items is s).declared; known = l } in t)
+block_closed is s = ap (λ (l : List ℕ). let t : Scope = record { variables = (scope_items is s).variables; known = l } in t)
     (taken_back s.known (scope_items is s).known (items_extend is s))
 
 -- what is known at the end of the body of a `for`
@@ -89,5 +90,6 @@ for_extends f body s = let (more, h) = first_extends f s in (more, sub_known bod
 -- and likewise behind a `for`.
 pub for_closed : (f : ForFirst) (body : Sub) (s : Scope) → kept (length s.known) (scope_sub body (scope_first f s))
     ≡ closing s (scope_sub body (scope_first f s))
-for_closed f body s = ap (λ (l : List ℕ). let t : Scope = record { declared = (scope_sub body (scope_first f s)).declared; known = l } in t)
+for_closed f body s =
+    ap (λ (l : List ℕ). let t : Scope = record { variables = (scope_sub body (scope_first f s)).variables; known = l } in t)
     (taken_back s.known (scope_sub body (scope_first f s)).known (for_extends f body s))

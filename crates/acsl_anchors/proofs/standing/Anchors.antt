@@ -1,11 +1,13 @@
 -- Where tokens stand in order, so do the anchors of what they spell.
 use Rattle.std.proofs.Common.{◌≤◌, ◌+◌, ◌++◌, ◌∷◌, ℕ, List, [], refl, sym, arith, append_assoc}
-use Rattle.source_grammar.specs.Tokens.{else_word, if_word, while_word, left_paren, right_paren, right_brace, left_brace, semicolon, token}
-use Rattle.source_grammar.specs.Grammar.{spell_expr, spell_optional, spell_updates, spell_declarators, spell_first, spell_specifiers}
+use Rattle.source_grammar.specs.Tokens.{else_word, if_word, while_word, left_paren, right_paren, right_brace, left_brace, semicolon, Token}
+use Rattle.source_grammar.specs.Tokens.{token}
+use Rattle.source_grammar.specs.Expressions.{spell_optional, spell_updates}
+use Rattle.source_grammar.specs.Grammar.{spell_expr, spell_declarators, spell_first, spell_specifiers}
 use Rattle.source_grammar.specs.Grammar.{spell_function_name, spell_parameters, Function, function, spell}
 use Rattle.source_grammar.specs.Grammar.{Core, empty, block, if_alone, if_else, repeat, repeat_after, repeat_for, jumps, returns, demands}
 use Rattle.source_grammar.specs.Grammar.{calls, updates, spell_core, Sub, labelled, plain, Items, no_items, label, declaration, item}
-use Rattle.source_grammar.specs.Grammar.{spell_sub, spell_items}
+use Rattle.source_grammar.specs.Grammar.{spell_sub, spell_items, spell_type}
 use Rattle.acsl_anchors.specs.Anchors.{Anchor, Scope, no_scope, end_behind, end_at, scope_declarators, scope_first, scope_core, scope_sub}
 use Rattle.acsl_anchors.specs.Anchors.{scope_items, scope_parameters, anchors_core, anchors_sub, anchors_items, anchors_of}
 use Rattle.acsl_anchors.proofs.standing.Ranges.{Standing, Placed, in_order, split, wider, one_after_another, headed}
@@ -84,10 +86,16 @@ module _ (P : ℕ → Type 0) where
     items_placed : (is : Items) (s : Scope) (from to : ℕ) → Standing P from (spell_items is) to → Placed P from (anchors_items is s) to
     items_placed no_items s from to h = h
     items_placed (label x a b is) s from to h = (omega (arith, h.0, h.2.0), h.2.1.behind refl, items_placed is s (b + 1) to h.2.2)
-    items_placed (declaration a xs b is) s from to h =
-        let p = split P (spell_declarators xs) (token semicolon b ∷ spell_items is) (a + 1) to h.2 in
+    items_placed (declaration t xs b is) s from to h =
+        let q = split P (spell_type t) (spell_declarators xs ++ token semicolon b ∷ spell_items is) from to h in
+        let p = split P (spell_declarators xs) (token semicolon b ∷ spell_items is) q.between to q.right in
         wider P (anchors_items is (scope_declarators xs s)) from (b + 1) to to
-        (omega (arith, h.0, in_order P (spell_declarators xs) (a + 1) p.between p.left, p.right.0)) (omega arith)
+        (omega (
+          arith,
+          in_order P (spell_type t) from q.between q.left,
+          in_order P (spell_declarators xs) q.between p.between p.left,
+          p.right.0,
+        )) (omega arith)
         (items_placed is (scope_declarators xs s) (b + 1) to p.right.2)
     items_placed (item c is) s from to h =
         let p = split P (spell_core c) (spell_items is) from to h in
@@ -113,13 +121,21 @@ module _ (P : ℕ → Type 0) where
       → Placed P from (anchors_items is s ++ end_at (end_behind d is d) (scope_items is s) ∷ []) to
   body_placed no_items d s from to h = (h.0, h.1.begin refl, omega (arith, h.2))
   body_placed (label x a b is) d s from to h = (omega (arith, h.0, h.2.0), h.2.1.behind refl, body_placed is d s (b + 1) to h.2.2)
-  body_placed (declaration a xs b is) d s from to h =
-      let p = split P (spell_declarators xs) (token semicolon b ∷ (spell_items is ++ token right_brace d ∷ [])) (a + 1) (to + 1)
-      (rw (sym (append_assoc (spell_declarators xs) (token semicolon b ∷ spell_items is) (token right_brace d ∷ []))) h.2) in
-      let t = scope_declarators xs s in
-      wider P (anchors_items is t ++ end_at (end_behind d is d) (scope_items is t) ∷ []) from (b + 1) to to
-      (omega (arith, h.0, in_order P (spell_declarators xs) (a + 1) p.between p.left, p.right.0)) (omega arith)
-      (body_placed is d t (b + 1) to p.right.2)
+  body_placed (declaration t xs b is) d s from to h =
+      let last : List Token = token right_brace d ∷ [] in
+      let q = split P (spell_type t) ((spell_declarators xs ++ token semicolon b ∷ spell_items is) ++ last) from (to + 1)
+      (rw (sym (append_assoc (spell_type t) (spell_declarators xs ++ token semicolon b ∷ spell_items is) last)) h) in
+      let p = split P (spell_declarators xs) (token semicolon b ∷ (spell_items is ++ last)) q.between (to + 1)
+      (rw (sym (append_assoc (spell_declarators xs) (token semicolon b ∷ spell_items is) last)) q.right) in
+      let after = scope_declarators xs s in
+      wider P (anchors_items is after ++ end_at (end_behind d is d) (scope_items is after) ∷ []) from (b + 1) to to
+      (omega (
+        arith,
+        in_order P (spell_type t) from q.between q.left,
+        in_order P (spell_declarators xs) q.between p.between p.left,
+        p.right.0,
+      )) (omega arith)
+      (body_placed is d after (b + 1) to p.right.2)
   body_placed (item (returns a t b) no_items) d s from to h =
       (h.0, h.1.begin refl, omega (arith, in_order P _ (a + 1) (to + 1) h.2))
   body_placed (item c no_items) d s from to h =

@@ -2,7 +2,8 @@
 use Rattle.std.proofs.Common.{◌≡◌, ◌≤◌, ◌+◌, ◌++◌, ◌∷◌, ℕ, Bool, true, false, List, [], arith}
 use Rattle.source_grammar.specs.Tokens.{Kind, colon, left_paren, right_paren, right_brace, while_word, do_word, for_word, return_word}
 use Rattle.source_grammar.specs.Tokens.{Token, token}
-use Rattle.source_grammar.specs.Grammar.{Expr, spell_expr}
+use Rattle.source_grammar.specs.Expressions.{Expr}
+use Rattle.source_grammar.specs.Grammar.{spell_expr}
 use Rattle.acsl_anchors.specs.Anchors.{Anchor}
 
 -- a token that may stand behind an anchor

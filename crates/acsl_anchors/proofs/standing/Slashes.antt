@@ -2,13 +2,8 @@
 use Rattle.std.proofs.Common.{◌≡◌, ◌∙◌, ◌++◌, ◌∷◌, ℕ, Bool, true, false, Option, Some, None, List, [], refl, sym, ap, subst}
 use Rattle.source_grammar.specs.Tokens.{Kind, infix_sign, over_op, right_brace, while_word, do_word, for_word, return_word, Token, token}
 use Rattle.source_grammar.specs.Grammar.{Function, Reads}
-use Rattle.source_grammar.specs.Machine.{Goal, operand, named, more, maybe_expr, maybe_arguments, more_arguments, indexing, effect}
-use Rattle.source_grammar.specs.Machine.{changing, more_changes, maybe_changes, declaring, initialising, more_declarators, statement}
-use Rattle.source_grammar.specs.Machine.{after_name}
-use Rattle.source_grammar.specs.Machine.{maybe_else, condition, do_end, header, header_first, header_rest, specifiers, function_name}
-use Rattle.source_grammar.specs.Machine.{parameters}
-use Rattle.source_grammar.specs.Machine.{more_parameters, some_name, some_number, only, opening, closing, brace_opening, bracket_closing}
-use Rattle.source_grammar.specs.Machine.{colon_mark, statement_end, int_type, Entry, takes, skips, stops, entry, step, run, start}
+use Rattle.source_grammar.specs.Machine as m
+use Rattle.source_grammar.specs.Machine.{Goal, operand, Entry, takes, skips, stops, entry, step, run, start}
 use Rattle.source_grammar.proofs.grammar.Taken.{accepted}
 use Rattle.acsl_anchors.proofs.standing.Ranges.{is_anchor}
 
@@ -30,40 +25,44 @@ pub data Divides : Entry → Type 0 where
 -- each goal does so
 entry_over : (g : Goal) → Divides (entry g over)
 entry_over (operand d) = it_stops
-entry_over (named d) = it_skips
-entry_over (more d) = it_takes d (more d ∷ [])
-entry_over (maybe_expr d) = it_skips
-entry_over (maybe_arguments d) = it_skips
-entry_over (more_arguments d) = it_skips
-entry_over (indexing d) = it_skips
-entry_over (effect d) = it_stops
-entry_over (changing d) = it_stops
-entry_over (more_changes d) = it_skips
-entry_over (maybe_changes d) = it_skips
-entry_over (declaring d) = it_stops
-entry_over (initialising d) = it_skips
-entry_over (more_declarators d) = it_skips
-entry_over (statement p d) = it_stops
-entry_over (after_name p d) = it_stops
-entry_over (maybe_else d) = it_skips
-entry_over (condition d) = it_stops
-entry_over (do_end d) = it_stops
-entry_over (header d) = it_stops
-entry_over (header_first d) = it_skips
-entry_over (header_rest d) = it_stops
-entry_over specifiers = it_stops
-entry_over function_name = it_stops
-entry_over parameters = it_skips
-entry_over more_parameters = it_skips
-entry_over some_name = it_stops
-entry_over some_number = it_stops
-entry_over (only opening) = it_stops
-entry_over (only closing) = it_stops
-entry_over (only brace_opening) = it_stops
-entry_over (only bracket_closing) = it_stops
-entry_over (only colon_mark) = it_stops
-entry_over (only statement_end) = it_stops
-entry_over (only int_type) = it_stops
+entry_over (m.named d) = it_skips
+entry_over (m.more d) = it_takes d (m.more d ∷ [])
+entry_over (m.maybe_expr d) = it_skips
+entry_over (m.maybe_arguments d) = it_skips
+entry_over (m.more_arguments d) = it_skips
+entry_over (m.indexing d) = it_skips
+entry_over (m.effect d) = it_stops
+entry_over (m.changing d) = it_stops
+entry_over (m.more_changes d) = it_skips
+entry_over (m.maybe_changes d) = it_skips
+entry_over (m.declaring d) = it_stops
+entry_over (m.initialising d) = it_skips
+entry_over (m.more_declarators d) = it_skips
+entry_over (m.sizing d) = it_skips
+entry_over (m.filling d) = it_stops
+entry_over (m.maybe_values d) = it_skips
+entry_over (m.more_values d) = it_skips
+entry_over (m.statement p d) = it_stops
+entry_over (m.after_name p d) = it_stops
+entry_over (m.maybe_else d) = it_skips
+entry_over (m.condition d) = it_stops
+entry_over (m.do_end d) = it_stops
+entry_over (m.header d) = it_stops
+entry_over (m.header_first d) = it_skips
+entry_over (m.header_rest d) = it_stops
+entry_over m.specifiers = it_stops
+entry_over m.function_name = it_stops
+entry_over m.parameters = it_skips
+entry_over m.more_parameters = it_skips
+entry_over m.some_type = it_stops
+entry_over m.parameter_name = it_stops
+entry_over m.bounding = it_skips
+entry_over m.more_sizes = it_skips
+entry_over m.some_name = it_stops
+entry_over m.some_size = it_stops
+entry_over m.maybe_size = it_skips
+entry_over (m.only m.opening) = it_stops
+entry_over (m.only _) = it_stops
 
 -- what comes of a stack at a token, from what its first goal and the others make of it
 abbrev comes_of : Entry → List Goal → Option (List Goal) → Option (List Goal)

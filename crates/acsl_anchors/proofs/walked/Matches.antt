@@ -1,5 +1,5 @@
 -- The anchors of a statement are those of its points, and the scope behind it is what the walk knows there.
-use Rattle.std.proofs.Common.{◌≡◌, ◌∙◌, ◌+◌, ◌++◌, ◌∷◌, ℕ, Bool, true, List, [], length, map, Ok, refl, sym, ap, ap₂, subst}
+use Rattle.std.proofs.Common.{◌≡◌, ◌∙◌, ◌+◌, ◌++◌, ◌∷◌, ℕ, Bool, true, List, [], length, reverse, map, Ok, refl, sym, ap, ap₂, subst}
 use Rattle.std.proofs.lemmas.List.{append-nil, map-append}
 use Rattle.lang_tree.specs.Tree as core
 use Rattle.lang_tree.specs.Tree.{nodes_in, returns}
@@ -20,12 +20,14 @@ use Rattle.source_meaning.specs.Statements.{read_declarators}
 use Rattle.source_meaning.specs.Statements.{read_first, read_test, read_updates, read_returned, read_core, read_sub, read_items}
 use Rattle.acsl_anchors.specs.Anchors.{Anchor, Scope, loop_at, label_at, closing, scope_declarators, scope_first, scope_core, scope_sub}
 use Rattle.acsl_anchors.specs.Anchors.{scope_items, anchors_core, anchors_sub, anchors_items}
-use Rattle.acsl_anchors.specs.Laws.{point_of, known_in, scope_of}
+use Rattle.acsl_anchors.specs.Laws.{point_of, known_in, scope_of, IsNumbered}
 use Rattle.acsl_anchors.proofs.walked.Binds.{met, IsOk, ok_is}
 use Rattle.acsl_anchors.proofs.walked.Names.{Grows, grows_none, grows_then, closed_known, closed_grows}
-use Rattle.acsl_anchors.proofs.walked.Parts.{Still, still_scope, still_grows, still_then, counted_still, label_still, jumped_still}
+use Rattle.acsl_anchors.proofs.walked.Parts.{Still, still_scope, still_numbered, still_grows, still_then, counted_still, label_still}
+use Rattle.acsl_anchors.proofs.walked.Parts.{jumped_still}
 use Rattle.acsl_anchors.proofs.walked.Parts.{Passes, declarators_pass, updates_still, update_passes, first_passes, returned_passes}
 use Rattle.acsl_anchors.proofs.walked.Parts.{call_passes}
+use Rattle.acsl_anchors.proofs.walked.Numbered.{numbered_closed}
 use Rattle.acsl_anchors.proofs.walked.Points.{anchored_in, behind_deeds, branch_anchored, loop_anchored, assume_anchored, anchored_followed}
 use Rattle.acsl_anchors.proofs.walked.Points.{anchored_one}
 use Rattle.base_integers.specs.declared.integers.Integers.{Integers}
@@ -35,7 +37,9 @@ pub record Matches (integers : Integers) (line : ℕ → ℕ) (n : ℕ) (scope :
     (st now : State) (nodes : Statements) :
     Type 0 where
   -- the way leads from the scope of the first state to that of the second
-  pub behind : scope (scope_of st) ≡ scope_of now
+  pub behind : IsNumbered st → scope (scope_of st) ≡ scope_of now
+  -- the numbers are still those of the names
+  pub numbered : IsNumbered st → IsNumbered now
   -- the names grow
   pub grows : Grows st now
   -- the anchors' points are those of the statements that have anchors
@@ -49,16 +53,18 @@ module _ (integers : Integers) (line : ℕ → ℕ) (n : ℕ) where
       subst P (ok_is p r h) m
 
   -- What passes without anchors matches none.
-  passed : (scope : Scope → Scope) (st now : State) (nodes : Statements) → Passes integers n (scope (scope_of st)) st now nodes
+  passed : (scope : Scope → Scope) (st now : State) (nodes : Statements) → Passes integers n scope st now nodes
       → Matches integers line n scope (λ s. []) st now nodes
-  passed scope st now nodes p = record { behind = p.behind; grows = p.grows; points = λ s m. sym (p.none m) }
+  passed scope st now nodes p =
+      record { behind = p.behind; numbered = p.numbered; grows = p.grows; points = λ s m. sym (p.none m) }
 
   -- One way and then another.
   then_matches : (first second : Scope → Scope) (xs ys : Scope → List Anchor) (st now last : State) (ss rest : Statements)
       → Matches integers line n first xs st now ss → Matches integers line n second ys now last rest
       → Matches integers line n (λ s. second (first s)) (λ s. xs s ++ ys (first s)) st last (followed_by ss rest)
   then_matches first second xs ys st now last ss rest p q = record {
-    behind = ap second p.behind ∙ q.behind;
+    behind = λ i. ap second (p.behind i) ∙ q.behind (p.numbered i);
+    numbered = λ i. q.numbered (p.numbered i);
     grows = grows_then st now last p.grows q.grows;
     points = λ s m.
         let (k, e) = anchored_followed integers n ss rest m in
@@ -71,7 +77,8 @@ module _ (integers : Integers) (line : ℕ → ℕ) (n : ℕ) where
   still_matches : (scope : Scope → Scope) (anchors : Scope → List Anchor) (st now last : State) (nodes : Statements) → Still st now
       → Matches integers line n scope anchors now last nodes → Matches integers line n scope anchors st last nodes
   still_matches scope anchors st now last nodes s m = record {
-    behind = ap scope (still_scope st now s) ∙ m.behind;
+    behind = λ i. ap scope (still_scope st now s) ∙ m.behind (still_numbered st now s i);
+    numbered = λ i. m.numbered (still_numbered st now s i);
     grows = grows_then st now last (still_grows st now s) m.grows;
     points = m.points;
   }
@@ -81,9 +88,11 @@ module _ (integers : Integers) (line : ℕ → ℕ) (n : ℕ) where
       → Matches integers line n scope anchors st now nodes
       → Matches integers line n (λ s. closing s (scope s)) anchors st (closed (length st.names) now) nodes
   block_matches scope anchors st now nodes m = record {
-    behind = ap (λ (k : ℕ). let s : Scope = record { declared = k; known = known_in st.names } in s)
-        (ap (λ (s : Scope). s.declared) m.behind)
-        ∙ ap (λ (l : List ℕ). let s : Scope = record { declared = now.variables; known = l } in s) (sym (closed_known st now m.grows));
+    behind = λ i. ap (λ (vs : List (List ℕ)). let s : Scope = record { variables = vs; known = known_in st.names } in s)
+        (ap (λ (s : Scope). s.variables) (m.behind i))
+        ∙ ap (λ (l : List ℕ). let s : Scope = record { variables = reverse now.variables; known = l } in s)
+        (sym (closed_known st now m.grows));
+    numbered = λ i. numbered_closed (length st.names) now (m.numbered i);
     grows = closed_grows st now m.grows;
     points = m.points;
   }
@@ -96,6 +105,7 @@ module _ (integers : Integers) (line : ℕ → ℕ) (n : ℕ) where
       let t = condition_of integers n (line a) x in
       record {
         behind = h.behind;
+        numbered = h.numbered;
         grows = h.grows;
         points = λ s m.
             let (k, e) = behind_deeds t.prelude
@@ -117,7 +127,8 @@ module _ (integers : Integers) (line : ℕ → ℕ) (n : ℕ) where
   both_match a first second st x p q h i =
       let t = condition_of integers n (line a) x in
       record {
-        behind = ap (scope_sub second) h.behind ∙ i.behind;
+        behind = λ o. ap (scope_sub second) (h.behind o) ∙ i.behind (h.numbered o);
+        numbered = λ o. i.numbered (h.numbered o);
         grows = grows_then st p.0 q.0 h.grows i.grows;
         points = λ s m.
             let (k, e) = behind_deeds t.prelude
@@ -136,6 +147,7 @@ module _ (integers : Integers) (line : ℕ → ℕ) (n : ℕ) where
       let t = condition_of integers n (line a) x in
       record {
         behind = h.behind;
+        numbered = h.numbered;
         grows = h.grows;
         points = λ s m. ap (λ (l : List Point). point_of line (loop_at a s) ∷ l) (h.points s (m + 1))
             ∙ sym (loop_anchored (kind_of integers n kind t.prelude) t.condition (core_in integers n q.1) (line a) m);
@@ -161,7 +173,7 @@ module _ (integers : Integers) (line : ℕ → ℕ) (n : ℕ) where
     core_matches : (inside : Bool) (c : Core) (st : State) (r : State × Statements) → IsOk (read_core integers line n inside st c) r
         → Matches integers line n (scope_core c) (anchors_core c) st r.0 r.1
     core_matches inside (empty a) st r h =
-        matched _ _ st (st, nil) r h (record { behind = refl; grows = grows_none st st refl; points = λ s m. refl })
+        matched _ _ st (st, nil) r h (record { behind = λ i. refl; numbered = λ i. i; grows = grows_none st st refl; points = λ s m. refl })
     core_matches inside (block a is b) st r h =
         let q = met (read_items integers line n inside st is) _ r h in
         matched (scope_core (block a is b)) (anchors_core (block a is b)) st _ r q.gave
@@ -202,7 +214,8 @@ module _ (integers : Integers) (line : ℕ → ℕ) (n : ℕ) where
         let s = counted_still a _ q.value.0 last.value last.was in
         matched scope anchors st _ r last.gave
         (still_matches scope anchors st now.value last.value _ (counted_still a _ st now.value now.was) (record {
-          behind = l.behind ∙ still_scope q.value.0 last.value s;
+          behind = λ o. l.behind o ∙ still_scope q.value.0 last.value s;
+          numbered = λ o. still_numbered q.value.0 last.value s (l.numbered o);
           grows = grows_then now.value q.value.0 last.value l.grows (still_grows q.value.0 last.value s);
           points = l.points;
         }))
@@ -226,7 +239,8 @@ module _ (integers : Integers) (line : ℕ → ℕ) (n : ℕ) where
         let now = met (jumped inside a st) _ r h in
         let s = jumped_still inside a st now.value now.was in
         matched (scope_core (jumps j a b)) (anchors_core (jumps j a b)) st _ r now.gave (record {
-          behind = still_scope st now.value s;
+          behind = λ o. still_scope st now.value s;
+          numbered = still_numbered st now.value s;
           grows = still_grows st now.value s;
           points = λ s m. jump_none j (line a) m;
         })
@@ -237,7 +251,8 @@ module _ (integers : Integers) (line : ℕ → ℕ) (n : ℕ) where
         matched (scope_core (tree.returns a t b)) (anchors_core (tree.returns a t b)) st _ r now.gave
         (then_matches (λ s. s) (λ s. s) (λ s. []) (λ s. []) st o.value.0 now.value o.value.1 (one (jump returns (line a)))
         (passed (λ s. s) st o.value.0 o.value.1 (returned_passes integers line n a t st o.value o.was)) (record {
-          behind = still_scope o.value.0 now.value s;
+          behind = λ i. still_scope o.value.0 now.value s;
+          numbered = still_numbered o.value.0 now.value s;
           grows = still_grows o.value.0 now.value s;
           points = λ s m. refl;
         }))
@@ -247,7 +262,8 @@ module _ (integers : Integers) (line : ℕ → ℕ) (n : ℕ) where
         let now = met (counted a (nodes_in (core_of integers n node)) st) _ r x.gave in
         let s = counted_still a (nodes_in (core_of integers n node)) st now.value now.was in
         matched (scope_core (demands k a b e c d)) (anchors_core (demands k a b e c d)) st _ r now.gave (record {
-          behind = still_scope st now.value s;
+          behind = λ o. still_scope st now.value s;
+          numbered = still_numbered st now.value s;
           grows = still_grows st now.value s;
           points = λ s m. demand_none k a x.value m;
         })
@@ -265,18 +281,19 @@ module _ (integers : Integers) (line : ℕ → ℕ) (n : ℕ) where
         (still_matches (scope_sub body) (λ s. label_at x a b s ∷ anchors_sub body s) st now.value q.value.0 _
         (label_still x a st now.value now.was) (record {
           behind = l.behind;
+          numbered = l.numbered;
           grows = l.grows;
           points = λ s m. ap (λ (l : List Point). point_of line (label_at x a b s) ∷ l) (l.points s (m + 1));
         }))
     sub_matches inside (plain c) st r h =
-        let m = core_matches inside c st r h in record { behind = m.behind; grows = m.grows; points = m.points }
+        let m = core_matches inside c st r h in record { behind = m.behind; numbered = m.numbered; grows = m.grows; points = m.points }
 
     -- statements in a row
     pub items_matches : (inside : Bool) (is : Items) (st : State) (r : State × Statements)
         → IsOk (read_items integers line n inside st is) r
         → Matches integers line n (scope_items is) (anchors_items is) st r.0 r.1
     items_matches inside no_items st r h =
-        matched _ _ st (st, nil) r h (record { behind = refl; grows = grows_none st st refl; points = λ s m. refl })
+        matched _ _ st (st, nil) r h (record { behind = λ i. refl; numbered = λ i. i; grows = grows_none st st refl; points = λ s m. refl })
     items_matches inside (label x a b is) st r h =
         let now = met (new_label x a st) _ r h in
         let q = met (read_items integers line n inside now.value is) _ r now.gave in
@@ -285,13 +302,14 @@ module _ (integers : Integers) (line : ℕ → ℕ) (n : ℕ) where
         (still_matches (scope_items is) (λ s. label_at x a b s ∷ anchors_items is s) st now.value q.value.0 _
         (label_still x a st now.value now.was) (record {
           behind = l.behind;
+          numbered = l.numbered;
           grows = l.grows;
           points = λ s m. ap (λ (l : List Point). point_of line (label_at x a b s) ∷ l) (l.points s (m + 1));
         }))
-    items_matches inside (declaration a xs b is) st r h =
+    items_matches inside (declaration t xs b is) st r h =
         let o = met (read_declarators integers line n st xs) _ r h in
         let q = met (read_items integers line n inside o.value.0 is) _ r o.gave in
-        matched (scope_items (declaration a xs b is)) (anchors_items (declaration a xs b is)) st _ r q.gave
+        matched (scope_items (declaration t xs b is)) (anchors_items (declaration t xs b is)) st _ r q.gave
         (then_matches (scope_declarators xs) (scope_items is) (λ s. []) (anchors_items is) st o.value.0 q.value.0 o.value.1 q.value.1
         (passed (scope_declarators xs) st o.value.0 o.value.1 (declarators_pass integers line n xs st o.value o.was))
         (items_matches inside is o.value.0 q.value q.was))

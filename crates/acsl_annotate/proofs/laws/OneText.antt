@@ -3,6 +3,7 @@ use Rattle.std.proofs.Common.{◌≡◌, ◌∙◌, ◌++◌, ◌+◌, ◌<◌, 
 use Rattle.std.specs.Prelude.{ℤ, Bool, Ok, Option, Some, if◌then◌else◌}
 use Rattle.std.proofs.lemmas.List.{append_cancel_right}
 use Rattle.base_numbers.specs.Extended.{Ext, neg_inf, fin, pos_inf}
+use Rattle.lang_tokens.specs.declared.lexicon.Lexicon.TheVariants.{C}
 use Rattle.lang_tokens.specs.Reading as lex
 use Rattle.lang_tokens.specs.declared.token.Token as lex_token
 use Rattle.lang_tokens.proofs.reading.Once.{one_token_list}
@@ -13,7 +14,11 @@ use Rattle.source_items.proofs.files.Lemmas.{one_outcome}
 use Rattle.source_grammar.specs.Grammar.{Function, Reads}
 use Rattle.source_grammar.proofs.grammar.Once.{reads_once}
 use Rattle.source_tree.specs.Statements as c
-use Rattle.source_tokens.specs.View.{marks_of}
+use Rattle.source_tokens.specs.View.{marks_of, tokens_of}
+use Rattle.source_tokens.specs.declared.definition.Definition.{Definition}
+use Rattle.source_constants.specs.Directives.{code_of}
+use Rattle.source_constants.specs.Definitions.{definitions_of}
+use Rattle.base_integers.specs.declared.integers.Integers.{Integers}
 use Rattle.source_file.specs.Choice.{chosen}
 use Rattle.source_file.specs.Functions.{functions_of}
 use Rattle.source_file.specs.Meaning.{IsChosen, item_of}
@@ -96,29 +101,40 @@ one_list items others e = cc
 some_one : (d e : Defined) (o : Option Defined) → Some d ≡ o → Some e ≡ o → d ≡ e
 some_one d e o h k = cc
 
-defined_agree : (text : List ℕ) (asked : Option (List ℕ)) (front : List lex_token.Token) (d e : Defined) → IsChosen text asked front d
-    → IsChosen text asked front e → d ≡ e
-defined_agree text asked front d e h k =
-    let items : h.are.items ≡ k.are.items =
-    one_list h.are.items k.are.items (one_outcome (marks_of front) (file.divided h.are.items) (file.divided k.are.items) h.are.found
-    k.are.found) in
-    let functions : h.functions ≡ k.functions =
-    h.are.are ∙ ap (λ (l : List Item). functions_of text front l) items ∙ sym k.are.are in
-    some_one d e (chosen asked k.functions) (h.picked ∙ ap (λ (l : List Defined). chosen asked l) functions) k.picked
+module _ (integers : Integers) (text : List ℕ) (asked : Option (List ℕ)) (front : List lex_token.Token) (ds es : List Definition)
+    (d e : Defined) (h : IsChosen integers text asked front ds d) (k : IsChosen integers text asked front es e) where
+  items_agree : h.are.items ≡ k.are.items
+  items_agree = one_list h.are.items k.are.items
+      (one_outcome (marks_of (code_of front)) (file.divided h.are.items) (file.divided k.are.items) h.are.found k.are.found)
+
+  defined_agree : d ≡ e
+  defined_agree =
+      let functions : h.functions ≡ k.functions =
+      h.are.are ∙ ap (λ (l : List Item). functions_of text (code_of front) l) items_agree ∙ sym k.are.are in
+      some_one d e (chosen asked k.functions) (h.picked ∙ ap (λ (l : List Defined). chosen asked l) functions) k.picked
+
+  definitions_agree : ds ≡ es
+  definitions_agree = h.are.defined ∙ ap (λ (l : List Item). definitions_of integers text front l) items_agree ∙ sym k.are.defined
 
 trees_agree : (program : Program) (names others : List (List ℕ)) (statements body : c.Statements) (one other : Function)
     → IsTreeOf program names statements one → IsTreeOf program others body other → one ≡ other
 trees_agree program names others statements body one other a b =
     let last = lex.end_at (length program.text) ∷ [] in
     let fronts : b.front ≡ a.front =
-    append_cancel_right b.front a.front last (one_token_list program.text (b.front ++ last) (a.front ++ last) b.reads a.reads) in
-    let there : IsChosen program.text program.function a.front b.defined =
-    subst (λ (l : List lex_token.Token). IsChosen program.text program.function l b.defined) fronts b.is_chosen in
-    let same : b.defined ≡ a.defined = defined_agree program.text program.function a.front b.defined a.defined there a.is_chosen in
-    let reads : Reads (item_of program.text a.front a.defined) other =
-    subst (λ (d : Defined). Reads (item_of program.text a.front d) other) same
-    (subst (λ (l : List lex_token.Token). Reads (item_of program.text l b.defined) other) fronts b.tree_is) in
-    reads_once (item_of program.text a.front a.defined) one other a.tree_is reads
+    append_cancel_right b.front a.front last (one_token_list C program.text (b.front ++ last) (a.front ++ last) b.reads a.reads) in
+    let there : IsChosen program.integers program.text program.function a.front b.definitions b.defined =
+    subst (λ (l : List lex_token.Token). IsChosen program.integers program.text program.function l b.definitions b.defined) fronts
+    b.is_chosen in
+    let same : b.defined ≡ a.defined = defined_agree program.integers program.text program.function a.front b.definitions a.definitions
+    b.defined a.defined there a.is_chosen in
+    let also : b.definitions ≡ a.definitions = definitions_agree program.integers program.text program.function a.front b.definitions
+    a.definitions b.defined a.defined there a.is_chosen in
+    let reads : Reads (tokens_of a.definitions program.text (item_of (code_of a.front) a.defined)) other =
+    subst (λ (ds : List Definition). Reads (tokens_of ds program.text (item_of (code_of a.front) a.defined)) other) also
+    (subst (λ (d : Defined). Reads (tokens_of b.definitions program.text (item_of (code_of a.front) d)) other) same
+    (subst (λ (l : List lex_token.Token). Reads (tokens_of b.definitions program.text (item_of (code_of l) b.defined)) other) fronts
+    b.tree_is)) in
+    reads_once (tokens_of a.definitions program.text (item_of (code_of a.front) a.defined)) one other a.tree_is reads
 
 -- the texts of a file and of rows have one annotated text
 pub one_annotated : (program : Program) (rows : Domain (List ℕ)) (one other : List ℕ) → IsAnnotatedOf program rows one

@@ -1,20 +1,25 @@
 -- The comments of a function whose least bounds were found, and the text of its file with them.
-use Rattle.std.proofs.Common.{◌≡◌, ◌∙◌, ◌++◌, ◌∷◌, ◌-◌, ◌≤◌, ◌<◌, ℕ, List, [], IsTrue, ap, length, map, take, drop, sym, subst, arith, inl}
-use Rattle.std.proofs.Common.{inr}
+use Rattle.std.proofs.Common.{◌≡◌, ◌∙◌, ◌++◌, ◌∷◌, ◌-◌, ◌≤◌, ◌<◌, ℕ, List, [], IsTrue, ap, length, map, take, drop, refl, sym, subst, arith}
+use Rattle.std.proofs.Common.{inl, inr}
 use Rattle.std.specs.Prelude.{ℤ, IfOk, Result, Ok, Err, ◌&&◌, nat_le, slice_range}
 use Rattle.std.specs.List.{All}
 use Rattle.std.proofs.lemmas.Bool.{leb-true}
-use Rattle.std.proofs.lemmas.List.{drop-append-le, length-append, length-drop, take-append-le}
+use Rattle.std.proofs.lemmas.List.{drop-append-le, length-drop, take-append-le}
 use Rattle.lang_tokens.specs.Lines.{line_at}
+use Rattle.lang_tokens.specs.declared.lexicon.Lexicon.TheVariants.{C}
+use Rattle.lang_tokens.specs.declared.lexicon.Lexicon.{Lexicon}
 use Rattle.lang_tokens.specs.Reading as lex
 use Rattle.lang_tokens.specs.declared.token.Token as lex_token
 use Rattle.lang_tree.specs.Tree.{Statements}
 use Rattle.lang_tree.specs.Word.{is_word}
+use Rattle.source_grammar.specs.Tokens as g
 use Rattle.source_grammar.specs.Grammar.{Function, Reads}
 use Rattle.base_integers.specs.declared.integers.Integers.{Integers}
 use Rattle.source_tree.specs.Statements as c
 use Rattle.source_meaning.specs.Walk.{walk}
 use Rattle.source_tokens.specs.View.{tokens_of}
+use Rattle.source_tokens.specs.declared.definition.Definition.{Definition}
+use Rattle.source_constants.specs.Directives.{code_of}
 use Rattle.source_file.specs.Meaning.{Answer, FunctionMeans, IsChosen, Means, item_of}
 use Rattle.source_file.specs.declared.functions.Defined.{Defined}
 use Rattle.flow_edges.specs.declared.point.Point.{Point}
@@ -46,6 +51,7 @@ use Rattle.top_texts.specs.declared.analyse.least.LeastBounds.{LeastBounds}
 use Rattle.top_texts.proofs.by_c.InSource.{kept_in_source}
 use Rattle.top_texts.proofs.texts.Once.{equations_are, rows_over}
 use Rattle.acsl_annotate.specs.Annotated.{IsAnnotatedOf, IsTreeOf, SaysTruthByC, notes}
+use Rattle.acsl_annotate.proofs.write.Coded.{code_end}
 
 -- some tokens of a text are those of all but its end
 range_front : (front : List lex_token.Token) (end : lex_token.Token) (first last : ℕ) → first ≤ last → last ≤ length front
@@ -57,70 +63,76 @@ range_front front end first last order within =
     ∙ take-append-le (last - first) (drop first front) (end ∷ []) few
 
 -- what tokens mean that are a function is what its tree does
-tree_in : (integers : Integers) (text : List ℕ) (front : List lex_token.Token) (d : Defined) (names : List (List ℕ))
-    (statements : c.Statements)
-    → FunctionMeans integers text (item_of text front d) (Ok (names, statements))
-    → (tree : Function) × Reads (item_of text front d) tree × (walk integers (line_at text) tree ≡ Ok (names, statements))
-tree_in integers text front d names statements (inl (at, finds, e)) = cc
-tree_in integers text front d names statements (inr (inl (at, finds, e))) = cc
-tree_in integers text front d names statements (inr (inr (tree, is, fine, e))) =
+tree_in : (integers : Integers) (text : List ℕ) (ts : List g.Token) (names : List (List ℕ)) (statements : c.Statements)
+    → FunctionMeans integers text ts (Ok (names, statements))
+    → (tree : Function) × Reads ts tree × (walk integers (line_at text) tree ≡ Ok (names, statements))
+tree_in integers text ts names statements (inl (at, finds, e)) = cc
+tree_in integers text ts names statements (inr (inl (at, finds, e))) = cc
+tree_in integers text ts names statements (inr (inr (tree, is, fine, e))) =
     (tree, is, walked_ok (walk integers (line_at text) tree) (names, statements) e)
 
 -- a text has one list of tokens
 abbrev pub OneReading : Type 0
-OneReading = (text : List ℕ) (tokens others : List lex_token.Token) → lex.Reads text tokens → lex.Reads text others → tokens ≡ others
+OneReading = (lexicon : Lexicon) (text : List ℕ) (tokens others : List lex_token.Token) → lex.Reads lexicon text tokens
+    → lex.Reads lexicon text others → tokens ≡ others
 
 -- what the code found of a function: the tokens of the file, those that are the function, its anchors by its tree, and its comments by its
 -- anchors
-pub record IsNoted (program : Program) (bounds : LeastBounds) (tokens : List lex_token.Token) (d : Defined)
+pub record IsNoted (program : Program) (bounds : LeastBounds) (tokens : List lex_token.Token) (definitions : List Definition) (d : Defined)
     (places : List code_anchor.Anchor) (list : List Comment) : Type 0 where
   -- the text reads as the tokens
-  pub reads : lex.Reads program.text tokens
+  pub reads : lex.Reads C program.text tokens
   -- the names of the variables are words
   pub words : All (λ name. IsTrue (is_word name)) bounds.system.flow.names
   -- the function's tokens are in order
   pub order : d.first ≤ d.end
   -- and before the end
-  pub within : d.end < length tokens
+  pub within : (front : List lex_token.Token) → front ++ lex.end_at (length program.text) ∷ [] ≡ tokens → d.end ≤ length (code_of front)
   -- it is the one that is asked about
   pub found : (front : List lex_token.Token) → front ++ lex.end_at (length program.text) ∷ [] ≡ tokens
-      → IsChosen program.text program.function front d
+      → IsChosen program.integers program.text program.function front definitions d
   -- what the file means is what its tokens do
   pub means : (front : List lex_token.Token) → front ++ lex.end_at (length program.text) ∷ [] ≡ tokens → (wanted : Answer)
       → Means program.integers program.text program.function front wanted
-      → FunctionMeans program.integers program.text (item_of program.text front d) wanted
+      → FunctionMeans program.integers program.text (tokens_of definitions program.text (item_of (code_of front) d)) wanted
   -- the anchors are those of its tree
-  pub anchors : (f : Function) → Reads (tokens_of program.text (slice_range tokens d.first d.end)) f → places ≡ plain_anchors (anchors_of f)
+  pub anchors : (f : Function) → Reads (tokens_of definitions program.text (slice_range (code_of tokens) d.first d.end)) f
+      → places ≡ plain_anchors (anchors_of f)
   -- the comments are those of the anchors with the bounds found
   pub comments : (l : List Anchor) → places ≡ plain_anchors l
       → list ≡ comments_from program.text bounds.system.flow.names bounds.system.template (vector_at bounds.system bounds.solved.bounds) 0
       bounds.system.flow.points l
 
--- the same of tokens, names and anchors that are borrowed
-pub noted_by : (program : Program) (bounds : LeastBounds) (tokens tokens1 tokens2 : List lex_token.Token) (d : Defined)
-    (places places2 : List code_anchor.Anchor) (list : List Comment) (names : List (List ℕ)) → tokens1 ≡ tokens → tokens2 ≡ tokens
-    → places2 ≡ places → names ≡ bounds.system.flow.names → lex.Reads program.text tokens → All (λ name. IsTrue (is_word name)) names
-    → d.first ≤ d.end → d.end < length tokens1
+-- the same of tokens, names and anchors that are borrowed, where these are the tokens of code
+pub noted_by : (program : Program) (bounds : LeastBounds) (tokens tokens1 code code2 : List lex_token.Token)
+    (definitions : List Definition) (d : Defined) (places places2 : List code_anchor.Anchor) (list : List Comment) (names : List (List ℕ))
+    → tokens1 ≡ tokens → code2 ≡ code_of tokens → places2 ≡ places → names ≡ bounds.system.flow.names → lex.Reads C program.text tokens
+    → All (λ name. IsTrue (is_word name)) names → d.first ≤ d.end → d.end ≤ length code
+    → ((front : List lex_token.Token) → front ++ lex.end_at (length program.text) ∷ [] ≡ tokens1 → code ≡ code_of front)
     → ((front : List lex_token.Token) → front ++ lex.end_at (length program.text) ∷ [] ≡ tokens1
-    → IsChosen program.text program.function front d)
+    → IsChosen program.integers program.text program.function front definitions d)
     → ((front : List lex_token.Token) → front ++ lex.end_at (length program.text) ∷ [] ≡ tokens1 → (wanted : Answer)
     → Means program.integers program.text program.function front wanted
-    → FunctionMeans program.integers program.text (item_of program.text front d) wanted)
-    → ((f : Function) → Reads (tokens_of program.text (slice_range tokens2 d.first d.end)) f → places ≡ plain_anchors (anchors_of f))
+    → FunctionMeans program.integers program.text (tokens_of definitions program.text (item_of code d)) wanted)
+    → ((constants : List Definition) (f : Function) → Reads (tokens_of constants program.text (slice_range code2 d.first d.end)) f
+    → places ≡ plain_anchors (anchors_of f))
     → ((l : List Anchor) → places2 ≡ plain_anchors l
     → list ≡ comments_from program.text bounds.system.flow.names bounds.system.template (vector_at bounds.system bounds.solved.bounds) 0
     bounds.system.flow.points l)
-    → IsNoted program bounds tokens d places list
-noted_by program bounds tokens tokens1 tokens2 d places places2 list names e1 e2 e3 e4 reads words order within found means anchors said =
+    → IsNoted program bounds tokens definitions d places list
+noted_by program bounds tokens tokens1 code code2 definitions d places places2 list names e1 e2 e3 e4 reads words order within codes found
+    means anchors said =
     record {
       reads = reads;
       words = subst (λ (ns : List (List ℕ)). All (λ name. IsTrue (is_word name)) ns) e4 words;
       order = order;
-      within = subst (λ (l : List lex_token.Token). d.end < length l) e1 within;
+      within = λ front e. subst (λ (l : List lex_token.Token). d.end ≤ length l) (codes front (e ∙ sym e1)) within;
       found = λ front e. found front (e ∙ sym e1);
-      means = λ front e wanted m. means front (e ∙ sym e1) wanted m;
-      anchors = λ f is. anchors f
-          (subst (λ (l : List lex_token.Token). Reads (tokens_of program.text (slice_range l d.first d.end)) f) (sym e2) is);
+      means = λ front e wanted m. subst (λ (l : List lex_token.Token).
+          FunctionMeans program.integers program.text (tokens_of definitions program.text (item_of l d)) wanted)
+          (codes front (e ∙ sym e1)) (means front (e ∙ sym e1) wanted m);
+      anchors = λ f is. anchors definitions f
+          (subst (λ (l : List lex_token.Token). Reads (tokens_of definitions program.text (slice_range l d.first d.end)) f) (sym e2) is);
       comments = λ l e. said l (e3 ∙ e);
     }
 
@@ -130,8 +142,9 @@ for_ok P Q (Ok a) f h = f a h
 for_ok P Q (Err e) f h = tt
 
 module _ (program : Program) (rows : Domain (List ℕ)) (policy : Policy) (limit : ℕ) (bounds : LeastBounds)
-    (tokens : List lex_token.Token) (d : Defined) (places : List code_anchor.Anchor) (list : List Comment)
-    (found : IsFoundIn program rows policy limit bounds) (noted : IsNoted program bounds tokens d places list) (one : OneReading)
+    (tokens : List lex_token.Token) (definitions : List Definition) (d : Defined) (places : List code_anchor.Anchor) (list : List Comment)
+    (found : IsFoundIn program rows policy limit bounds) (noted : IsNoted program bounds tokens definitions d places list)
+    (one : OneReading)
     (stand : CommentsMayStand) where
   -- the core of the function
   abbrev core : HasCore program found.solved.names found.solved.body
@@ -164,20 +177,15 @@ module _ (program : Program) (rows : Domain (List ℕ)) (policy : Policy) (limit
       let text = program.text in
       let (front, reads, means) = core.reading in
       let end = lex.end_at (length text) in
-      let ended : front ++ end ∷ [] ≡ tokens = one text (front ++ end ∷ []) tokens reads noted.reads in
-      let (tree, tree_is, walked) = tree_in program.integers text front d s.names core.statements
+      let ended : front ++ end ∷ [] ≡ tokens = one C text (front ++ end ∷ []) tokens reads noted.reads in
+      let item = tokens_of definitions text (item_of (code_of front) d) in
+      let (tree, tree_is, walked) = tree_in program.integers text item s.names core.statements
       (noted.means front ended (Ok (s.names, core.statements)) means) in
-      let last : d.end ≤ length front = omega (
-        arith,
-        noted.within,
-        ap (λ (l : List lex_token.Token). length l) ended,
-        length-append front (end ∷ []),
-      ) in
-      let range : slice_range front d.first d.end ≡ slice_range tokens d.first d.end =
-      sym (range_front front end d.first d.end noted.order last)
-      ∙ ap (λ (l : List lex_token.Token). slice_range l d.first d.end) ended in
-      let among : Reads (tokens_of text (slice_range tokens d.first d.end)) tree =
-      subst (λ (l : List lex_token.Token). Reads (tokens_of text l) tree) range tree_is in
+      let range : slice_range (code_of front) d.first d.end ≡ slice_range (code_of tokens) d.first d.end =
+      sym (range_front (code_of front) end d.first d.end noted.order (noted.within front ended))
+      ∙ ap (λ (l : List lex_token.Token). slice_range l d.first d.end) (sym (code_end front end refl) ∙ ap code_of ended) in
+      let among : Reads (tokens_of definitions text (slice_range (code_of tokens) d.first d.end)) tree =
+      subst (λ (l : List lex_token.Token). Reads (tokens_of definitions text l) tree) range tree_is in
       let by_system = noted.comments (anchors_of tree) (noted.anchors tree among) in
       record {
         front = front;
@@ -187,6 +195,7 @@ module _ (program : Program) (rows : Domain (List ℕ)) (policy : Policy) (limit
         is_tree = record {
           front = front;
           reads = reads;
+          definitions = definitions;
           defined = d;
           is_chosen = noted.found front ended;
           tree_is = tree_is;
@@ -199,7 +208,8 @@ module _ (program : Program) (rows : Domain (List ℕ)) (policy : Policy) (limit
             s.system_for.points_are
             (subst (λ (names : List (List ℕ)). list ≡ comments_from text names bounds.system.template v 0 bounds.system.flow.points
             (anchors_of tree)) s.system_for.names_are by_system));
-        may_stand = stand text tokens front d.first d.end tree s.names (points_of_program s.body) s.template v noted.reads ended tree_is
+        may_stand = stand definitions text tokens front d.first d.end tree s.names (points_of_program s.body) s.template v noted.reads
+            ended tree_is
             (subst (λ (names : List (List ℕ)). All (λ name. IsTrue (is_word name)) names) s.system_for.names_are noted.words);
       }
 

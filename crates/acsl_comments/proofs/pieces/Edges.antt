@@ -1,9 +1,10 @@
 -- Where tokens begin and end among the pieces of a text.
-use Rattle.std.proofs.Common.{◌≡◌, ◌≤◌, ◌<◌, ◌+◌, ◌⊎◌, inl, inr, ⊎_elim, ℕ, Bool, true, false, List, [], ◌∷◌, ◌++◌, length, refl, ap, sym}
+use Rattle.std.proofs.Common.{◌≡◌, ◌≤◌, ◌<◌, ◌+◌, ◌⊎◌, inl, inr, ⊎_elim, ℕ, Bool, true, false, List, [], ◌∷◌, ◌++◌, length, ap, sym}
 use Rattle.std.proofs.Common.{subst, arith, Contains}
 use Rattle.std.proofs.lemmas.Bool.{eqb-true}
 use Rattle.std.proofs.lemmas.List.Elements.{Contains-append_cases, Contains-push_cases, Contains-push, Contains-append_left}
 use Rattle.std.proofs.lemmas.List.Elements.{Contains-append_right}
+use Rattle.lang_tokens.specs.declared.lexicon.Lexicon.TheVariants.{C}
 use Rattle.lang_tokens.specs.declared.token.Token.{Token}
 use Rattle.lang_tokens.specs.Lexemes.{IsLexeme}
 use Rattle.lang_tokens.specs.Reading.{Piece, blank, line_comment, block_comment, token, piece_bytes, spelling, AllFit, ends_line}
@@ -11,20 +12,20 @@ use Rattle.lang_tokens.specs.Reading.{piece_tokens, tokens_from, end_at}
 use Rattle.lang_tokens.specs.declared.before.Before.{Before}
 use Rattle.lang_tokens.specs.declared.sign.Sign.TheVariants.{Slash}
 use Rattle.lang_tokens.specs.declared.token.Kind.TheVariants as kind
-use Rattle.lang_tokens.proofs.reading.Growth.{piece_some, lexeme_some}
+use Rattle.source_constants.specs.Directives.{is_code}
 use Rattle.acsl_comments.specs.Places.{IsEdge}
-use Rattle.acsl_comments.proofs.pieces.Plain.{no_feed_first}
+use Rattle.acsl_comments.proofs.pieces.Plain.{no_feed_in, lexeme_some, piece_some}
 
--- the piece is a token
+-- the piece is a token that stands in no directive
 abbrev pub is_token : Piece → Bool
-is_token (token kind bytes) = true
+is_token (token kind bytes) = is_code kind
 is_token (blank b) = false
 is_token (line_comment body) = false
 is_token (block_comment body) = false
 
--- a piece that starts here is a token that begins or ends at the place
+-- a piece that starts here is a token of no directive that begins or ends at the place
 abbrev pub IsPieceEdge : ℕ → Piece → ℕ → Type 0
-IsPieceEdge at (token kind bytes) place = (place ≡ at) ⊎ (place ≡ at + length bytes)
+IsPieceEdge at (token kind bytes) place = (is_code kind ≡ true) × ((place ≡ at) ⊎ (place ≡ at + length bytes))
 IsPieceEdge at (blank b) place = ⊥
 IsPieceEdge at (line_comment body) place = ⊥
 IsPieceEdge at (block_comment body) place = ⊥
@@ -40,8 +41,8 @@ MayHold ended at pieces place = ((ended ≡ true) × (place ≡ at)) ⊎ IsEdgeI
 
 -- a token begins and ends at its place or behind it
 piece_edge_behind : (at : ℕ) (piece : Piece) (place : ℕ) → IsPieceEdge at piece place → at ≤ place
-piece_edge_behind at (token kind bytes) place (inl e) = omega arith
-piece_edge_behind at (token kind bytes) place (inr e) = omega arith
+piece_edge_behind at (token kind bytes) place (code, inl e) = omega arith
+piece_edge_behind at (token kind bytes) place (code, inr e) = omega arith
 piece_edge_behind at (blank b) place e = absurd e
 piece_edge_behind at (line_comment body) place e = absurd e
 piece_edge_behind at (block_comment body) place e = absurd e
@@ -60,8 +61,8 @@ held_behind ended at pieces place (inr e) = edge_behind at pieces place e
 -- a place behind the start of a piece, where it begins or ends, is its end
 piece_edge_later : (at : ℕ) (piece : Piece) (pieces : List Piece) (place : ℕ) → IsPieceEdge at piece place → at < place
     → MayHold (is_token piece) (at + length (piece_bytes piece)) pieces place
-piece_edge_later at (token kind bytes) pieces place (inl e) h = absurd (omega arith)
-piece_edge_later at (token kind bytes) pieces place (inr e) h = inl (refl, e)
+piece_edge_later at (token kind bytes) pieces place (code, inl e) h = absurd (omega arith)
+piece_edge_later at (token kind bytes) pieces place (code, inr e) h = inl (code, e)
 piece_edge_later at (blank b) pieces place e h = absurd e
 piece_edge_later at (line_comment body) pieces place e h = absurd e
 piece_edge_later at (block_comment body) pieces place e h = absurd e
@@ -74,12 +75,12 @@ held_later ended at piece pieces place (inr (inl e)) later = piece_edge_later at
 held_later ended at piece pieces place (inr (inr e)) later = inr e
 
 -- a token is no line feed
-token_no_end : (bytes more : List ℕ) → IsLexeme bytes → ends_line ((bytes ++ more) ++ []) ≡ true → ⊥
+token_no_end : (bytes more : List ℕ) → IsLexeme C bytes → ends_line ((bytes ++ more) ++ []) ≡ true → ⊥
 token_no_end [] more lexeme h = absurd (omega (arith, lexeme_some [] lexeme))
-token_no_end (b ∷ bytes) more lexeme h = let feed : b ≡ 10 = eqb-true b 10 h in no_feed_first bytes (rw feed at lexeme)
+token_no_end (b ∷ bytes) more lexeme h = let feed : b ≡ 10 = eqb-true b 10 h in no_feed_in [] bytes (rw feed at lexeme)
 
 -- so no first piece is a token where a line ends
-piece_no_edge : (before : Before) (at : ℕ) (piece : Piece) (pieces : List Piece) → AllFit before (piece ∷ pieces) []
+piece_no_edge : (before : Before) (at : ℕ) (piece : Piece) (pieces : List Piece) → AllFit C before (piece ∷ pieces) []
     → ends_line (spelling (piece ∷ pieces) ++ []) ≡ true → IsPieceEdge at piece at → ⊥
 piece_no_edge before at (token k bytes) pieces fit h e = token_no_end bytes (spelling pieces) fit.0.1.longest.lexeme h
 piece_no_edge before at (blank b) pieces fit h e = e
@@ -87,7 +88,7 @@ piece_no_edge before at (line_comment body) pieces fit h e = e
 piece_no_edge before at (block_comment body) pieces fit h e = e
 
 -- no token begins where a line ends
-pub no_edge_at_line_end : (before : Before) (at : ℕ) (pieces : List Piece) → AllFit before pieces []
+pub no_edge_at_line_end : (before : Before) (at : ℕ) (pieces : List Piece) → AllFit C before pieces []
     → ends_line (spelling pieces ++ []) ≡ true → MayHold false at pieces at → ⊥
 no_edge_at_line_end before at pieces fit h (inl held) = let no : false ≡ true = held.0 in cc
 no_edge_at_line_end before at [] fit h (inr e) = e
@@ -132,11 +133,11 @@ clear_in at (piece ∷ pieces) place none =
 contained_one : (x t : Token) → Contains (x ∷ []) t → x ≡ t
 contained_one x t h = ⊎_elim (λ none. absurd (omega (arith, none.1))) (λ same. same) (Contains-push_cases [] x t h)
 
-module _ (t : Token) (place : ℕ) (edge : (place ≡ t.at) ⊎ (place ≡ t.at + t.len)) where
+module _ (t : Token) (place : ℕ) (code : is_code t.kind ≡ true) (edge : (place ≡ t.at) ⊎ (place ≡ t.at + t.len)) where
   -- a place where the token of a piece begins or ends
   piece_edge : (at : ℕ) (piece : Piece) → Contains (piece_tokens at piece) t → IsPieceEdge at piece place
-  piece_edge at (token kind bytes) h = subst (λ (x : Token). (place ≡ x.at) ⊎ (place ≡ x.at + x.len))
-      (sym (contained_one (record { kind = kind; at = at; len = length bytes }) t h)) edge
+  piece_edge at (token kind bytes) h = subst (λ (x : Token). (is_code x.kind ≡ true) × ((place ≡ x.at) ⊎ (place ≡ x.at + x.len)))
+      (sym (contained_one (record { kind = kind; at = at; len = length bytes }) t h)) (code, edge)
   piece_edge at (blank b) h = absurd (omega (arith, h.1))
   piece_edge at (line_comment body) h = absurd (omega (arith, h.1))
   piece_edge at (block_comment body) h = absurd (omega (arith, h.1))
@@ -152,6 +153,6 @@ module _ (t : Token) (place : ℕ) (edge : (place ≡ t.at) ⊎ (place ≡ t.at 
 -- a place where a token begins or ends is one among the pieces
 pub edge_in : (pieces : List Piece) (end place : ℕ) → IsEdge (tokens_from 0 pieces ++ end_at end ∷ []) place → IsEdgeIn 0 pieces place
 edge_in pieces end place edge = ⊎_elim
-    (λ listed. token_edge edge.token place edge.edge 0 pieces listed)
+    (λ listed. token_edge edge.token place edge.is_code edge.edge 0 pieces listed)
     (λ last. let same = contained_one (end_at end) edge.token last in absurd (omega (arith, edge.some, ap (λ (t : Token). t.len) same)))
     (Contains-append_cases (tokens_from 0 pieces) (end_at end ∷ []) edge.token edge.listed)

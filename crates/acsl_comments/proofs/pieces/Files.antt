@@ -60,6 +60,8 @@ module _ (comments : List Comment) where
       by_kind (kind.Word w) = refl
       by_kind (kind.Number n) = refl
       by_kind (kind.Sign s) = refl
+      by_kind (kind.Foreign f) = refl
+      by_kind (kind.Aside a) = refl
       by_kind kind.End = refl
 
     -- what the token of a number names

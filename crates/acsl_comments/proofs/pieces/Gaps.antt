@@ -1,5 +1,5 @@
 -- What stands in a gap: blanks and comments, and no token.
-use Rattle.std.proofs.Common.{◌≡◌, ◌-◌, ◌⊎◌, inl, inr, ℕ, true, List, [], ◌∷◌, ◌++◌, take, drop, refl, ap, ◌∙◌, subst}
+use Rattle.std.proofs.Common.{◌≡◌, ◌-◌, ◌⊎◌, inl, inr, ℕ, true, false, List, [], ◌∷◌, ◌++◌, take, drop, refl, ap, ◌∙◌, subst}
 use Rattle.std.proofs.lemmas.List.{append_assoc, take-append-drop}
 use Rattle.std.proofs.lemmas.Bool.{or_left, and_parts}
 use Rattle.std.specs.List.{AllByRecursion, list_all}
@@ -7,12 +7,10 @@ use Rattle.lang_tokens.specs.Bytes.{is_blank}
 use Rattle.lang_tokens.specs.declared.before.Before.{Before}
 use Rattle.lang_tokens.specs.Reading.{Piece, blank, line_comment, block_comment, token, spelling, is_outside}
 use Rattle.lang_tokens.specs.Reading.{behind, behind_all}
-use Rattle.lang_tokens.proofs.lexemes.Heads.{heads}
-use Rattle.lang_tokens.proofs.reading.Outside.{blank_outside, comment_outside}
 use Rattle.acsl_comments.specs.Places.{IsGap, is_gap_piece}
 use Rattle.acsl_comments.specs.Texts.{with_comments}
 use Rattle.acsl_comments.specs.declared.comment.Comment.{Comment}
-use Rattle.acsl_comments.proofs.pieces.Plain.{starts_gap}
+use Rattle.acsl_comments.proofs.pieces.Plain.{starts_gap, heads, blank_outside, comment_outside}
 use Rattle.acsl_comments.proofs.pieces.Rests.{Meets}
 
 -- what follows doesn't change the first byte
@@ -39,7 +37,7 @@ piece_outside : (before : Before) (piece : Piece) → is_outside before ≡ true
 piece_outside before (blank b) out plain = blank_outside before b out plain
 piece_outside before (line_comment body) out plain = comment_outside before out
 piece_outside before (block_comment body) out plain = comment_outside before out
-piece_outside before (token kind bytes) out plain = refl
+piece_outside before (token kind bytes) out plain = let none : false ≡ true = plain in cc
 
 -- nor behind a gap
 pub gap_outside : (before : Before) (pieces : List Piece) → is_outside before ≡ true → list_all is_gap_piece pieces ≡ true

@@ -2,16 +2,16 @@
 use Rattle.std.proofs.Common.{◌≡◌, ◌⊎◌, inl, inr, ℕ, Bool, true, false, cond, eqb, List, [], ◌∷◌, refl}
 use Rattle.lang_tokens.specs.declared.before.Before.{Before}
 use Rattle.lang_tokens.specs.declared.before.Before.TheVariants.{Blanks, Others, Directive}
-use Rattle.lang_tokens.specs.Reading.{Piece, blank, line_comment, block_comment, token, is_outside, behind_comment, behind}
+use Rattle.lang_tokens.specs.Reading.{Piece, blank, line_comment, block_comment, token, is_outside, behind_comment, behind_token, behind}
 use Rattle.acsl_comments.proofs.pieces.Edges.{is_token}
 
--- the first piece is a token
+-- the first piece is a token of no directive
 abbrev pub starts_with_token : List Piece → Bool
 starts_with_token [] = false
 starts_with_token (piece ∷ pieces) = is_token piece
 
 -- What stands in its line before the pieces then does for what stood there: a directive goes on if it did, and a line begins where it did,
--- unless a token follows, which needs no beginning of a line.
+-- unless a token of no directive follows, which needs no beginning of a line.
 abbrev pub Serves : Before → Before → List Piece → Type 0
 Serves Directive now pieces = now ≡ Directive
 Serves Others now pieces = is_outside now ≡ true
@@ -58,10 +58,16 @@ comment_serves Blanks Others pieces more h = refl
 comment_serves Blanks Directive pieces more (inl same) = cc
 comment_serves Blanks Directive pieces more (inr h) = let none : false ≡ true = h.0 in cc
 
+-- what stands there serves itself
+serves_itself : (before : Before) (pieces : List Piece) → Serves before before pieces
+serves_itself Blanks pieces = inl refl
+serves_itself Others pieces = refl
+serves_itself Directive pieces = refl
+
 -- behind a piece it does
 pub serves_on : (was now : Before) (piece : Piece) (pieces : List Piece) → Serves was now (piece ∷ pieces)
     → Serves (behind was piece) (behind now piece) pieces
 serves_on was now (blank b) pieces h = blank_serves was now b pieces (eqb b 10) (eqb b 35) h
 serves_on was now (line_comment body) pieces h = comment_serves was now (line_comment body ∷ pieces) pieces h
 serves_on was now (block_comment body) pieces h = comment_serves was now (block_comment body ∷ pieces) pieces h
-serves_on was now (token kind bytes) pieces h = refl
+serves_on was now (token kind bytes) pieces h = serves_itself (behind_token kind) pieces

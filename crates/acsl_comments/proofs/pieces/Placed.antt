@@ -2,6 +2,7 @@
 use Rattle.std.specs.Prelude.{slice_range}
 use Rattle.std.proofs.Common.{◌≡◌, ◌+◌, ◌-◌, ℕ, List, [], ◌∷◌, ◌++◌, length, map, refl, ap, ap₂, sym, ◌∙◌, arith}
 use Rattle.std.proofs.lemmas.List.{append_assoc, length-append, map-append, take_at, drop_at}
+use Rattle.lang_tokens.specs.declared.lexicon.Lexicon.{Lexicon}
 use Rattle.lang_tokens.specs.declared.token.Kind.{Kind}
 use Rattle.lang_tokens.specs.declared.token.Token.{Token}
 use Rattle.lang_tokens.specs.Reading.{Piece, blank, line_comment, block_comment, token, piece_bytes, spelling, AllFit, piece_tokens}
@@ -122,10 +123,11 @@ spelling-append (piece ∷ pieces) more = ap (λ (bs : List ℕ). piece_bytes pi
     ∙ sym (append_assoc (piece_bytes piece) (spelling pieces) (spelling more))
 
 -- pieces fit before others that fit
-pub fit-append : (before : Before) (pieces more : List Piece) (rest : List ℕ) → AllFit before pieces (spelling more ++ rest)
-    → AllFit (behind_all before pieces) more rest → AllFit before (pieces ++ more) rest
-fit-append before [] more rest fit then = then
-fit-append before (piece ∷ pieces) more rest fit then =
+pub fit-append : (lexicon : Lexicon) (before : Before) (pieces more : List Piece) (rest : List ℕ)
+    → AllFit lexicon before pieces (spelling more ++ rest) → AllFit lexicon (behind_all before pieces) more rest
+    → AllFit lexicon before (pieces ++ more) rest
+fit-append lexicon before [] more rest fit then = then
+fit-append lexicon before (piece ∷ pieces) more rest fit then =
     let same : spelling (pieces ++ more) ++ rest ≡ spelling pieces ++ (spelling more ++ rest) =
     ap (λ (bs : List ℕ). bs ++ rest) (spelling-append pieces more) ∙ append_assoc (spelling pieces) (spelling more) rest in
-    (rw same fit.0, fit-append (behind before piece) pieces more rest fit.1 then)
+    (rw same fit.0, fit-append lexicon (behind before piece) pieces more rest fit.1 then)

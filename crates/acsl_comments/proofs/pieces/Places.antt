@@ -1,6 +1,7 @@
 -- Places in order, and where what stood at a place stands then.
-use Rattle.std.proofs.Common.{◌≡◌, ◌≤◌, ◌<◌, ◌+◌, ◌-◌, ℕ, List, [], ◌∷◌, ◌++◌, length, map, take, drop, refl, sym, arith}
-use Rattle.std.proofs.lemmas.Bool.{le-leb, lt-leb}
+use Rattle.std.proofs.Common.{◌≡◌, ◌≤◌, ◌<◌, ◌+◌, ◌-◌, ⊎_elim, ℕ, Bool, true, false, cond, nat_le, nat_lt, List, [], ◌∷◌, ◌++◌, length}
+use Rattle.std.proofs.Common.{map, take, drop, refl, sym, ap, ◌∙◌, arith}
+use Rattle.std.proofs.lemmas.Bool.{le-leb, lt-leb, leb-true, leb-false, lt-ltb, le-ltb, cases_lt}
 use Rattle.std.proofs.lemmas.List.{append_assoc, length-append, length-drop, length-take-le}
 use Rattle.std.proofs.Math.Seq.{take-append-add, drop-append-add}
 use Rattle.acsl_comments.specs.Places.{Ascend}
@@ -57,3 +58,29 @@ length-with_comments at to rest (c ∷ cs) h e =
       length-append c.bytes (with_comments c.place (drop (c.place - at) rest) cs),
       length-take-le (c.place - at) rest within,
     )
+
+-- ---- the order of places
+-- what stands before another place does so then
+pub moved_less : (comments : List Comment) (p q : ℕ) → p < q → moved_by comments p < moved_by comments q
+moved_less [] p q h = h
+moved_less (c ∷ cs) p q h = by_places (nat_le c.place p) (nat_le c.place q) refl refl (moved_less cs p q h) where
+  by_places : (s t : Bool) → nat_le c.place p ≡ s → nat_le c.place q ≡ t → moved_by cs p < moved_by cs q
+      → cond s (length c.bytes + moved_by cs p) (moved_by cs p) < cond t (length c.bytes + moved_by cs q) (moved_by cs q)
+  by_places true true e f more = omega (arith, more)
+  by_places false true e f more = omega (arith, more)
+  by_places false false e f more = more
+  by_places true false e f more = absurd (omega (arith, leb-true c.place p e, leb-false c.place q f, h))
+
+-- and what doesn't, doesn't
+pub moved_at_most : (comments : List Comment) (p q : ℕ) → p ≤ q → moved_by comments p ≤ moved_by comments q
+moved_at_most comments p q h = ⊎_elim
+    (λ (less : p < q). omega (arith, moved_less comments p q less))
+    (λ (same : q ≤ p). let e : p ≡ q = omega (arith, same, h) in omega (arith, ap (λ (n : ℕ). moved_by comments n) e))
+    (cases_lt p q)
+
+-- so the order is told as before
+pub moved_order : (comments : List Comment) (p q : ℕ) → nat_lt (moved_by comments p) (moved_by comments q) ≡ nat_lt p q
+moved_order comments p q = ⊎_elim
+    (λ (less : p < q). lt-ltb _ _ (moved_less comments p q less) ∙ sym (lt-ltb p q less))
+    (λ (most : q ≤ p). le-ltb _ _ (moved_at_most comments q p most) ∙ sym (le-ltb p q most))
+    (cases_lt p q)

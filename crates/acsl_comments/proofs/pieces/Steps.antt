@@ -1,25 +1,27 @@
 -- The pieces of a text with comments put in.
-use Rattle.std.proofs.Common.{◌≡◌, ◌≤◌, ◌<◌, ◌+◌, ◌-◌, ⊎_elim, ℕ, zero, suc, Bool, true, false, eqb, List, [], ◌∷◌, ◌++◌, length, map}
+use Rattle.std.proofs.Common.{◌≡◌, ◌≤◌, ◌<◌, ◌+◌, ◌-◌, ⊎_elim, ℕ, zero, suc, Bool, true, false, List, [], ◌∷◌, ◌++◌, length, map}
 use Rattle.std.proofs.Common.{take, inl, inr}
 use Rattle.std.proofs.Common.{refl, ap, ap₂, sym, ◌∙◌, subst, arith}
 use Rattle.std.proofs.lemmas.List.{append-nil, map-append}
-use Rattle.std.proofs.lemmas.Bool.{cases_lt, cases_Bool, eqb-true, and_parts, or_cases, or_right}
+use Rattle.std.proofs.lemmas.Bool.{cases_lt}
 use Rattle.std.specs.List.{AllByRecursion}
-use Rattle.lang_tokens.specs.Bytes.{is_blank}
-use Rattle.lang_tokens.specs.Directives.{goes_on_as_comment, is_directive}
+use Rattle.lang_tokens.specs.Directives.{goes_on_as_comment}
+use Rattle.lang_tokens.specs.declared.lexicon.Lexicon.TheVariants.{C}
+use Rattle.lang_tokens.specs.declared.token.Aside.{Aside}
+use Rattle.lang_tokens.specs.declared.token.Aside.TheVariants as aside
 use Rattle.lang_tokens.specs.declared.before.Before.{Before}
 use Rattle.lang_tokens.specs.declared.before.Before.TheVariants.{Blanks, Others, Directive}
 use Rattle.lang_tokens.specs.declared.sign.Sign.TheVariants.{Slash}
 use Rattle.lang_tokens.specs.declared.token.Kind.{Kind}
 use Rattle.lang_tokens.specs.declared.token.Kind.TheVariants as kind
 use Rattle.lang_tokens.specs.Reading.{Piece, blank, line_comment, block_comment, token, piece_bytes, spelling, AllFit, Fits, ends_line}
-use Rattle.lang_tokens.specs.Reading.{is_outside, is_blank_at, behind_blank, behind_comment, behind, behind_all, IsApart, IsWholeToken}
-use Rattle.lang_tokens.proofs.reading.Outside.{plain_blank}
+use Rattle.lang_tokens.specs.Reading.{is_outside, behind_token, behind_comment, behind, behind_all, IsApart, IsWholeToken, may_stand}
+use Rattle.source_constants.specs.Directives.{is_code}
 use Rattle.acsl_comments.specs.Places.{Ascend, IsGap}
 use Rattle.acsl_comments.specs.Texts.{moved_by, with_comments}
 use Rattle.acsl_comments.specs.declared.comment.Comment.{Comment}
 use Rattle.acsl_comments.proofs.pieces.Rests.{still_token, still_closed}
-use Rattle.acsl_comments.proofs.pieces.Directives.{blank_agrees, still_directive, directive_agrees}
+use Rattle.acsl_comments.proofs.pieces.Directives.{still_aside, directive_agrees}
 use Rattle.acsl_comments.proofs.pieces.Edges.{is_token, IsEdgeIn, IsPieceClear, IsClearIn, MayHold, no_edge_at_line_end}
 use Rattle.acsl_comments.proofs.pieces.Lines.{Serves, serves_outside}
 use Rattle.acsl_comments.proofs.pieces.Places.{places, ascend_within, moved_before, moved_behind, with_after}
@@ -39,7 +41,7 @@ pub record Mixed (before : Before) (at : ℕ) (pieces : List Piece) (comments : 
   -- they spell the text with the comments put in
   pub spelled : spelling now ≡ with_comments at (spelling pieces) comments
   -- they fit up to the end of the text
-  pub fit : AllFit before now []
+  pub fit : AllFit C before now []
   -- their tokens are the old ones at the places where these stand then
   pub told : (more : ℕ) (to : ℕ → ℕ) → IsMove at more comments to → placed_from (more + at) now ≡ map (place_at to) (placed_from at pieces)
 
@@ -64,7 +66,7 @@ pub mixed_gap : (before : Before) (at : ℕ) (pieces : List Piece) (c : Comment)
 mixed_gap before at pieces c cs gap here out mixed = record {
   now = gap.pieces ++ mixed.now;
   spelled = spelled;
-  fit = fit-append before gap.pieces mixed.now [] (gap.fit before out (spelling mixed.now ++ [])) mixed.fit;
+  fit = fit-append C before gap.pieces mixed.now [] (gap.fit before out (spelling mixed.now ++ [])) mixed.fit;
   told = told;
 }
   where
@@ -107,7 +109,7 @@ line_still_last at to rest (c ∷ cs) order e none h =
     absurd (none.0 (omega (arith, order.0, ascend_within c.place to (places cs) order.1, ap length h)))
 
 -- no comment stands right behind a line comment
-none_held : (before : Before) (at : ℕ) (pieces : List Piece) (comments : List Comment) → AllFit before pieces []
+none_held : (before : Before) (at : ℕ) (pieces : List Piece) (comments : List Comment) → AllFit C before pieces []
     → ends_line (spelling pieces ++ []) ≡ true → AllByRecursion (λ c. MayHold false at pieces c.place) comments
     → AllByRecursion (λ c. c.place ≡ at → ⊥) comments
 none_held before at pieces [] fit h held = tt
@@ -140,8 +142,9 @@ none_behind at k bytes [] slash clear = tt
 none_behind at k bytes (c ∷ cs) slash clear = (clear.0 slash, none_behind at k bytes cs slash clear.1)
 
 -- a `/` is no start of a comment where it is a whole token
-whole_slash : (k : Kind) (bytes rest : List ℕ) → k ≡ kind.Sign Slash → IsWholeToken k bytes rest → goes_on_as_comment rest ≡ false
-whole_slash k bytes rest slash t = let apart : IsApart (kind.Sign Slash) rest = subst (λ (x : Kind). IsApart x rest) slash t.apart in apart
+whole_slash : (k : Kind) (bytes rest : List ℕ) → k ≡ kind.Sign Slash → IsWholeToken C k bytes rest → goes_on_as_comment rest ≡ false
+whole_slash k bytes rest slash t =
+    let apart : IsApart (kind.Sign Slash) bytes rest = subst (λ (x : Kind). IsApart x bytes rest) slash t.apart in apart
 
 -- each comment is at the edge of a token of the pieces, where none has ended before them
 edges_held : (at : ℕ) (pieces : List Piece) (comments : List Comment) → AllByRecursion (λ c. MayHold false at pieces c.place) comments
@@ -155,64 +158,56 @@ edges_held at pieces (c ∷ cs) held = (
   edges_held at pieces cs held.1,
 )
 
--- whether a byte is a blank is told by what stands before it in its line and by what follows it up to a line feed
-module _ (at to b : ℕ) (pieces : List Piece) (comments : List Comment) (stand : MayStandIn false at to pieces comments)
-    (end : at + length (spelling pieces) ≡ to) where
-  -- in a directive it stays a blank
-  directive_blank : AllFit (behind_blank Directive b) pieces [] → is_blank_at Directive (b ∷ spelling pieces) ≡ true
-      → is_blank_at Directive (b ∷ with_comments at (spelling pieces) comments) ≡ true
-  directive_blank fit is = ⊎_elim
-      (λ (feed : eqb b 10 ≡ true). rw (eqb-true b 10 feed) refl)
-      (λ (no_feed : eqb b 10 ≡ false).
-      let on : AllFit Directive pieces [] = subst (λ (x : Before). AllFit x pieces []) (still_directive b no_feed) fit in
-      sym (blank_agrees Directive b (spelling pieces) (with_comments at (spelling pieces) comments)
-      (directive_agrees at to pieces comments on (edges_held at pieces comments stand.held) stand.order end)) ∙ is)
-      (cases_Bool (eqb b 10))
+-- a token may stand where it did
+still_stands : (was now : Before) (k : Kind) (bytes : List ℕ) (pieces : List Piece) → Serves was now (token k bytes ∷ pieces)
+    → may_stand C was k ≡ true → may_stand C now k ≡ true
+still_stands was now (kind.Aside sort) bytes pieces serves h = by_sort was sort serves h where
+  by_sort : (was : Before) (sort : Aside) → Serves was now (token (kind.Aside sort) bytes ∷ pieces)
+      → may_stand C was (kind.Aside sort) ≡ true
+      → may_stand C now (kind.Aside sort) ≡ true
+  by_sort Blanks aside.Hash (inl same) i = rw same refl
+  by_sort Blanks aside.Hash (inr j) i = let none : false ≡ true = j.1 in cc
+  by_sort Blanks _ j i = let none : false ≡ true = i in cc
+  by_sort Others aside.Hash j i = let none : false ≡ true = i in cc
+  by_sort Others _ j i = let none : false ≡ true = i in cc
+  by_sort Directive aside.Hash j i = let none : false ≡ true = i in cc
+  by_sort Directive _ j i = rw j refl
+still_stands was now _ bytes pieces serves h = serves_outside was now _ h serves
 
-  -- the `#` of a directive stays one
-  hash_blank : AllFit (behind_blank Blanks b) pieces [] → is_directive (b ∷ spelling pieces) ≡ true
-      → is_blank_at Blanks (b ∷ with_comments at (spelling pieces) comments) ≡ true
-  hash_blank fit is =
-      let hash : b ≡ 35 = eqb-true b 35 (and_parts _ _ is).0 in
-      let on : AllFit Directive pieces [] = subst (λ (x : ℕ). AllFit (behind_blank Blanks x) pieces []) hash fit in
-      sym (blank_agrees Blanks b (spelling pieces) (with_comments at (spelling pieces) comments)
-      (directive_agrees at to pieces comments on (edges_held at pieces comments stand.held) stand.order end))
-      ∙ or_right (is_blank b) (is_directive (b ∷ spelling pieces)) is
-
-  -- a blank stays one
-  still_blank : (was now : Before) → Serves was now (blank b ∷ pieces) → AllFit (behind_blank was b) pieces []
-      → is_blank_at was (b ∷ spelling pieces) ≡ true → is_blank_at now (b ∷ with_comments at (spelling pieces) comments) ≡ true
-  still_blank Directive now serves fit is = rw serves (directive_blank fit is)
-  still_blank Others now serves fit is = plain_blank now b (with_comments at (spelling pieces) comments) serves is
-  still_blank Blanks now (inl same) fit is = rw same (⊎_elim
-      (λ (plain : is_blank b ≡ true). plain_blank Blanks b (with_comments at (spelling pieces) comments) refl plain)
-      (λ (hash : is_directive (b ∷ spelling pieces) ≡ true). hash_blank fit hash)
-      (or_cases (is_blank b) (is_directive (b ∷ spelling pieces)) is))
-  still_blank Blanks now (inr h) fit is = let none : false ≡ true = h.1 in cc
+-- the tokens of directives and those of code
+token_fits : (was now : Before) (at to : ℕ) (k : Kind) (bytes : List ℕ) (pieces : List Piece) (comments : List Comment)
+    → MayStandIn (is_code k) (at + length bytes) to pieces comments
+    → AllByRecursion (λ c. IsPieceClear at (token k bytes) c.place) comments → at + length bytes + length (spelling pieces) ≡ to
+    → AllFit C (behind_token k) pieces [] → IsWholeToken C k bytes (spelling pieces)
+    → IsWholeToken C k bytes (with_comments (at + length bytes) (spelling pieces) comments)
+token_fits was now at to (kind.Aside sort) bytes pieces comments stand clear e fit whole =
+    still_aside sort bytes (spelling pieces) (with_comments (at + length bytes) (spelling pieces) comments)
+    (directive_agrees (at + length bytes) to pieces comments fit (edges_held (at + length bytes) pieces comments stand.held) stand.order
+    e) whole
+token_fits was now at to k bytes pieces comments stand clear e fit whole =
+    still_token k bytes (spelling pieces) (with_comments (at + length bytes) (spelling pieces) comments) refl
+    (meets_comments (at + length bytes) (spelling pieces) comments stand.gaps)
+    (λ slash. slash_apart (at + length bytes) to (spelling pieces) comments stand.order e
+    (none_behind at k bytes comments slash clear) (whole_slash k bytes (spelling pieces) slash whole))
+    whole
 
 -- a piece still fits
 pub still_fits : (was now : Before) (at to : ℕ) (piece : Piece) (pieces : List Piece) (comments : List Comment)
     → Serves was now (piece ∷ pieces) → MayStandIn (is_token piece) (at + length (piece_bytes piece)) to pieces comments
     → AllByRecursion (λ c. IsPieceClear at piece c.place) comments → at + length (piece_bytes piece) + length (spelling pieces) ≡ to
-    → AllFit was (piece ∷ pieces) []
-    → Fits now piece (with_comments (at + length (piece_bytes piece)) (spelling pieces) comments)
-still_fits was now at to (blank b) pieces comments serves stand clear e fit =
-    still_blank (at + 1) to b pieces comments stand e was now serves fit.1
-    (subst (λ (bs : List ℕ). is_blank_at was (b ∷ bs) ≡ true) (append-nil (spelling pieces)) fit.0)
+    → AllFit C was (piece ∷ pieces) []
+    → Fits C now piece (with_comments (at + length (piece_bytes piece)) (spelling pieces) comments)
+still_fits was now at to (blank b) pieces comments serves stand clear e fit = fit.0
 still_fits was now at to (block_comment body) pieces comments serves stand clear e fit = (
   still_closed body (spelling pieces ++ [])
       (with_comments (at + length (piece_bytes (block_comment body))) (spelling pieces) comments) fit.0.0,
   fit.0.1,
 )
-still_fits was now at to (token k bytes) pieces comments serves stand clear e fit =
-    let whole : IsWholeToken k bytes (spelling pieces) = subst (IsWholeToken k bytes) (append-nil (spelling pieces)) fit.0.1 in (
-      serves_outside was now (token k bytes ∷ pieces) fit.0.0 serves,
-      still_token k bytes (spelling pieces) (with_comments (at + length bytes) (spelling pieces) comments)
-          (meets_comments (at + length bytes) (spelling pieces) comments stand.gaps)
-          (λ slash. slash_apart (at + length bytes) to (spelling pieces) comments stand.order e
-          (none_behind at k bytes comments slash clear) (whole_slash k bytes (spelling pieces) slash whole))
-          whole,
-    )
+still_fits was now at to (token k bytes) pieces comments serves stand clear e fit = (
+  still_stands was now k bytes pieces serves fit.0.0,
+  token_fits was now at to k bytes pieces comments stand clear e fit.1
+      (subst (IsWholeToken C k bytes) (append-nil (spelling pieces)) fit.0.1),
+)
 still_fits was now at to (line_comment body) pieces comments serves stand clear e fit = (
   fit.0.0,
   line_still_ends next to (spelling pieces) comments stand.order e none (rw (append-nil (spelling pieces)) at fit.0.1),
@@ -237,7 +232,7 @@ piece_moved at here to (block_comment body) e = refl
 -- a piece before all comments
 pub mixed_piece : (before : Before) (at to : ℕ) (piece : Piece) (pieces : List Piece) (comments : List Comment)
     → Ascend (at + length (piece_bytes piece)) to (places comments) → 0 < length (piece_bytes piece)
-    → Fits before piece (with_comments (at + length (piece_bytes piece)) (spelling pieces) comments)
+    → Fits C before piece (with_comments (at + length (piece_bytes piece)) (spelling pieces) comments)
     → Mixed (behind before piece) (at + length (piece_bytes piece)) pieces comments → Mixed before at (piece ∷ pieces) comments
 mixed_piece before at to piece pieces comments order some fits mixed = record {
   now = piece ∷ mixed.now;

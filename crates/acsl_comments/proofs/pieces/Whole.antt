@@ -1,14 +1,16 @@
 -- Comments put between the pieces of a text, from the first piece to the last.
-use Rattle.std.proofs.Common.{◌≡◌, ◌≤◌, ◌<◌, ◌+◌, ◌⊎◌, inl, inr, ⊎_elim, ℕ, Bool, true, List, [], ◌∷◌, ◌++◌, length, refl, subst}
+use Rattle.std.proofs.Common.{◌≡◌, ◌≤◌, ◌<◌, ◌+◌, ◌⊎◌, inl, inr, ⊎_elim, ℕ, Bool, true, false, List, [], ◌∷◌, ◌++◌, length, refl, subst}
 use Rattle.std.proofs.Common.{arith}
 use Rattle.std.proofs.lemmas.List.{length-append}
 use Rattle.std.proofs.lemmas.Bool.{cases_lt}
 use Rattle.std.specs.List.{AllByRecursion}
+use Rattle.lang_tokens.specs.declared.lexicon.Lexicon.TheVariants.{C}
+use Rattle.lang_tokens.specs.declared.token.Kind.TheVariants as kind
 use Rattle.lang_tokens.specs.declared.before.Before.{Before}
 use Rattle.lang_tokens.specs.declared.before.Before.TheVariants.{Others}
 use Rattle.lang_tokens.specs.Reading.{Piece, blank, line_comment, block_comment, token, piece_bytes, spelling, AllFit, is_outside, behind}
 use Rattle.lang_tokens.specs.Reading.{behind_all}
-use Rattle.lang_tokens.proofs.reading.Growth.{piece_some}
+use Rattle.acsl_comments.proofs.pieces.Plain.{piece_some}
 use Rattle.acsl_comments.specs.Places.{Ascend, IsGap}
 use Rattle.acsl_comments.specs.declared.comment.Comment.{Comment}
 use Rattle.acsl_comments.proofs.pieces.Edges.{is_token, IsEdgeIn, IsPieceClear, IsClearIn, MayHold, edge_behind, held_behind}
@@ -76,21 +78,23 @@ next_end : (at to : ℕ) (piece : Piece) (pieces : List Piece) → at + length (
     → at + length (piece_bytes piece) + length (spelling pieces) ≡ to
 next_end at to piece pieces end = omega (arith, end, length-append (piece_bytes piece) (spelling pieces))
 
--- where a token has ended, it stands before in the line
+-- where a token of no directive has ended, it stands before in the line
 abbrev Ended : Bool → Before → Type 0
 Ended ended was = ended ≡ true → was ≡ Others
 
 -- behind a token it does
 token_ended : (was : Before) (piece : Piece) → Ended (is_token piece) (behind was piece)
-token_ended was (token kind bytes) h = refl
+token_ended was (token (kind.Aside sort) bytes) h = let none : false ≡ true = h in cc
+token_ended was (token _ bytes) h = refl
 token_ended was (blank b) h = cc
 token_ended was (line_comment body) h = cc
 token_ended was (block_comment body) h = cc
 
 -- a place that is an edge where the pieces start is the beginning of a token
-token_first : (was : Before) (at : ℕ) (pieces : List Piece) → AllFit was pieces [] → IsEdgeIn at pieces at → starts_with_token pieces ≡ true
+token_first : (was : Before) (at : ℕ) (pieces : List Piece) → AllFit C was pieces [] → IsEdgeIn at pieces at
+    → starts_with_token pieces ≡ true
 token_first was at [] fit e = absurd e
-token_first was at (token kind bytes ∷ pieces) fit e = refl
+token_first was at (token k bytes ∷ pieces) fit (inl e) = e.0
 token_first was at (piece ∷ pieces) fit (inr e) = absurd (omega (
   arith,
   edge_behind (at + length (piece_bytes piece)) pieces at e,
@@ -101,9 +105,10 @@ token_first was at (line_comment body ∷ pieces) fit (inl e) = absurd e
 token_first was at (block_comment body ∷ pieces) fit (inl e) = absurd e
 
 -- no directive goes on where a token begins
-token_outside : (was : Before) (pieces : List Piece) → AllFit was pieces [] → starts_with_token pieces ≡ true → is_outside was ≡ true
+token_outside : (was : Before) (pieces : List Piece) → AllFit C was pieces [] → starts_with_token pieces ≡ true → is_outside was ≡ true
 token_outside was [] fit h = cc
-token_outside was (token kind bytes ∷ pieces) fit h = fit.0.0
+token_outside was (token (kind.Aside sort) bytes ∷ pieces) fit h = let none : false ≡ true = h in cc
+token_outside was (token _ bytes ∷ pieces) fit h = fit.0.0
 token_outside was (blank b ∷ pieces) fit h = cc
 token_outside was (line_comment body ∷ pieces) fit h = cc
 token_outside was (block_comment body ∷ pieces) fit h = cc
@@ -113,7 +118,7 @@ record IsFree (was : Before) (pieces : List Piece) : Type 0 where
   out : is_outside was ≡ true
   free : (was ≡ Others) ⊎ (starts_with_token pieces ≡ true)
 
-held_free : (ended : Bool) (was : Before) (at place : ℕ) (pieces : List Piece) → Ended ended was → AllFit was pieces [] → place ≡ at
+held_free : (ended : Bool) (was : Before) (at place : ℕ) (pieces : List Piece) → Ended ended was → AllFit C was pieces [] → place ≡ at
     → MayHold ended at pieces place → IsFree was pieces
 held_free ended was at place pieces end fit here (inl h) =
     let is : was ≡ Others = end h.0 in
@@ -128,7 +133,7 @@ gap_serves : (was now : Before) (pieces : List Piece) (bytes : List ℕ) (gap : 
 gap_serves was now pieces bytes gap free serves = outside_serves was (behind_all now gap.pieces) pieces free.out
     (gap_outside now gap.pieces (serves_outside was now pieces free.out serves) gap.plain) free.free
 
-module _ (was : Before) (at to : ℕ) (piece : Piece) (pieces : List Piece) (fit : AllFit was (piece ∷ pieces) [])
+module _ (was : Before) (at to : ℕ) (piece : Piece) (pieces : List Piece) (fit : AllFit C was (piece ∷ pieces) [])
     (end : at + length (spelling (piece ∷ pieces)) ≡ to) (on : (now : Before) (comments : List Comment)
     → Serves (behind was piece) now pieces
     → MayStandIn (is_token piece) (at + length (piece_bytes piece)) to pieces comments
@@ -174,7 +179,7 @@ mixed_last ended was ends now at (c ∷ cs) serves stand =
     (stand_next ended at at [] c cs same stand))
 
 -- comments that may stand between pieces can be put there
-pub mixed_from : (ended : Bool) (was : Before) (at to : ℕ) (pieces : List Piece) → (ended ≡ true → was ≡ Others) → AllFit was pieces []
+pub mixed_from : (ended : Bool) (was : Before) (at to : ℕ) (pieces : List Piece) → (ended ≡ true → was ≡ Others) → AllFit C was pieces []
     → at + length (spelling pieces) ≡ to → (now : Before) (comments : List Comment) → Serves was now pieces
     → MayStandIn ended at to pieces comments → Mixed now at pieces comments
 mixed_from ended was at to [] ends fit end now comments serves stand =

@@ -7,11 +7,11 @@ use Rattle.std.proofs.lemmas.List.Folds.{list_all-append}
 use Rattle.std.proofs.lemmas.Bool.{and_parts, or_cases, not-true, eqb-true}
 use Rattle.std.specs.List.{list_all}
 use Rattle.lang_tokens.specs.Bytes.{is_blank}
+use Rattle.lang_tokens.specs.declared.lexicon.Lexicon.TheVariants.{C}
 use Rattle.lang_tokens.specs.Directives.{is_joint}
 use Rattle.lang_tokens.specs.Reading.{Piece, blank, block_comment, piece_bytes, piece_tokens, spelling, tokens_from, IsClosed}
 use Rattle.lang_tokens.specs.Reading.{IsApartFromJoints}
 use Rattle.lang_tokens.specs.Reading.{behind_all}
-use Rattle.lang_tokens.proofs.reading.Outside.{plain_blank}
 use Rattle.acsl_comments.specs.Places.{IsGap, is_gap_piece}
 use Rattle.acsl_comments.proofs.pieces.Gaps.{gap_outside}
 use Rattle.acsl_comments.proofs.pieces.Placed.{fit-append}
@@ -43,7 +43,7 @@ gap_append a b g h = record {
       (g.tokenless at)
       ∙ h.tokenless (at + length (spelling g.pieces));
   plain = list_all-append is_gap_piece g.pieces h.pieces ∙ rw (g.plain, h.plain) refl;
-  fit = λ before out rest. fit-append before g.pieces h.pieces rest (g.fit before out (spelling h.pieces ++ rest))
+  fit = λ before out rest. fit-append C before g.pieces h.pieces rest (g.fit before out (spelling h.pieces ++ rest))
       (h.fit (behind_all before g.pieces) (gap_outside before g.pieces out g.plain) rest);
 }
 
@@ -58,7 +58,7 @@ gap_blank b h = record {
   spelled = refl;
   tokenless = λ at. refl;
   plain = rw h refl;
-  fit = λ before out rest. (plain_blank before b rest out h, tt);
+  fit = λ before out rest. (h, tt);
 }
 
 -- blanks are a gap

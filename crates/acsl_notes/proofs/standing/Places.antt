@@ -112,8 +112,8 @@ words_plain (name ∷ names) h =
 
 -- where anchors stand, comments may
 pub comments_stand : AnchorsStand → CommentsMayStand
-comments_stand stand text tokens front first end f names points template v reads ended means words =
-    let s = stand text tokens front first end f reads ended means in
+comments_stand stand constants text tokens front first end f names points template v reads ended means words =
+    let s = stand constants text tokens front first end f reads ended means in
     record {
       order = comments_order text names template v 0 points (anchors_of f) 0 (length text) s.order;
       edges = comments_all text names template v (λ a. IsEdge tokens a.place) (λ c. IsEdge tokens c.place)

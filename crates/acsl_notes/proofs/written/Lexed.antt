@@ -6,6 +6,7 @@ use Rattle.std.specs.List.{slice_range, list_all}
 use Rattle.std.proofs.lemmas.Bool.{and_parts, and_from, le-leb, eqb-true}
 use Rattle.std.proofs.lemmas.List.{append_assoc, append-nil, length-append, map-append, take_at, drop_at}
 use Rattle.std.proofs.lemmas.Fmt.{decimal_is_IsNumeral, decimal_by_steps, decimal_digit, first_decimal}
+use Rattle.lang_tokens.specs.declared.lexicon.Lexicon.TheVariants.{Own}
 use Rattle.lang_tokens.specs.declared.token.Kind.{Kind}
 use Rattle.lang_tokens.specs.declared.token.Kind.TheVariants as kind
 use Rattle.lang_tokens.specs.declared.sign.Sign.{Sign}
@@ -13,8 +14,9 @@ use Rattle.lang_tokens.specs.declared.sign.Sign.TheVariants.{LeftParen}
 use Rattle.lang_tokens.specs.Bytes.{is_letter, is_digit, is_word_byte}
 use Rattle.lang_tokens.specs.Signs.{sign_bytes}
 use Rattle.lang_tokens.specs.Lexemes.{a_word, a_sign, is_word, is_numeral, is_padded, greatest_literal, IsName}
-use Rattle.lang_tokens.specs.Reading.{Piece, blank, token, spelling, AllFit, piece_tokens, piece_bytes, tokens_from, starts_with_letter}
-use Rattle.lang_tokens.specs.Reading.{IsLongest, IsWholeToken, is_outside, behind_all}
+use Rattle.lang_tokens.specs.Reading.{Piece, blank, token, spelling, AllFit, piece_tokens, piece_bytes, tokens_from, is_own}
+use Rattle.lang_tokens.specs.Directives.{starts_with_letter}
+use Rattle.lang_tokens.specs.Reading.{IsLongest, IsWholeToken, is_outside, behind_token, behind_all}
 use Rattle.lang_tokens.specs.declared.before.Before.{Before}
 use Rattle.lang_tokens.proofs.lexemes.Heads.{heads}
 use Rattle.lang_tokens.proofs.lexemes.Longest.{word_starts, sign_starts}
@@ -31,7 +33,7 @@ pub record Lexed (at : ℕ) (bytes : List ℕ) (tokens : List g.Token) (goes_on 
   -- the pieces are the bytes
   pub spelled : spelling pieces ≡ bytes
   -- they are pieces where no directive goes on before them, and nothing follows that goes on
-  pub fit : (before : Before) → is_outside before ≡ true → (rest : List ℕ) → heads goes_on rest ≡ false → AllFit before pieces rest
+  pub fit : (before : Before) → is_outside before ≡ true → (rest : List ℕ) → heads goes_on rest ≡ false → AllFit Own before pieces rest
   -- no directive goes on behind them, where none does before them
   pub outside : (before : Before) → is_outside before ≡ true → is_outside (behind_all before pieces) ≡ true
   -- their tokens in a text where they stand at the place
@@ -58,7 +60,7 @@ pub beside : {at : ℕ} {bytes more : List ℕ} {tokens others : List g.Token} {
 beside {at} {bytes} {more} {tokens} {others} {p} {q} a b apart = record {
   pieces = a.pieces ++ b.pieces;
   spelled = spelling-append a.pieces b.pieces ∙ ap₂ (λ (x y : List ℕ). x ++ y) a.spelled b.spelled;
-  fit = λ before out rest none. fit-append before a.pieces b.pieces rest
+  fit = λ before out rest none. fit-append Own before a.pieces b.pieces rest
       (a.fit before out (spelling b.pieces ++ rest) (ap (λ (x : List ℕ). heads p (x ++ rest)) b.spelled ∙ apart rest none))
       (b.fit (behind_all before a.pieces) (a.outside before out) rest none);
   outside = λ before out. ap is_outside (behind-append before a.pieces b.pieces)
@@ -84,14 +86,20 @@ range_is : (front bytes after : List ℕ) (at end : ℕ) → length front ≡ at
 range_is front bytes after at end e f = let size : length bytes ≡ end - at = omega (arith, f) in
     ap (take (end - at)) (drop_at front (bytes ++ after) at e) ∙ take_at bytes after (end - at) size
 
+-- no directive goes on behind a token of the tool's own formats
+own_outside : (k : Kind) → is_own k ≡ true → is_outside (behind_token k) ≡ true
+own_outside (kind.Aside sort) h = cc
+own_outside _ h = refl
+
 -- one token
-one : (at : ℕ) (k : Kind) (bytes : List ℕ) (p : ℕ → Bool) → ((rest : List ℕ) → heads p rest ≡ false → IsWholeToken k bytes rest)
+one : (at : ℕ) (k : Kind) (bytes : List ℕ) (p : ℕ → Bool) → is_own k ≡ true → ((rest : List ℕ) → heads p rest ≡ false
+    → IsWholeToken Own k bytes rest)
     → Lexed at bytes (g.token (kind_of bytes k) at ∷ []) p
-one at k bytes p whole = record {
+one at k bytes p own whole = record {
   pieces = token k bytes ∷ [];
   spelled = append-nil bytes;
-  fit = λ before out rest none. ((out, whole rest none), tt);
-  outside = λ before out. refl;
+  fit = λ before out rest none. ((and_from (is_outside before) (is_own k) out own, whole rest none), tt);
+  outside = λ before out. own_outside k own;
   told = λ text front after e f. ap (λ (x : List ℕ). g.token (kind_of x k) at ∷ [])
       (ap (λ (t : List ℕ). slice_range t at (at + length bytes)) (sym e) ∙ range_is front bytes after at (at + length bytes) f refl);
 }
@@ -110,21 +118,21 @@ pub a_space : (at : ℕ) → Lexed at (32 ∷ []) [] nothing
 a_space at = record {
   pieces = blank 32 ∷ [];
   spelled = refl;
-  fit = λ before out rest none. (plain_blank before 32 rest out refl, tt);
+  fit = λ before out rest none. (plain_blank Own before 32 rest out refl, tt);
   outside = λ before out. blank_outside before 32 out refl;
   told = λ text front after e f. refl;
 }
 
 -- a sign
 pub a_mark : (at : ℕ) (s : Sign) → Lexed at (sign_bytes s) (g.token (sign_kind s) at ∷ []) is_second
-a_mark at s = one at (kind.Sign s) (sign_bytes s) is_second (λ rest none. a_whole_sign s rest none)
+a_mark at s = one at (kind.Sign s) (sign_bytes s) is_second refl (λ rest none. a_whole_sign s rest none)
 
 -- the sign that begins with `(` has no other byte
 single : (s : Sign) → heads (λ b. eqb b 40) (sign_bytes s) ≡ true → length (sign_bytes s) ≤ 1
 single LeftParen h = omega arith
 single _ h = cc
 
-paren_longest : (rest : List ℕ) → IsLongest (40 ∷ []) rest
+paren_longest : (rest : List ℕ) → IsLongest Own (40 ∷ []) rest
 paren_longest rest = record {
   lexeme = a_sign LeftParen refl;
   longest = λ other after e lexeme. let found = sign_starts other after rest 40 e lexeme refl refl in
@@ -140,7 +148,7 @@ paren_longest rest = record {
 
 -- `(`, whatever follows
 pub an_opening : (at : ℕ) → Lexed at (40 ∷ []) (g.token g.left_paren at ∷ []) nothing
-an_opening at = one at (kind.Sign LeftParen) (40 ∷ []) nothing
+an_opening at = one at (kind.Sign LeftParen) (40 ∷ []) nothing refl
     (λ rest none. record { is_token = refl; longest = paren_longest rest; apart = tt })
 
 -- a front of bytes of words is within a word that no byte of a word follows
@@ -154,7 +162,7 @@ front_short [] (r ∷ rest) (o ∷ other) after h k e = let same : o ≡ r = cc 
 front_short (b ∷ bytes) rest (o ∷ other) after h k e = let less = front_short bytes rest other after h
     (and_parts (is_word_byte o) (list_all is_word_byte other) k).1 (cc) in omega arith
 
-word_whole : (bytes rest : List ℕ) → is_word bytes ≡ true → heads is_word_byte rest ≡ false → IsLongest bytes rest
+word_whole : (bytes rest : List ℕ) → is_word bytes ≡ true → heads is_word_byte rest ≡ false → IsLongest Own bytes rest
 word_whole [] rest w h = cc
 word_whole (b ∷ bs) rest w h = record {
   lexeme = a_word w;
@@ -164,7 +172,7 @@ word_whole (b ∷ bs) rest w h = record {
 
 -- a name
 pub a_word_of : (at : ℕ) (name : List ℕ) → IsName name → Lexed at name (g.token (g.a_name name) at ∷ []) is_word_byte
-a_word_of at name n = one at kind.Name name is_word_byte
+a_word_of at name n = one at kind.Name name is_word_byte refl
     (λ rest none. record { is_token = n; longest = word_whole name rest n.word none; apart = tt })
 
 -- ---- numbers
@@ -213,6 +221,6 @@ decimal_plain (suc n) h = not_padded (decimal (suc n)) (first_decimal (suc n) (o
 pub a_number_of : (at n : ℕ) → n ≤ greatest_literal → Lexed at (decimal n) (g.token (g.a_number n) at ∷ []) is_word_byte
 a_number_of at n h =
     let small : n < 2 ^ 64 = omega arith in
-    one at (kind.Number (pos n)) (decimal n) is_word_byte (λ rest none. let apart = no_word_byte rest none in
+    one at (kind.Number (pos n)) (decimal n) is_word_byte refl (λ rest none. let apart = no_word_byte rest none in
     a_whole_number n (decimal n) rest (decimal_numeral n small) (decimal_plain n small) (decimal_is_IsNumeral n small).1 h
     apart.0 apart.1)

@@ -9,6 +9,7 @@ use Rattle.std.proofs.lemmas.List.Sums.{fails_before_first}
 use Rattle.std.proofs.lemmas.List.Quantifiers.{position-Some}
 use Rattle.std.proofs.lemmas.Option.{slice_get_within, get_or_from_slice_get, slice_get-get_or}
 use Rattle.std.proofs.lemmas.Slice.Eq.{bytes_eq-Decides}
+use Rattle.lang_tokens.specs.declared.lexicon.Lexicon.TheVariants.{C}
 use Rattle.lang_tokens.proofs.reading.Placed.{placed_tokens}
 use Rattle.lang_meaning.specs.Names.{place_of}
 use Rattle.source_tokens.proofs.placed.Fronts.{front_in}
@@ -63,5 +64,5 @@ apart_once (n ∷ names) h (suc i) (suc j) name e f = ap suc (apart_once names h
 -- the variables of a function that is meant
 pub program_names : VariablesAreNames → ProgramNamesAreNames
 program_names law integers text tokens front asked names body reads e means =
-    let (each, apart) = law integers text asked front names body (front_in text tokens front (placed_tokens text tokens reads) e) means in
+    let (each, apart) = law integers text asked front names body (front_in text tokens front (placed_tokens C text tokens reads) e) means in
     record { each = each; once = apart_once names apart }

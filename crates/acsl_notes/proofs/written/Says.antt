@@ -9,6 +9,7 @@ use Rattle.std.proofs.lemmas.Bool.{le-leb, leb-true, eqb-true}
 use Rattle.std.proofs.lemmas.List.{append_assoc, append-nil, length-append, map-append, length-map}
 use Rattle.std.proofs.lemmas.List.Elements.{All-head, All-tail}
 use Rattle.lang_tokens.specs.declared.sign.Sign.TheVariants.{Star, LessEqual, EqualEqual}
+use Rattle.lang_tokens.specs.declared.lexicon.Lexicon.TheVariants.{Own}
 use Rattle.lang_tokens.specs.declared.token.Token as lex_token
 use Rattle.lang_tokens.specs.Bytes.{is_word_byte}
 use Rattle.lang_tokens.specs.declared.before.Before.TheVariants.{Blanks}
@@ -61,7 +62,7 @@ tokens_in {bytes = bytes} e = tokens_from 0 e.lexed.pieces ++ end_at (length byt
 module _ {all : List (List ℕ)} {bytes : List ℕ} {q : ℕ → Bool} {v : Value} (e : Spelled all 0 bytes q 0 1 v)
     (last : heads q [] ≡ false) where
   -- the text reads as these tokens
-  pub text_reads : Reads bytes (tokens_in e)
+  pub text_reads : Reads Own bytes (tokens_in e)
   text_reads = record {
     front = tokens_from 0 e.lexed.pieces;
     whole = record {

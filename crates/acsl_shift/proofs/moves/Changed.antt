@@ -1,22 +1,23 @@
 -- What is read of a change at one place is what is read of it, without its places.
-use Rattle.std.proofs.Common.{◌≡◌, ℕ, [], length, Ok, refl}
+use Rattle.std.proofs.Common.{◌≡◌, ℕ, pos, [], length, Ok, refl}
 use Rattle.source_grammar.specs.Tokens as g
-use Rattle.source_grammar.specs.Grammar.{Expr, Place, place, no_index, index, Effect, assigns, steps, Update, update, step_before}
-use Rattle.source_tree.specs.Expressions.{Operation, Expression, number, variable, element, joined, none, more, plus, minus}
+use Rattle.source_grammar.specs.Expressions.{Expr, Place, place, no_index, index, Effect, assigns, steps, Update, update, step_before}
+use Rattle.source_grammar.specs.Expressions as tree
+use Rattle.source_tree.specs.Expressions.{Operation, Expression, number, variable, joined, none, more, plus, minus}
 use Rattle.source_tree.specs.Expressions.{times, over, remainder}
 use Rattle.source_tree.specs.Statements.{Change}
 use Rattle.source_core.specs.Core.{change_deeds}
 use Rattle.source_meaning.specs.Results.{◌>>=◌}
-use Rattle.source_meaning.specs.Names.{State, variable_of, array_of}
+use Rattle.source_meaning.specs.Names.{State, variable_of}
 use Rattle.source_meaning.specs.Limits.{counted}
 use Rattle.source_meaning.specs.Expressions.{read, ranged, behind, behind_number}
 use Rattle.source_meaning.specs.Changes.{stepped, few, behind_change, right_side, written, affected, evaluated_by, read_element, changed}
 use Rattle.source_meaning.specs.Changes.{first_place, read_update}
 use Rattle.acsl_shift.specs.Sources.{expression_without, expressions_without, change_without}
-use Rattle.acsl_shift.proofs.moves.Trees.{move_expr, move_place, move_effect, move_update}
+use Rattle.acsl_shift.proofs.moves.Trees.{move_expr, move_subscripts, move_place, move_effect, move_update}
 use Rattle.acsl_shift.proofs.moves.Twice.{nowhere}
 use Rattle.acsl_shift.proofs.moves.Seen.{Seen, seen_then, seen_limited, seen_counted, from_hidden}
-use Rattle.acsl_shift.proofs.moves.Read.{seen_variable, seen_array, seen_ranged, seen_read, behind_same, behind_number_same}
+use Rattle.acsl_shift.proofs.moves.Read.{seen_variable, seen_ranged, seen_read, behind_same, behind_number_same}
 use Rattle.acsl_shift.proofs.moves.Cores.{behind_change_same, deeds_small, deeds_length}
 use Rattle.base_integers.specs.declared.integers.Integers.{Integers}
 
@@ -36,8 +37,8 @@ module _ (integers : Integers) (n line : ℕ) where
   seen_stepped : (d : g.Direction) (sign h : ℕ) (old : Expression)
       → Seen expression_without (ranged integers line sign h (stepped d sign old))
       (ranged integers 0 0 h (stepped d 0 (expression_without old)))
-  seen_stepped g.up sign h old = seen_ranged integers line sign h (joined plus sign old (number 1 sign))
-  seen_stepped g.down sign h old = seen_ranged integers line sign h (joined minus sign old (number 1 sign))
+  seen_stepped g.up sign h old = seen_ranged integers line sign h (joined plus sign old (number (pos 1) sign))
+  seen_stepped g.down sign h old = seen_ranged integers line sign h (joined minus sign old (number (pos 1) sign))
 
   -- an old value and a right side
   seen_joined : (st : State) (o : Operation) (sign : ℕ) (old : Expression) (e : Expr)
@@ -121,13 +122,10 @@ module _ (integers : Integers) (n line : ℕ) where
       → Seen change_without (changed integers n line st p f) (changed integers n 0 st (move_place nowhere p) (move_effect nowhere f))
   seen_changed st (place x a no_index) f =
       seen_then (λ i. i) change_without (variable_of x a st) (variable_of x 0 st) _ _ (seen_variable x a st) (λ i. seen_affected st i a f)
-  seen_changed st (place x a (index b e c)) f =
-      seen_then expression_without change_without (read_element integers n line st x a b e)
-      (read_element integers n 0 st x 0 0 (move_expr nowhere e)) _ _
-      (seen_then (λ i. i) expression_without (array_of x a st) (array_of x 0 st) _ _ (seen_array x a st) (λ size.
-      seen_then expression_without expression_without (read integers line st e n) (read integers 0 st (move_expr nowhere e) n) _ _
-      (seen_read integers line st e n)
-      (λ i. seen_ranged integers line b n (element size b i a)))) (λ old. seen_evaluated st old f)
+  seen_changed st (place x a (index is)) f =
+      seen_then expression_without change_without (read_element integers n line st x a is)
+      (read_element integers n 0 st x 0 (move_subscripts nowhere is)) _ _
+      (seen_read integers line st (tree.element x a is) n) (λ old. seen_evaluated st old f)
 
 -- A place's first token is at that one place.
 first_is_nowhere : (p : Place) → first_place (move_place nowhere p) ≡ 0

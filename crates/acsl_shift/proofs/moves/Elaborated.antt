@@ -1,6 +1,6 @@
 -- What an expression without its places is in the core: the same, but for the lines and places of its deeds.
 use Rattle.std.proofs.Common.{◌≡◌, ◌∙◌, ◌++◌, ◌∷◌, ℕ, suc, ℤ, pos, Bool, true, false, List, [], refl, ap, ap₂, subst}
-use Rattle.std.proofs.Common.{if◌then◌else◌, nat_le}
+use Rattle.std.proofs.Common.{if◌then◌else◌}
 use Rattle.lang_tree.specs.declared.form.Form.{Form}
 use Rattle.lang_tree.specs.declared.cond.Rel.TheVariants.{Ne}
 use Rattle.lang_tree.specs.declared.check.CheckKind.TheVariants.{Divisor, Index, Range}
@@ -8,22 +8,23 @@ use Rattle.lang_tree.specs.Tree as tree
 use Rattle.lang_tree.specs.Tree.{Condition, Deed, havocs, wheres}
 use Rattle.source_tree.specs.Expressions.{Operation, plus, minus, times, over, remainder}
 use Rattle.source_tree.specs.Expressions.{Expression, Expressions, number, variable, unknown, call, element, grouped, negative, positive}
-use Rattle.source_tree.specs.Expressions.{inverse, joined, compared, both, either, chosen, none, more}
+use Rattle.source_tree.specs.Expressions.{inverse, joined, compared, both, either, chosen, none, more, Extent, Subscripts, no_subscript}
+use Rattle.source_tree.specs.Expressions.{subscript}
 use Rattle.source_core.specs.Forms as form
 use Rattle.source_core.specs.Forms.{constant_form, variable_form, opposite, is_constant}
 use Rattle.source_core.specs.Preludes.{all_under}
 use Rattle.source_core.specs.Elaborated.{Result, a_form, a_truth, any, Elaborated, Numbered, Tested, Evaluated, related, selects}
 use Rattle.source_core.specs.Elaborated.{tested, form_behind, is_unit, is_divisor, is_index, as_number, numbered, product}
-use Rattle.source_core.specs.Elaborated.{unless_zero, quotient_by, remainder_by, operated, element_behind, choice, elaborated, evaluated}
-use Rattle.source_core.specs.Elaborated.{checked, divides, havocked, is_held, operation_held, form_in, held, ranged, number_at}
+use Rattle.source_core.specs.Elaborated.{unless_zero, quotient_by, remainder_by, operated, index_behind, choice, elaborated, evaluated}
+use Rattle.source_core.specs.Elaborated.{checked, divides, havocked, is_held, operation_held, form_in, held, ranged, number_at, has}
+use Rattle.source_core.specs.Elaborated.{indexed}
 use Rattle.source_core.specs.Elaborated.{operation_on}
 use Rattle.source_core.specs.Core.{taken_any}
-use Rattle.acsl_shift.specs.Sources.{expression_without, expressions_without}
+use Rattle.acsl_shift.specs.Sources.{expression_without, expressions_without, subscripts_without}
 use Rattle.acsl_shift.proofs.moves.Deeds.{bare_deeds, bare_append, bare_under}
 use Rattle.base_integers.specs.declared.integers.Integers.{Integers}
 use Rattle.base_integers.specs.declared.integers.Integers.TheVariants.{Mathematical, Machine}
 use Rattle.base_integers.specs.declared.integers.Width.{Width}
-use Rattle.base_integers.specs.Integers.{greatest}
 
 -- without the lines and places of its prelude
 abbrev pub bare : Elaborated → Elaborated
@@ -45,6 +46,10 @@ bare_evaluated a = record { prelude = bare_deeds a.prelude; next = a.next }
 abbrev behind : Result → ℕ → List Deed → Elaborated
 behind r h ds = record { prelude = ds; result = r; next = h }
 
+-- a prelude alone
+abbrev alone : Elaborated → Evaluated
+alone e = record { prelude = e.prelude; next = e.next }
+
 -- a choice of two
 if_bare : (b : Bool) (x y z w : Elaborated) → bare x ≡ z → bare y ≡ w → bare (if b then x else y) ≡ (if b then z else w)
 if_bare true x y z w h i = h
@@ -64,9 +69,9 @@ ranged_bare (Machine width) line place holds e =
     ap (behind e.result e.next) (bare_append e.prelude (checked line Range place (holds width (form_in e.result)) ∷ []))
 
 -- a number of the text
-number_bare : (integers : Integers) (line v at h : ℕ) → bare (number_at integers line v at h) ≡ number_at integers 0 v 0 h
+number_bare : (integers : Integers) (line : ℕ) (v : ℤ) (at h : ℕ) → bare (number_at integers line v at h) ≡ number_at integers 0 v 0 h
 number_bare Mathematical line v at h = refl
-number_bare (Machine width) line v at h = if_bare (nat_le v (greatest width)) _ _ _ _ refl refl
+number_bare (Machine width) line v at h = if_bare (has width v) _ _ _ _ refl refl
 
 module _ (integers : Integers) (line : ℕ) where
   -- any of the integers is taken behind a prelude
@@ -133,12 +138,13 @@ module _ (integers : Integers) (line : ℕ) where
       ranged_bare integers line sign (λ width r. operation_held width o f g r) (operated integers line o sign ds h f g)
       ∙ ap (λ (x : Elaborated). ranged integers 0 0 (λ width r. operation_held width o f g r) x) (operated_bare o sign ds h f g)
 
-  -- an element
-  element_bare : (size bracket : ℕ) (i j : Numbered) → bare_number i ≡ j
-      → bare (element_behind line size bracket i) ≡ element_behind 0 size 0 j
-  element_bare size bracket i j h =
-      ap (behind any i.next) (bare_append i.prelude (checked line Index bracket (is_index size i.form) ∷ []))
-      ∙ ap (λ (x : Numbered). element_behind 0 size 0 x) h
+  -- an index with its check
+  index_bare : (extent : Extent) (bracket : ℕ) (i j : Numbered) → bare_number i ≡ j
+      → bare_evaluated (index_behind line extent bracket i) ≡ index_behind 0 extent 0 j
+  index_bare extent bracket i j h =
+      ap (λ (ds : List Deed). let e : Evaluated = record { prelude = ds; next = i.next } in e)
+      (bare_append i.prelude (checked line Index bracket (is_index extent i.form) ∷ []))
+      ∙ ap (λ (x : Numbered). index_behind 0 extent 0 x) h
 
   -- what is made of two numbers, the second behind the first
   two_numbers : (K L : List Deed → ℕ → Form → Form → Elaborated)
@@ -191,14 +197,14 @@ module _ (integers : Integers) (line : ℕ) where
       let R : Numbered → Type 0 = λ w. bare (choice line c f g) ≡ choice 0 (bare_test c) (bare_number f) w in
       subst P ec (subst Q ef (subst R eg (choice_prelude c f g)))
 
-  -- arguments one behind the other
-  more_bare : (a x : Elaborated) → bare a ≡ x → (b : Evaluated) (y : ℕ → Evaluated) → bare_evaluated b ≡ y a.next
+  -- what is evaluated one behind the other
+  more_bare : (a x : Evaluated) → bare_evaluated a ≡ x → (b : Evaluated) (y : ℕ → Evaluated) → bare_evaluated b ≡ y a.next
       → (let e : Evaluated = record { prelude = bare_deeds (a.prelude ++ b.prelude); next = b.next } in e)
       ≡ (let e : Evaluated = record { prelude = x.prelude ++ (y x.next).prelude; next = (y x.next).next } in e)
   more_bare a x ea b y eb =
       let both_of : List Deed → Evaluated → Evaluated = λ ds e. record { prelude = ds ++ e.prelude; next = e.next } in
       let now : Evaluated = record { prelude = bare_deeds (a.prelude ++ b.prelude); next = b.next } in
-      let P : Elaborated → Type 0 = λ z. now ≡ both_of z.prelude (y z.next) in
+      let P : Evaluated → Type 0 = λ z. now ≡ both_of z.prelude (y z.next) in
       let Q : Evaluated → Type 0 = λ z. now ≡ both_of (bare_deeds a.prelude) z in
       subst P ea (subst Q eb (ap (λ (ds : List Deed). let e : Evaluated = record { prelude = ds; next = b.next } in e)
       (bare_append a.prelude b.prelude)))
@@ -214,10 +220,7 @@ module _ (integers : Integers) (line : ℕ) where
     elaborated_bare (variable i at) h = refl
     elaborated_bare (unknown at) h = refl
     elaborated_bare (call es at) h = ap (λ (x : Evaluated). behind any x.next x.prelude) (evaluated_bare es h)
-    elaborated_bare (element size bracket e at) h =
-        element_bare size bracket (numbered integers line (elaborated integers line e h))
-        (numbered integers 0 (elaborated integers 0 (expression_without e) h))
-        (numbered_bare (elaborated integers line e h) (elaborated integers 0 (expression_without e) h) (elaborated_bare e h))
+    elaborated_bare (element is at) h = ap (λ (x : Evaluated). behind any x.next x.prelude) (indexed_bare is h)
     elaborated_bare (grouped at e) h = elaborated_bare e h
     elaborated_bare (negative at e) h =
         let a = numbered integers line (elaborated integers line e h) in
@@ -273,5 +276,17 @@ module _ (integers : Integers) (line : ℕ) where
     evaluated_bare none h = refl
     evaluated_bare (more e es) h =
         let a = elaborated integers line e h in
-        more_bare a (elaborated integers 0 (expression_without e) h) (elaborated_bare e h) (evaluated integers line es a.next)
+        more_bare (alone a) (alone (elaborated integers 0 (expression_without e) h))
+        (ap (λ (x : Elaborated). alone x) (elaborated_bare e h)) (evaluated integers line es a.next)
         (λ n. evaluated integers 0 (expressions_without es) n) (evaluated_bare es a.next)
+
+    -- indexes one behind the other
+    indexed_bare : (is : Subscripts) (h : ℕ) → bare_evaluated (indexed integers line is h) ≡ indexed integers 0 (subscripts_without is) h
+    indexed_bare no_subscript h = refl
+    indexed_bare (subscript extent bracket e is) h =
+        let i = numbered integers line (elaborated integers line e h) in
+        let j = numbered integers 0 (elaborated integers 0 (expression_without e) h) in
+        more_bare (index_behind line extent bracket i) (index_behind 0 extent 0 j)
+        (index_bare extent bracket i j
+        (numbered_bare (elaborated integers line e h) (elaborated integers 0 (expression_without e) h) (elaborated_bare e h)))
+        (indexed integers line is i.next) (λ n. indexed integers 0 (subscripts_without is) n) (indexed_bare is i.next)

@@ -1,44 +1,55 @@
 -- What is read of an expression at one place is what is read of it, without its places.
-use Rattle.std.proofs.Common.{◌≡◌, ◌∙◌, ◌&&◌, Bool, true, false, ℕ, List, Option, Some, None, refl, sym, ap, subst}
+use Rattle.std.proofs.Common.{◌≡◌, ◌∙◌, ◌&&◌, Bool, true, false, ℕ, suc, pos, List, [], ◌∷◌, length, nat_eq, Option, Some, None, Ok, refl}
+use Rattle.std.proofs.Common.{sym}
+use Rattle.std.proofs.Common.{ap, subst}
 use Rattle.source_grammar.specs.Tokens as g
-use Rattle.source_grammar.specs.Tokens.{Op, Prefix}
-use Rattle.source_grammar.specs.Grammar.{Expr, Arguments, MoreArguments, no_arguments, arguments, last_argument, next_argument}
-use Rattle.source_grammar.specs.Grammar as tree
-use Rattle.source_tree.specs.Expressions.{Expression, number, element, negative}
+use Rattle.source_grammar.specs.Tokens.{Name, Op, Prefix}
+use Rattle.source_grammar.specs.Expressions.{Expr, Arguments, MoreArguments, no_arguments, arguments, last_argument, next_argument}
+use Rattle.source_grammar.specs.Expressions.{last_subscript, next_subscript}
+use Rattle.source_grammar.specs.Grammar.{Value, one_value, braced, Values, no_values, values, MoreValues}
+use Rattle.source_grammar.specs.Grammar.{last_value, last_comma, next_value}
+use Rattle.source_grammar.specs.Expressions as tree
+use Rattle.source_tree.specs.Expressions.{Expression, number, element, negative, more}
 use Rattle.source_tree.specs.Expressions.{joined, compared, chosen, plus, minus, times, over}
-use Rattle.source_tree.specs.Expressions.{remainder}
+use Rattle.source_tree.specs.Expressions.{remainder, Extent, no_subscript, subscript}
 use Rattle.source_core.specs.Elaborated.{Elaborated, Numbered, elaborated, tested}
 use Rattle.source_core.specs.Fits.{fits, tested_fits, result_fits, condition_fits}
 use Rattle.source_meaning.specs.declared.fault.FunctionFault.TheVariants as fault
-use Rattle.source_meaning.specs.Names.{State, Thing, known, as_variable, as_array, as_called, variable_of, array_of}
+use Rattle.source_meaning.specs.Results.{◌>>=◌}
+use Rattle.source_meaning.specs.Names.{State, Thing, thing_of, as_variable, as_array, as_called, variable_of, array_of}
 use Rattle.source_meaning.specs.Names as names
 use Rattle.source_meaning.specs.Expressions.{first_of, rel_of, ranged, as_condition, behind, behind_number, operated, joins_conditions}
-use Rattle.source_meaning.specs.Expressions.{side}
+use Rattle.source_meaning.specs.Expressions.{side, subscript_count, is_array_name, operand, read_subscripts, read_value, read_values}
+use Rattle.source_meaning.specs.Expressions.{read_more_values}
 use Rattle.source_meaning.specs.Expressions.{behind_side, prefixed, read, read_arguments, read_more}
-use Rattle.acsl_shift.specs.Sources.{expression_without, expressions_without}
-use Rattle.acsl_shift.proofs.moves.Trees.{move_expr, move_arguments, move_more_arguments}
+use Rattle.acsl_shift.specs.Sources.{expression_without, expressions_without, subscripts_without}
+use Rattle.acsl_shift.proofs.moves.Trees.{move_expr, move_arguments, move_more_arguments, move_subscripts, move_value, move_values}
+use Rattle.acsl_shift.proofs.moves.Trees.{move_more_values}
 use Rattle.acsl_shift.proofs.moves.Twice.{nowhere}
 use Rattle.acsl_shift.proofs.moves.Deeds.{bare_fit}
 use Rattle.acsl_shift.proofs.moves.Elaborated.{elaborated_bare, numbered_bare}
-use Rattle.acsl_shift.proofs.moves.Seen.{Seen, Same, seen_then, seen_provided, from_hidden}
+use Rattle.acsl_shift.proofs.moves.Seen.{Seen, Same, seen_then, seen_provided, seen_if, from_hidden}
 use Rattle.base_integers.specs.declared.integers.Integers.{Integers}
 
 -- ---- names
 -- the variable of a name
-pub seen_variable : (x : List ℕ) (at : ℕ) (st : State) → Same (variable_of x at st) (variable_of x 0 st)
-seen_variable x at st = by_thing (known x st.names) where
+pub seen_variable : (x : Name) (at : ℕ) (st : State) → Same (variable_of x at st) (variable_of x 0 st)
+seen_variable x at st = by_thing (thing_of x st) where
   by_thing : (t : Option Thing) → Same (as_variable at t) (as_variable 0 t)
   by_thing None = record { same = refl }
   by_thing (Some (names.variable i)) = record { same = refl }
-  by_thing (Some (names.array size)) = record { same = refl }
+  by_thing (Some (names.array extents)) = record { same = refl }
+  by_thing (Some (names.constant v)) = record { same = refl }
 
--- the size of an array
-pub seen_array : (x : List ℕ) (at : ℕ) (st : State) → Same (array_of x at st) (array_of x 0 st)
-seen_array x at st = by_thing (known x st.names) where
-  by_thing : (t : Option Thing) → Same (as_array at t) (as_array 0 t)
+-- the extents of an array
+pub seen_array : (x : Name) (at count : ℕ) (st : State) → Same (array_of x at count st) (array_of x 0 count st)
+seen_array x at count st = by_thing (thing_of x st) where
+  by_thing : (t : Option Thing) → Same (as_array at count t) (as_array 0 count t)
   by_thing None = record { same = refl }
   by_thing (Some (names.variable i)) = record { same = refl }
-  by_thing (Some (names.array size)) = record { same = refl }
+  by_thing (Some (names.array extents)) =
+      seen_provided (λ x. x) (nat_eq (length extents) count) (nat_eq (length extents) count) (fault.WrongKind at) extents refl
+  by_thing (Some (names.constant v)) = record { same = refl }
 
 -- a name that is called
 pub seen_called : {A B : Type 0} (view : A → B) (at : ℕ) (t : Option Thing) (x : A) → Seen view (as_called at t x) (as_called 0 t (view x))
@@ -49,13 +60,34 @@ seen_called view at (Some t) x = record { same = refl }
 pub first_nowhere : (e : Expr) → first_of (move_expr nowhere e) ≡ 0
 first_nowhere (tree.number v a) = refl
 first_nowhere (tree.variable x a) = refl
-first_nowhere (tree.element x a b e c) = refl
+first_nowhere (tree.element x a is) = refl
 first_nowhere (tree.call x a b es c) = refl
+first_nowhere (tree.stepped_behind x a g b) = refl
+first_nowhere (tree.stepped_before g a x b) = refl
 first_nowhere (tree.free a b c) = refl
 first_nowhere (tree.grouped a e b) = refl
 first_nowhere (tree.prefixed p a e) = refl
 first_nowhere (tree.joined e o a f) = first_nowhere e
 first_nowhere (tree.chosen c a e b f) = first_nowhere c
+
+-- An element has as many indexes there.
+count_nowhere : (is : tree.Subscripts) → subscript_count (move_subscripts nowhere is) ≡ subscript_count is
+count_nowhere (last_subscript a e b) = refl
+count_nowhere (next_subscript a e b is) = ap suc (count_nowhere is)
+
+-- An expression is the name of an array alone there where it is here.
+array_nowhere : (st : State) (e : Expr) → is_array_name st (move_expr nowhere e) ≡ is_array_name st e
+array_nowhere st (tree.number v a) = refl
+array_nowhere st (tree.variable x a) = refl
+array_nowhere st (tree.element x a is) = refl
+array_nowhere st (tree.call x a b es c) = refl
+array_nowhere st (tree.stepped_behind x a g b) = refl
+array_nowhere st (tree.stepped_before g a x b) = refl
+array_nowhere st (tree.free a b c) = refl
+array_nowhere st (tree.grouped a e b) = refl
+array_nowhere st (tree.prefixed p a e) = refl
+array_nowhere st (tree.joined e o a f) = refl
+array_nowhere st (tree.chosen c a e b f) = refl
 
 module _ (integers : Integers) (line : ℕ) where
   -- ---- ranges
@@ -131,22 +163,55 @@ module _ (integers : Integers) (line : ℕ) where
       (as_condition integers 0 now h (expression_without e)) _ _
       (seen_condition first now h e i) (λ x. record { same = refl })
 
+  -- ---- operands
+  -- a name as one
+  seen_operand : (at h : ℕ) (t : Option Thing)
+      → Seen expression_without (operand integers line at h t) (operand integers 0 0 h t)
+  seen_operand at h None = record { same = refl }
+  seen_operand at h (Some (names.variable i)) = record { same = refl }
+  seen_operand at h (Some (names.array extents)) = record { same = refl }
+  seen_operand at h (Some (names.constant v)) = seen_ranged at h (number v at)
+
+  -- an argument that is evaluated, and those behind it
+  argument_then : (st : State) (e : Expr) (es : MoreArguments) (h : ℕ)
+      → Seen expression_without (read integers line st e h) (read integers 0 st (move_expr nowhere e) h)
+      → ((k : ℕ) → Seen expressions_without (read_more integers line st es k) (read_more integers 0 st (move_more_arguments nowhere es) k))
+      → Seen expressions_without
+      (read integers line st e h >>= λ x. read_more integers line st es (behind integers line x h) >>= λ xs. Ok (more x xs))
+      (read integers 0 st (move_expr nowhere e) h
+      >>= λ x. read_more integers 0 st (move_more_arguments nowhere es) (behind integers 0 x h) >>= λ xs. Ok (more x xs))
+  argument_then st e es h same rest =
+      seen_then expression_without expressions_without (read integers line st e h) (read integers 0 st (move_expr nowhere e) h) _ _ same
+      (λ x. let k = behind integers line x h in
+      let l = behind integers 0 (expression_without x) h in
+      seen_then expressions_without expressions_without (read_more integers line st es k)
+      (read_more integers 0 st (move_more_arguments nowhere es) l) _ _
+      (from_hidden expressions_without (read_more integers line st es k)
+      (λ z. read_more integers 0 st (move_more_arguments nowhere es) z) k l (behind_same x h) (rest k)) (λ xs. record { same = refl }))
+
   mutual
     -- an expression
     pub seen_read : (st : State) (e : Expr) (h : ℕ)
         → Seen expression_without (read integers line st e h) (read integers 0 st (move_expr nowhere e) h)
-    seen_read st (tree.number v a) h = seen_ranged a h (number v a)
-    seen_read st (tree.variable x a) h =
+    seen_read st (tree.number v a) h = seen_ranged a h (number (pos v) a)
+    seen_read st (tree.variable x a) h = seen_operand a h (thing_of x st)
+    seen_read st (tree.element x a is) h =
+        let n = subscript_count is in
+        let m = subscript_count (move_subscripts nowhere is) in
+        seen_then (λ i. i) expression_without (array_of x a n st) (array_of x 0 m st) _ _
+        (from_hidden (λ i. i) (array_of x a n st) (λ k. array_of x 0 k st) n m (sym (count_nowhere is)) (seen_array x a n st)) (λ extents.
+        seen_then subscripts_without expression_without (read_subscripts integers line st a extents is h)
+        (read_subscripts integers 0 st 0 extents (move_subscripts nowhere is) h) _ _ (seen_subscripts st a extents is h)
+        (λ is. record { same = refl }))
+    seen_read st (tree.stepped_behind x a g b) h =
         seen_then (λ i. i) expression_without (variable_of x a st) (variable_of x 0 st) _ _ (seen_variable x a st)
         (λ i. record { same = refl })
-    seen_read st (tree.element x a b e c) h =
-        seen_then (λ i. i) expression_without (array_of x a st) (array_of x 0 st) _ _ (seen_array x a st) (λ size.
-        seen_then expression_without expression_without (read integers line st e h) (read integers 0 st (move_expr nowhere e) h) _ _
-        (seen_read st e h)
-        (λ i. seen_ranged b h (element size b i a)))
+    seen_read st (tree.stepped_before g a x b) h =
+        seen_then (λ i. i) expression_without (variable_of x b st) (variable_of x 0 st) _ _ (seen_variable x b st)
+        (λ i. record { same = refl })
     seen_read st (tree.call x a b es c) h =
-        seen_then nowhere expression_without (as_called a (known x st.names) a) (as_called 0 (known x st.names) 0) _ _
-        (seen_called nowhere a (known x st.names) a) (λ at.
+        seen_then nowhere expression_without (as_called a (thing_of x st) a) (as_called 0 (thing_of x st) 0) _ _
+        (seen_called nowhere a (thing_of x st) a) (λ at.
         seen_then expressions_without expression_without (read_arguments integers line st es h)
         (read_arguments integers 0 st (move_arguments nowhere es) h) _ _
         (seen_arguments st es h) (λ es. record { same = refl }))
@@ -198,32 +263,87 @@ module _ (integers : Integers) (line : ℕ) where
         (seen_read st f (behind_number integers line y k))) (λ z.
         seen_ranged a h (chosen a x y z)))))
 
+    -- the indexes of an element
+    seen_subscripts : (st : State) (at : ℕ) (extents : List Extent) (is : tree.Subscripts) (h : ℕ)
+        → Seen subscripts_without (read_subscripts integers line st at extents is h)
+        (read_subscripts integers 0 st 0 extents (move_subscripts nowhere is) h)
+    seen_subscripts st at [] is h = record { same = refl }
+    seen_subscripts st at (x ∷ xs) (last_subscript a e b) h =
+        seen_then expression_without subscripts_without (read integers line st e h) (read integers 0 st (move_expr nowhere e) h) _ _
+        (seen_read st e h) (λ i.
+        seen_then expression_without subscripts_without (ranged integers line a h (element (subscript x a i no_subscript) at))
+        (ranged integers 0 0 h (element (subscript x 0 (expression_without i) no_subscript) 0)) _ _
+        (seen_ranged a h (element (subscript x a i no_subscript) at)) (λ y. record { same = refl }))
+    seen_subscripts st at (x ∷ xs) (next_subscript a e b is) h =
+        seen_then expression_without subscripts_without (read integers line st e h) (read integers 0 st (move_expr nowhere e) h) _ _
+        (seen_read st e h) (λ i.
+        seen_then expression_without subscripts_without (ranged integers line a h (element (subscript x a i no_subscript) at))
+        (ranged integers 0 0 h (element (subscript x 0 (expression_without i) no_subscript) 0)) _ _
+        (seen_ranged a h (element (subscript x a i no_subscript) at)) (λ y.
+        let k = behind_number integers line i h in
+        let l = behind_number integers 0 (expression_without i) h in
+        seen_then subscripts_without subscripts_without (read_subscripts integers line st at xs is k)
+        (read_subscripts integers 0 st 0 xs (move_subscripts nowhere is) l) _ _
+        (from_hidden subscripts_without (read_subscripts integers line st at xs is k)
+        (λ z. read_subscripts integers 0 st 0 xs (move_subscripts nowhere is) z) k l (behind_number_same i h)
+        (seen_subscripts st at xs is k)) (λ ys. record { same = refl })))
+
     -- the arguments of a call
     pub seen_arguments : (st : State) (es : Arguments) (h : ℕ)
         → Seen expressions_without (read_arguments integers line st es h) (read_arguments integers 0 st (move_arguments nowhere es) h)
     seen_arguments st no_arguments h = record { same = refl }
     seen_arguments st (arguments e es) h =
-        seen_then expression_without expressions_without (read integers line st e h) (read integers 0 st (move_expr nowhere e) h) _ _
-        (seen_read st e h) (λ x.
-        seen_then expressions_without expressions_without (read_more integers line st es (behind integers line x h))
-        (read_more integers 0 st (move_more_arguments nowhere es) (behind integers 0 (expression_without x) h)) _ _
-        (from_hidden expressions_without (read_more integers line st es (behind integers line x h))
-        (λ z. read_more integers 0 st (move_more_arguments nowhere es) z)
-        (behind integers line x h) (behind integers 0 (expression_without x) h) (behind_same x h)
-        (seen_more st es (behind integers line x h)))
-        (λ xs. record { same = refl }))
+        seen_if expressions_without (is_array_name st e) (is_array_name st (move_expr nowhere e)) _ _ _ _ (array_nowhere st e)
+        (seen_more st es h) (argument_then st e es h (seen_read st e h) (λ k. seen_more st es k))
 
     -- those behind the first
     seen_more : (st : State) (es : MoreArguments) (h : ℕ)
         → Seen expressions_without (read_more integers line st es h) (read_more integers 0 st (move_more_arguments nowhere es) h)
     seen_more st last_argument h = record { same = refl }
     seen_more st (next_argument a e es) h =
-        seen_then expression_without expressions_without (read integers line st e h) (read integers 0 st (move_expr nowhere e) h) _ _
-        (seen_read st e h) (λ x.
-        seen_then expressions_without expressions_without (read_more integers line st es (behind integers line x h))
-        (read_more integers 0 st (move_more_arguments nowhere es) (behind integers 0 (expression_without x) h)) _ _
-        (from_hidden expressions_without (read_more integers line st es (behind integers line x h))
-        (λ z. read_more integers 0 st (move_more_arguments nowhere es) z)
-        (behind integers line x h) (behind integers 0 (expression_without x) h) (behind_same x h)
-        (seen_more st es (behind integers line x h)))
-        (λ xs. record { same = refl }))
+        seen_if expressions_without (is_array_name st e) (is_array_name st (move_expr nowhere e)) _ _ _ _ (array_nowhere st e)
+        (seen_more st es h) (argument_then st e es h (seen_read st e h) (λ k. seen_more st es k))
+
+  -- ---- values of arrays
+  -- the values behind one
+  values_then : (st : State) (vs : MoreValues) (h : ℕ) (x : Expression)
+      → ((k : ℕ) → Seen expressions_without (read_more_values integers line st vs k)
+      (read_more_values integers 0 st (move_more_values nowhere vs) k))
+      → Seen expressions_without (read_more_values integers line st vs (behind integers line x h) >>= λ xs. Ok (more x xs))
+      (read_more_values integers 0 st (move_more_values nowhere vs) (behind integers 0 (expression_without x) h)
+      >>= λ xs. Ok (more (expression_without x) xs))
+  values_then st vs h x rest =
+      let k = behind integers line x h in
+      let l = behind integers 0 (expression_without x) h in
+      seen_then expressions_without expressions_without (read_more_values integers line st vs k)
+      (read_more_values integers 0 st (move_more_values nowhere vs) l) _ _
+      (from_hidden expressions_without (read_more_values integers line st vs k)
+      (λ z. read_more_values integers 0 st (move_more_values nowhere vs) z) k l (behind_same x h) (rest k)) (λ xs. record { same = refl })
+
+  mutual
+    -- a value
+    seen_element : (st : State) (v : Value) (h : ℕ)
+        → Seen expression_without (read_value integers line st v h) (read_value integers 0 st (move_value nowhere v) h)
+    seen_element st (one_value e) h = seen_read st e h
+    seen_element st (braced a vs b) h =
+        seen_then expressions_without expression_without (read_values integers line st vs h)
+        (read_values integers 0 st (move_values nowhere vs) h) _ _ (seen_values st vs h) (λ es. record { same = refl })
+
+    -- values
+    pub seen_values : (st : State) (vs : Values) (h : ℕ)
+        → Seen expressions_without (read_values integers line st vs h) (read_values integers 0 st (move_values nowhere vs) h)
+    seen_values st no_values h = record { same = refl }
+    seen_values st (values v vs) h =
+        seen_then expression_without expressions_without (read_value integers line st v h)
+        (read_value integers 0 st (move_value nowhere v) h) _ _ (seen_element st v h)
+        (λ x. values_then st vs h x (λ k. seen_more_values st vs k))
+
+    -- those behind the first
+    seen_more_values : (st : State) (vs : MoreValues) (h : ℕ)
+        → Seen expressions_without (read_more_values integers line st vs h) (read_more_values integers 0 st (move_more_values nowhere vs) h)
+    seen_more_values st last_value h = record { same = refl }
+    seen_more_values st (last_comma a) h = record { same = refl }
+    seen_more_values st (next_value a v vs) h =
+        seen_then expression_without expressions_without (read_value integers line st v h)
+        (read_value integers 0 st (move_value nowhere v) h) _ _ (seen_element st v h)
+        (λ x. values_then st vs h x (λ k. seen_more_values st vs k))

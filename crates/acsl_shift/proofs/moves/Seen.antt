@@ -1,6 +1,6 @@
 -- Answers without their places.
-use Rattle.std.proofs.Common.{◌≡◌, ◌∙◌, Bool, true, false, ℕ, ◌+◌, List, Result, Ok, Err, refl, ap, ap₂, subst}
-use Rattle.std.proofs.Common.{◌&&◌, nat_le}
+use Rattle.std.proofs.Common.{◌≡◌, ◌∙◌, Bool, true, false, ℕ, ◌+◌, List, Result, Ok, Err, refl, sym, ap, ap₂, subst}
+use Rattle.std.proofs.Common.{◌&&◌, nat_le, if◌then◌else◌}
 use Rattle.std.specs.List.{list_all}
 use Rattle.lang_tree.specs.Tree.{Condition, Deed}
 use Rattle.lang_tree.specs.declared.limits.TheConstants.{MOST_HIDDEN}
@@ -18,6 +18,7 @@ fault_without (fault.NameTwice at) = fault.NameTwice 0
 fault_without (fault.WrongKind at) = fault.WrongKind 0
 fault_without (fault.Array at) = fault.Array 0
 fault_without (fault.BigNumber at) = fault.BigNumber 0
+fault_without (fault.SideEffect at) = fault.SideEffect 0
 fault_without (fault.Limit at which) = fault.Limit 0 which
 fault_without (fault.OutsideLoop at) = fault.OutsideLoop 0
 fault_without fault.NoVariables = fault.NoVariables
@@ -57,6 +58,15 @@ pub seen_provided : {A B : Type 0} (view : A → B) (a b : Bool) (e : FunctionFa
     → Seen view (provided a e x) (provided b (fault_without e) (view x))
 seen_provided view true b e x h = record { same = ap (λ z. provided z (fault_without e) (view x)) h }
 seen_provided view false b e x h = record { same = ap (λ z. provided z (fault_without e) (view x)) h }
+
+-- one of two
+pub seen_if : {A B : Type 0} (view : A → B) (b c : Bool) (x y : Result A FunctionFault) (z w : Result B FunctionFault) → c ≡ b
+    → Seen view x z → Seen view y w → Seen view (if b then x else y) (if c then z else w)
+seen_if view b c x y z w e h i =
+    let P : Bool → Type 0 = λ d. Seen view (if b then x else y) (if d then z else w) in subst P (sym e) (by_case b) where
+      by_case : (d : Bool) → Seen view (if d then x else y) (if d then z else w)
+      by_case true = h
+      by_case false = i
 
 -- from another hidden variable on that is the same
 pub from_hidden : {A B : Type 0} (view : A → B) (r : Result A FunctionFault) (s : ℕ → Result B FunctionFault) (h i : ℕ) → h ≡ i

@@ -1,24 +1,26 @@
 -- Tokens at other places mean the same function, but for its lines and places.
 use Rattle.std.proofs.Common.{◌≡◌, ◌∙◌, ◌∷◌, ℕ, false, List, [], length, reverse, Result, Ok, Err, refl, sym, ap, subst}
 use Rattle.source_grammar.specs.Grammar.{MoreParameters, last_parameter, next_parameter, Parameters, no_parameters, void_parameters}
-use Rattle.source_grammar.specs.Grammar.{int_parameters, Function, function}
+use Rattle.source_grammar.specs.Grammar.{some_parameters, Function, function, Parameter, number_parameter, pointer_parameter}
+use Rattle.source_grammar.specs.Grammar.{array_parameter}
 use Rattle.source_tree.specs.Statements.{Statements}
 use Rattle.source_core.specs.Core.{taken_any, core_in}
 use Rattle.source_meaning.specs.declared.fault.FunctionFault.{FunctionFault}
 use Rattle.source_meaning.specs.declared.fault.FunctionFault.TheVariants.{NoVariables}
 use Rattle.source_meaning.specs.Results.{◌>>=◌}
-use Rattle.source_meaning.specs.Names.{State, start_state, with_variable}
+use Rattle.source_meaning.specs.Names.{State, start_state, with_variable, declared_number, fresh_array}
+use Rattle.source_meaning.specs.Arrays.{read_bounds}
 use Rattle.source_meaning.specs.Limits.{counted}
 use Rattle.source_meaning.specs.Statements.{followed_by, read_items}
-use Rattle.source_meaning.specs.Walk.{variables_of, width_of, read_parameter, read_more_parameters, read_parameters, function_of, walk}
+use Rattle.source_meaning.specs.Walk.{width_of, read_parameter, read_more_parameters, read_parameters, function_of, walk}
 use Rattle.acsl_shift.specs.Sources.{without_places}
 use Rattle.acsl_shift.specs.Law.{Stays, TokensMayMove}
-use Rattle.acsl_shift.proofs.moves.Trees.{move_items, move_more_parameters, move_parameters, move_function}
+use Rattle.acsl_shift.proofs.moves.Trees.{move_items, move_bounds, move_parameter, move_more_parameters, move_parameters, move_function}
 use Rattle.acsl_shift.proofs.moves.Twice.{nowhere, twice_function}
 use Rattle.acsl_shift.proofs.moves.Spelled.{moved_reads}
 use Rattle.acsl_shift.proofs.moves.Declared.{same_width}
 use Rattle.acsl_shift.proofs.moves.Seen.{seen, Seen, seen_ok, seen_then, seen_counted}
-use Rattle.acsl_shift.proofs.moves.Parts.{followed_without, lines, seen_with_variable}
+use Rattle.acsl_shift.proofs.moves.Parts.{followed_without, lines, seen_with_variable, seen_fresh_array, seen_bounds}
 use Rattle.acsl_shift.proofs.moves.Cores.{any_length, cores_same}
 use Rattle.acsl_shift.proofs.moves.Walked.{seen_items}
 use Rattle.base_integers.specs.declared.integers.Integers.{Integers}
@@ -29,20 +31,28 @@ named r = (r.0, without_places r.1)
 
 module _ (integers : Integers) (line : ℕ → ℕ) where
   -- a parameter
-  seen_parameter : (st : State) (x : List ℕ) (at : ℕ)
-      → Seen lines (read_parameter integers line st x at) (read_parameter integers nowhere st x 0)
-  seen_parameter st x at =
+  seen_parameter : (st : State) (p : Parameter)
+      → Seen lines (read_parameter integers line st p) (read_parameter integers nowhere st (move_parameter nowhere p))
+  seen_parameter st (number_parameter t x at) =
       seen_then (λ z. z) lines (with_variable x at st) (with_variable x 0 st) _ _ (seen_with_variable x at st) (λ now.
-      seen_then (λ z. z) lines (counted at (length (taken_any integers st.variables (line at))) now)
-      (counted 0 (length (taken_any integers st.variables 0)) now) _ _
-      (seen_counted at _ _ now (any_length integers st.variables (line at))) (λ now. record { same = refl }))
+      let i = declared_number now in
+      seen_then (λ z. z) lines (counted at (length (taken_any integers i (line at))) now)
+      (counted 0 (length (taken_any integers i 0)) now) _ _
+      (seen_counted at _ _ now (any_length integers i (line at))) (λ now. record { same = refl }))
+  seen_parameter st (pointer_parameter t a x at) =
+      seen_then (λ z. z) lines (fresh_array x at st) (fresh_array x 0 st) _ _ (seen_fresh_array x at st) (λ now. record { same = refl })
+  seen_parameter st (array_parameter t x at bs) =
+      seen_then (λ z. z) lines (fresh_array x at st) (fresh_array x 0 st) _ _ (seen_fresh_array x at st) (λ now.
+      seen_then (λ z. z) lines (read_bounds now bs) (read_bounds now (move_bounds nowhere bs)) _ _ (seen_bounds now bs)
+      (λ extents. record { same = refl }))
 
   -- the parameters behind the first
   seen_more_parameters : (st : State) (ps : MoreParameters)
       → Seen lines (read_more_parameters integers line st ps) (read_more_parameters integers nowhere st (move_more_parameters nowhere ps))
   seen_more_parameters st last_parameter = record { same = refl }
-  seen_more_parameters st (next_parameter a b x at ps) =
-      seen_then lines lines (read_parameter integers line st x at) (read_parameter integers nowhere st x 0) _ _ (seen_parameter st x at)
+  seen_more_parameters st (next_parameter a p ps) =
+      seen_then lines lines (read_parameter integers line st p) (read_parameter integers nowhere st (move_parameter nowhere p)) _ _
+      (seen_parameter st p)
       (λ r.
       seen_then lines lines (read_more_parameters integers line r.0 ps)
       (read_more_parameters integers nowhere r.0 (move_more_parameters nowhere ps)) _ _
@@ -54,8 +64,9 @@ module _ (integers : Integers) (line : ℕ → ℕ) where
       → Seen lines (read_parameters integers line st ps) (read_parameters integers nowhere st (move_parameters nowhere ps))
   seen_parameters st no_parameters = record { same = refl }
   seen_parameters st (void_parameters a) = record { same = refl }
-  seen_parameters st (int_parameters a x at ps) =
-      seen_then lines lines (read_parameter integers line st x at) (read_parameter integers nowhere st x 0) _ _ (seen_parameter st x at)
+  seen_parameters st (some_parameters p ps) =
+      seen_then lines lines (read_parameter integers line st p) (read_parameter integers nowhere st (move_parameter nowhere p)) _ _
+      (seen_parameter st p)
       (λ r.
       seen_then lines lines (read_more_parameters integers line r.0 ps)
       (read_more_parameters integers nowhere r.0 (move_more_parameters nowhere ps)) _ _
@@ -65,7 +76,7 @@ module _ (integers : Integers) (line : ℕ → ℕ) where
   -- there has to be a variable
   seen_function_of : (st : State) (body now : Statements) → without_places body ≡ now
       → Seen named (function_of integers line st body) (function_of integers nowhere st now)
-  seen_function_of st body now h = by_names (reverse (variables_of st.names)) where
+  seen_function_of st body now h = by_names (reverse st.variables) where
     by_names : (names : List (List ℕ)) → Seen named
         (elim names as (λ z. Result (List (List ℕ) × Statements) FunctionFault) [ [] ↦ Err NoVariables | x ∷ xs ↦ Ok (x ∷ xs, body) ])
         (elim names as (λ z. Result (List (List ℕ) × Statements) FunctionFault) [ [] ↦ Err NoVariables | x ∷ xs ↦ Ok (x ∷ xs, now) ])

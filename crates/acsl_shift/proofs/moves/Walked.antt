@@ -3,8 +3,9 @@ use Rattle.std.proofs.Common.{◌∙◌, ◌+◌, Bool, true, ℕ, length}
 use Rattle.std.proofs.Common.{Result, Ok, refl, ap}
 use Rattle.lang_tree.specs.Tree as core
 use Rattle.lang_tree.specs.Tree.{nodes_in}
-use Rattle.source_grammar.specs.Grammar.{Expr, Arguments, Optional, absent, present, MoreUpdates, last_update, next_update, Updates}
-use Rattle.source_grammar.specs.Grammar.{no_updates, some_updates, bare, given, sized, Declarator, declarator, MoreDeclarators}
+use Rattle.source_grammar.specs.Expressions.{Expr, Arguments, Optional, absent, present, MoreUpdates, last_update, next_update, Updates}
+use Rattle.source_grammar.specs.Expressions.{no_updates, some_updates}
+use Rattle.source_grammar.specs.Grammar.{bare, given, sized, filled, Declarator, declarator, MoreDeclarators}
 use Rattle.source_grammar.specs.Grammar.{last_declarator, next_declarator, Declarators, ForFirst, declared_first, updated_first}
 use Rattle.source_grammar.specs.Grammar.{Core, Sub, Items, empty, block, if_alone, if_else, repeat, repeat_after, repeat_for, jumps}
 use Rattle.source_grammar.specs.Grammar.{demands, calls, updates, labelled, plain, no_items, item}
@@ -15,9 +16,10 @@ use Rattle.source_tree.specs.Statements.{loop, jump}
 use Rattle.source_core.specs.Core.{taken_any, change_deeds, core_in, core_of}
 use Rattle.source_meaning.specs.declared.fault.FunctionFault.{FunctionFault}
 use Rattle.source_meaning.specs.Results.{◌>>=◌}
-use Rattle.source_meaning.specs.Names.{State, with_variable, with_array, closed, known, as_called}
+use Rattle.source_meaning.specs.Names.{State, with_variable, declared_number, fresh_array, closed, thing_of, as_called}
+use Rattle.source_meaning.specs.Arrays.{read_sizes}
 use Rattle.source_meaning.specs.Limits.{counted}
-use Rattle.source_meaning.specs.Expressions.{read, read_arguments}
+use Rattle.source_meaning.specs.Expressions.{read, read_arguments, read_values}
 use Rattle.source_meaning.specs.Changes.{few, read_update}
 use Rattle.source_meaning.specs.Statements.{followed_by, one, new_label, jumped, demand_of}
 use Rattle.source_meaning.specs.Statements.{call_of, read_condition, prelude_of, read_declarator, read_more_declarators, read_declarators}
@@ -26,40 +28,62 @@ use Rattle.source_meaning.specs.Statements.{read_core, read_sub, read_items}
 use Rattle.acsl_shift.specs.Sources.{expression_without, expressions_without, change_without, without_places}
 use Rattle.acsl_shift.proofs.moves.Trees.{move_expr, move_arguments, move_optional, move_update, move_more_updates, move_updates}
 use Rattle.acsl_shift.proofs.moves.Trees.{move_declarator, move_more_declarators, move_declarators, move_first, move_core, move_sub}
-use Rattle.acsl_shift.proofs.moves.Trees.{move_items}
+use Rattle.acsl_shift.proofs.moves.Trees.{move_items, move_sizes, move_values}
 use Rattle.acsl_shift.proofs.moves.Twice.{nowhere}
 use Rattle.acsl_shift.proofs.moves.Seen.{Seen, seen_ok, seen_then, seen_counted}
-use Rattle.acsl_shift.proofs.moves.Read.{seen_called, seen_read, seen_arguments}
+use Rattle.acsl_shift.proofs.moves.Read.{seen_called, seen_read, seen_arguments, seen_values}
 use Rattle.acsl_shift.proofs.moves.Cores.{any_length, deeds_length, node_same, nodes_in_same}
 use Rattle.acsl_shift.proofs.moves.Changed.{beside, seen_few, seen_update}
 use Rattle.acsl_shift.proofs.moves.Parts.{followed_without, as_statements_without, demand_without, jump_without, call_without, lines}
-use Rattle.acsl_shift.proofs.moves.Parts.{all_changes, seen_with_variable, seen_with_array, seen_label, seen_jumped, seen_tested}
+use Rattle.acsl_shift.proofs.moves.Parts.{all_changes, seen_with_variable, seen_fresh_array, seen_sizes, seen_label, seen_jumped}
+use Rattle.acsl_shift.proofs.moves.Parts.{seen_tested}
 use Rattle.acsl_shift.proofs.moves.Parts.{prelude_same}
 use Rattle.base_integers.specs.declared.integers.Integers.{Integers}
 
 module _ (integers : Integers) (line : ℕ → ℕ) (n : ℕ) where
+  -- what is evaluated
+  seen_value : (st : State) (at : ℕ) (g : Change)
+      → Seen lines (read_evaluated integers line n st at g) (read_evaluated integers nowhere n st 0 (change_without g))
+  seen_value st at g =
+      seen_then (λ z. z) lines (few integers n (line at) at g st) (few integers n 0 0 (change_without g) st) _ _
+      (seen_few integers n (line at) (λ z. z) at g st)
+      (λ now.
+      seen_then (λ z. z) lines (counted at (length (change_deeds integers n g)) now)
+      (counted 0 (length (change_deeds integers n (change_without g))) now) _ _
+      (seen_counted at _ _ now (deeds_length integers n g)) (λ now. record { same = refl }))
+
   -- ---- declarations
   -- a name that is declared
   seen_declarator : (st : State) (x : Declarator)
       → Seen lines (read_declarator integers line n st x) (read_declarator integers nowhere n st (move_declarator nowhere x))
   seen_declarator st (declarator x at bare) =
       seen_then (λ z. z) lines (with_variable x at st) (with_variable x 0 st) _ _ (seen_with_variable x at st) (λ now.
-      seen_then (λ z. z) lines (counted at (length (taken_any integers st.variables (line at))) now)
-      (counted 0 (length (taken_any integers st.variables 0)) now) _ _
-      (seen_counted at _ _ now (any_length integers st.variables (line at))) (λ now. record { same = refl }))
+      let i = declared_number now in
+      seen_then (λ z. z) lines (counted at (length (taken_any integers i (line at))) now)
+      (counted 0 (length (taken_any integers i 0)) now) _ _
+      (seen_counted at _ _ now (any_length integers i (line at))) (λ now. record { same = refl }))
   seen_declarator st (declarator x at (given b e)) =
       seen_then expression_without lines (read integers (line at) st e n) (read integers 0 st (move_expr nowhere e) n) _ _
       (seen_read integers (line at) st e n) (λ e.
       seen_then (λ z. z) lines (with_variable x at st) (with_variable x 0 st) _ _ (seen_with_variable x at st) (λ now.
-      let g : Change = sets st.variables e (line at) in
+      let g : Change = sets (declared_number now) e (line at) in
       seen_then (λ z. z) lines (few integers n (line at) at g now) (few integers n 0 0 (change_without g) now) _ _
       (seen_few integers n (line at) (λ z. z) at g now) (λ now.
       seen_then (λ z. z) lines (counted at (length (change_deeds integers n g)) now)
       (counted 0 (length (change_deeds integers n (change_without g))) now) _ _
       (seen_counted at _ _ now (deeds_length integers n g)) (λ now. record { same = refl }))))
-  seen_declarator st (declarator x at (sized b size c d)) =
-      seen_then (λ z. z) lines (with_array x at size c st) (with_array x 0 size 0 st) _ _ (seen_with_array x at size c st)
-      (λ now. record { same = refl })
+  seen_declarator st (declarator x at (sized ss)) =
+      seen_then (λ z. z) lines (fresh_array x at st) (fresh_array x 0 st) _ _ (seen_fresh_array x at st) (λ now.
+      seen_then (λ z. z) lines (read_sizes now ss) (read_sizes now (move_sizes nowhere ss)) _ _ (seen_sizes now ss)
+      (λ extents. record { same = refl }))
+  seen_declarator st (declarator x at (filled ss a b vs c)) =
+      seen_then (λ z. z) lines (fresh_array x at st) (fresh_array x 0 st) _ _ (seen_fresh_array x at st) (λ now.
+      seen_then (λ z. z) lines (read_sizes now ss) (read_sizes now (move_sizes nowhere ss)) _ _ (seen_sizes now ss) (λ extents.
+      seen_then expressions_without lines (read_values integers (line at) now vs n) (read_values integers 0 now (move_values nowhere vs) n)
+      _ _ (seen_values integers (line at) now vs n) (λ es.
+      seen_then lines lines (read_evaluated integers line n now at (evaluates es (line at)))
+      (read_evaluated integers nowhere n now 0 (evaluates (expressions_without es) 0)) _ _ (seen_value now at (evaluates es (line at)))
+      (λ r. record { same = refl }))))
 
   -- statements and then others
   seen_both : (r s : Result (State × Statements) FunctionFault) (f g : State → Result (State × Statements) FunctionFault)
@@ -117,7 +141,7 @@ module _ (integers : Integers) (line : ℕ → ℕ) (n : ℕ) where
   -- the first part of a `for`'s head
   seen_first : (st : State) (f : ForFirst)
       → Seen lines (read_first integers line n st f) (read_first integers nowhere n st (move_first nowhere f))
-  seen_first st (declared_first a xs) = seen_declarators st xs
+  seen_first st (declared_first t xs) = seen_declarators st xs
   seen_first st (updated_first us) =
       seen_then all_changes lines (read_updates integers line n st us) (read_updates integers nowhere n st (move_updates nowhere us)) _ _
       (seen_updates st us)
@@ -128,17 +152,6 @@ module _ (integers : Integers) (line : ℕ → ℕ) (n : ℕ) where
       → Seen expression_without (read_test integers line n st at t) (read_test integers nowhere n st 0 (move_optional nowhere t))
   seen_test st at absent = record { same = refl }
   seen_test st at (present e) = seen_tested integers line n st at e
-
-  -- what is evaluated
-  seen_value : (st : State) (at : ℕ) (g : Change)
-      → Seen lines (read_evaluated integers line n st at g) (read_evaluated integers nowhere n st 0 (change_without g))
-  seen_value st at g =
-      seen_then (λ z. z) lines (few integers n (line at) at g st) (few integers n 0 0 (change_without g) st) _ _
-      (seen_few integers n (line at) (λ z. z) at g st)
-      (λ now.
-      seen_then (λ z. z) lines (counted at (length (change_deeds integers n g)) now)
-      (counted 0 (length (change_deeds integers n (change_without g))) now) _ _
-      (seen_counted at _ _ now (deeds_length integers n g)) (λ now. record { same = refl }))
 
   -- what is returned
   seen_returned : (st : State) (at : ℕ) (t : Optional)
@@ -238,9 +251,9 @@ module _ (integers : Integers) (line : ℕ → ℕ) (n : ℕ) where
         (seen_counted at _ _ st (node_same integers n s ∙ ap (λ (z : Statement). nodes_in (core_of integers n z)) same)) (λ now.
         seen_ok lines _ _ (ap (λ (z : Statement). let w : State × Statements = (now, one z) in w) same)))
     seen_core inside st (calls x at b es c d) =
-        seen_then (λ (z : Arguments). move_arguments nowhere z) lines (as_called at (known x st.names) es)
-        (as_called 0 (known x st.names) (move_arguments nowhere es)) _ _
-        (seen_called (λ (z : Arguments). move_arguments nowhere z) at (known x st.names) es) (λ es.
+        seen_then (λ (z : Arguments). move_arguments nowhere z) lines (as_called at (thing_of x st) es)
+        (as_called 0 (thing_of x st) (move_arguments nowhere es)) _ _
+        (seen_called (λ (z : Arguments). move_arguments nowhere z) at (thing_of x st) es) (λ es.
         seen_then expressions_without lines (read_arguments integers (line at) st es n)
         (read_arguments integers 0 st (move_arguments nowhere es) n) _ _
         (seen_arguments integers (line at) st es n) (λ es.
@@ -278,7 +291,7 @@ module _ (integers : Integers) (line : ℕ → ℕ) (n : ℕ) where
         seen_then lines lines (read_items integers line n inside now is)
         (read_items integers nowhere n inside now (move_items nowhere is)) _ _
         (seen_items inside now is) (λ r. record { same = refl }))
-    seen_items inside st (tree.declaration a xs b is) =
+    seen_items inside st (tree.declaration t xs b is) =
         seen_both (read_declarators integers line n st xs) (read_declarators integers nowhere n st (move_declarators nowhere xs))
         (λ now. read_items integers line n inside now is) (λ now. read_items integers nowhere n inside now (move_items nowhere is))
         (seen_declarators st xs) (λ now. seen_items inside now is)

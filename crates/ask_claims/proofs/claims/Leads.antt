@@ -46,6 +46,8 @@ module _ (text : List ℕ) (names : List (List ℕ)) (points : List Point) where
     on (lex_kind.TheVariants.Word w) goes starts = other (lex_kind.TheVariants.Word w) _ starts (word_other w) refl
     on (lex_kind.TheVariants.Sign s) goes starts = other (lex_kind.TheVariants.Sign s) _ starts (sign_other s) refl
     on (lex_kind.TheVariants.Number n) goes starts = other (lex_kind.TheVariants.Number n) _ starts (refl, refl) refl
+    on (lex_kind.TheVariants.Foreign f) goes starts = other (lex_kind.TheVariants.Foreign f) _ starts (refl, refl) refl
+    on (lex_kind.TheVariants.Aside s) goes starts = other (lex_kind.TheVariants.Aside s) _ starts (refl, refl) refl
 
   module _ (tokens : List lex_token.Token) where
     -- what the loop over the claims keeps: the tokens begin with claims that say what was read, and go on with the next token

@@ -5,6 +5,7 @@ use Rattle.std.proofs.lemmas.Bool.{ltb-false}
 use Rattle.lang_grammar.specs.Grammar.{Token}
 use Rattle.lang_grammar.specs.View.{tokens_of}
 use Rattle.flow_edges.specs.declared.point.Point.{Point}
+use Rattle.lang_tokens.specs.declared.lexicon.Lexicon.TheVariants.{Own}
 use Rattle.lang_tokens.proofs.reading.Once.{one_token_list, one_text_fault, no_fault}
 use Rattle.lang_tokens.specs.Reading.{Reads}
 use Rattle.lang_tokens.specs.declared.token.Token as lex_token
@@ -103,12 +104,13 @@ module _ (text : List ℕ) (names : List (List ℕ)) (points : List Point) where
 
   -- tokens mean one list of claims, or one fault
   pub file_once : (r s : StatedClaims) → FileMeans text names points r → FileMeans text names points s → r ≡ s
-  file_once r s (inl (f, h, e)) (inl (g, i, k)) = e ∙ ap (λ x. Err (fault.Lex x)) (one_text_fault text f g h i) ∙ sym k
-  file_once r s (inl (f, h, e)) (inr (tokens, i, m)) = absurd (no_fault text tokens f i h)
-  file_once r s (inr (tokens, h, m)) (inl (f, i, e)) = absurd (no_fault text tokens f h i)
+  file_once r s (inl (f, h, e)) (inl (g, i, k)) = e ∙ ap (λ x. Err (fault.Lex x)) (one_text_fault Own text f g h i) ∙ sym k
+  file_once r s (inl (f, h, e)) (inr (tokens, i, m)) = absurd (no_fault Own text tokens f i h)
+  file_once r s (inr (tokens, h, m)) (inl (f, i, e)) = absurd (no_fault Own text tokens f h i)
   file_once r s (inr (tokens, h, m)) (inr (others, i, n)) =
       claims_once (tokens_of text others) r s
-      (subst (λ (x : List lex_token.Token). ClaimsMean text names points (tokens_of text x) r) (one_token_list text tokens others h i) m) n
+      (subst (λ (x : List lex_token.Token). ClaimsMean text names points (tokens_of text x) r)
+      (one_token_list Own text tokens others h i) m) n
 
 -- what is meant is answered
 pub exact_by : {A : Type 0} (view : A → List Stated) (text : List ℕ) (names : List (List ℕ)) (points : List Point)
@@ -121,7 +123,7 @@ exact_by view text names points (Err f) h wanted m = λ n. file_once text names 
 -- the claims of a text's tokens are those of the text
 pub file_of : {A : Type 0} (view : A → List Stated) (text : List ℕ) (names : List (List ℕ)) (points : List Point)
     (tokens : List lex_token.Token) (result : Result A ClaimFault)
-    → Reads text tokens → Answers view (ClaimsMean text names points (tokens_of text tokens)) result
+    → Reads Own text tokens → Answers view (ClaimsMean text names points (tokens_of text tokens)) result
     → Answers view (FileMeans text names points) result
 file_of view text names points tokens (Ok x) h a = inr (tokens, h, a)
 file_of view text names points tokens (Err f) h a = λ n. inr (tokens, h, a n)

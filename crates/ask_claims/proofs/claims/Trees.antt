@@ -262,6 +262,10 @@ module _ (text : List ℕ) (names : List (List ℕ)) (points : List Point) (toke
         no_name (lex_kind.TheVariants.Sign s) bytes a r (sign_other s) starts is
     by_kind (lex_kind.TheVariants.Number n) bytes a r o place starts is =
         no_name (lex_kind.TheVariants.Number n) bytes a r (refl, refl) starts is
+    by_kind (lex_kind.TheVariants.Foreign f) bytes a r o place starts is =
+        no_name (lex_kind.TheVariants.Foreign f) bytes a r (refl, refl) starts is
+    by_kind (lex_kind.TheVariants.Aside s) bytes a r o place starts is =
+        no_name (lex_kind.TheVariants.Aside s) bytes a r (refl, refl) starts is
 
     -- what the code finds at a claim is what the grammar says of it
     pub tree_of : (r : Result (Stated × ℕ) ClaimFault) → ClaimMeans text names points tokens i r → Tree r

@@ -1,6 +1,7 @@
 -- A text has one answer at most.
 use Rattle.std.proofs.Common.{◌≡◌, ◌∙◌, ℕ, List, sym, subst}
 use Rattle.std.specs.Prelude.{Result}
+use Rattle.lang_tokens.specs.declared.lexicon.Lexicon.TheVariants.{Own}
 use Rattle.lang_tokens.specs.declared.token.Token.{Token}
 use Rattle.lang_tokens.proofs.reading.Once.{one_token_list}
 use Rattle.flow_rationals.specs.declared.fault.EquFault.{EquFault}
@@ -15,7 +16,7 @@ use Rattle.flow_rationals.proofs.grammar.Once.{spelled_once}
 -- its tokens spell one list of equations
 written_once : (text : List ℕ) (es fs : List Written) → ReadsWritten text es → ReadsWritten text fs → es ≡ fs
 written_once text es fs h k =
-    let tokens : h.tokens ≡ k.tokens = one_token_list text h.tokens k.tokens h.reads k.reads in
+    let tokens : h.tokens ≡ k.tokens = one_token_list Own text h.tokens k.tokens h.reads k.reads in
     spelled_once (symbols_of text k.tokens) es fs (subst (λ (ts : List Token). Spells (symbols_of text ts) es) tokens h.spelled) k.spelled
 
 -- two answers to a text are the same

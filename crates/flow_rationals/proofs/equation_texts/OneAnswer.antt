@@ -2,6 +2,7 @@
 use Rattle.std.proofs.Common.{◌≡◌, ◌∙◌, ◌++◌, ℕ, List, [], ◌∷◌, slice_get, Some, None, Result, Ok, Err, sym, ap, subst, append_assoc, ◌≢◌}
 use Rattle.std.proofs.Common.{◌⊎◌, inl, inr, IfOk, IfErr, refl}
 use Rattle.std.proofs.lemmas.List.{map-append, append-nil}
+use Rattle.lang_tokens.specs.declared.lexicon.Lexicon.TheVariants.{Own}
 use Rattle.lang_tokens.specs.declared.token.Token.{Token}
 use Rattle.lang_tokens.specs.declared.fault.LexFault.{LexFault}
 use Rattle.lang_tokens.specs.Faults.{HasFault}
@@ -48,7 +49,7 @@ same_token B closed (y ∷ f) (z ∷ g) t u r s e bf nf bg ng =
 
 same_unexpected : (text : List ℕ) (a b : ℕ) → HasUnexpected text a → HasUnexpected text b → a ≡ b
 same_unexpected text a b h k =
-    let tokens : h.front ++ h.token ∷ h.rest ≡ k.front ++ k.token ∷ k.rest = one_token_list text _ _ h.reads k.reads in
+    let tokens : h.front ++ h.token ∷ h.rest ≡ k.front ++ k.token ∷ k.rest = one_token_list Own text _ _ h.reads k.reads in
     let same : h.token ≡ k.token = same_token (Starts text) (starts_front text) h.front k.front h.token k.token h.rest k.rest tokens
     h.begins h.stops k.begins k.stops in
     sym h.place ∙ (ap (λ t. t.at) same ∙ k.place)
@@ -56,23 +57,23 @@ same_unexpected text a b h k =
 -- where a token is unexpected, the tokens spell no equations
 unexpected_none : (text : List ℕ) (at : ℕ) (es : List Written) → HasUnexpected text at → ReadsWritten text es → ⊥
 unexpected_none text at es h w =
-    let tokens : w.tokens ≡ h.front ++ h.token ∷ h.rest = one_token_list text _ _ w.reads h.reads in
+    let tokens : w.tokens ≡ h.front ++ h.token ∷ h.rest = one_token_list Own text _ _ w.reads h.reads in
     let whole : Starts text w.tokens = (es, [], subst (λ s. Spells s es) (sym (append-nil (symbols_of text w.tokens))) w.spelled) in
     h.stops (starts_front text (h.front ++ h.token ∷ []) h.rest
     (subst (Starts text) (tokens ∙ sym (append_assoc h.front (h.token ∷ []) h.rest)) whole))
 
 -- a text with a lexical fault is nothing else
-pub lexical_alone : (text : List ℕ) (fault : LexFault) → HasFault text fault → (right : Result (List Equation) EquFault)
+pub lexical_alone : (text : List ℕ) (fault : LexFault) → HasFault Own text fault → (right : Result (List Equation) EquFault)
     → Answers text right → right ≡ Err (Lex fault)
-lexical_alone text fault h right (a_lexical_fault other e k) = e ∙ ap (λ f. Err (Lex f)) (one_text_fault text other fault k h)
-lexical_alone text fault h right (an_unexpected at e k) = absurd (no_fault text _ fault k.reads h)
-lexical_alone text fault h right (a_fault other e es w f) = absurd (no_fault text _ fault w.reads h)
-lexical_alone text fault h right (some_equations es e w f) = absurd (no_fault text _ fault w.reads h)
+lexical_alone text fault h right (a_lexical_fault other e k) = e ∙ ap (λ f. Err (Lex f)) (one_text_fault Own text other fault k h)
+lexical_alone text fault h right (an_unexpected at e k) = absurd (no_fault Own text _ fault k.reads h)
+lexical_alone text fault h right (a_fault other e es w f) = absurd (no_fault Own text _ fault w.reads h)
+lexical_alone text fault h right (some_equations es e w f) = absurd (no_fault Own text _ fault w.reads h)
 
 -- nor is one with an unexpected token
 pub unexpected_alone : (text : List ℕ) (at : ℕ) → HasUnexpected text at → (right : Result (List Equation) EquFault) → Answers text right
     → right ≡ Err (Unexpected at)
-unexpected_alone text at h right (a_lexical_fault other e k) = absurd (no_fault text _ other h.reads k)
+unexpected_alone text at h right (a_lexical_fault other e k) = absurd (no_fault Own text _ other h.reads k)
 unexpected_alone text at h right (an_unexpected b e k) = e ∙ ap (λ x. Err (Unexpected x)) (same_unexpected text b at k h)
 unexpected_alone text at h right (a_fault other e es w f) = absurd (unexpected_none text at es h w)
 unexpected_alone text at h right (some_equations es e w f) = absurd (unexpected_none text at es h w)
@@ -81,7 +82,7 @@ unexpected_alone text at h right (some_equations es e w f) = absurd (unexpected_
 pub fault_alone : (text : List ℕ) (es : List Written) (fault : EquFault) → ReadsWritten text es
     → ((other : List Written) → ReadsWritten text other → es ≡ other) → slice_get (faults_of es) 0 ≡ Some fault
     → (right : Result (List Equation) EquFault) → Answers text right → right ≡ Err fault
-fault_alone text es fault w only s right (a_lexical_fault other e k) = absurd (no_fault text _ other w.reads k)
+fault_alone text es fault w only s right (a_lexical_fault other e k) = absurd (no_fault Own text _ other w.reads k)
 fault_alone text es fault w only s right (an_unexpected at e k) = absurd (unexpected_none text at es k w)
 fault_alone text es fault w only s right (a_fault other e fs v f) =
     let same : Some other ≡ Some fault = sym f ∙ (ap (λ x. slice_get (faults_of x) 0) (sym (only fs v)) ∙ s) in
@@ -95,7 +96,7 @@ fault_alone text es fault w only s right (some_equations fs e v f) =
 pub equations_alone : (text : List ℕ) (es : List Written) → ReadsWritten text es
     → ((other : List Written) → ReadsWritten text other → es ≡ other) → faults_of es ≡ [] → (right : Result (List Equation) EquFault)
     → Answers text right → right ≡ Ok (equations_of es)
-equations_alone text es w only s right (a_lexical_fault other e k) = absurd (no_fault text _ other w.reads k)
+equations_alone text es w only s right (a_lexical_fault other e k) = absurd (no_fault Own text _ other w.reads k)
 equations_alone text es w only s right (an_unexpected at e k) = absurd (unexpected_none text at es k w)
 equations_alone text es w only s right (a_fault other e fs v f) =
     let none : Some other ≡ None = sym f ∙ (ap (λ x. slice_get (faults_of x) 0) (sym (only fs v)) ∙ ap (λ x. slice_get x 0) s) in

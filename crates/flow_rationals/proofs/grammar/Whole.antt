@@ -3,6 +3,7 @@ use Rattle.std.proofs.Common.{◌≡◌, ◌∙◌, ◌++◌, ◌+◌, ◌<◌, 
 use Rattle.std.proofs.Common.{option_and_then, refl, sym, ap, subst, append_assoc, arith}
 use Rattle.std.proofs.lemmas.List.{map-append, length-append, length-map, take-map, take_more, take-append-drop}
 use Rattle.base_limits.specs.declared.limits.TheConstants.{MOST_TEXT_BYTES}
+use Rattle.lang_tokens.specs.declared.lexicon.Lexicon.TheVariants.{Own}
 use Rattle.lang_tokens.specs.declared.token.Token.{Token}
 use Rattle.lang_tokens.specs.Reading.{Reads, end_at}
 use Rattle.lang_tokens.specs.TokenLists.{AreTokensAfter, AreTokensOf}
@@ -83,7 +84,7 @@ last_done None p h = cc
 last_done (Some q) p h = end_done q p h
 
 -- a text whose symbols go through is one of equations
-through_spells : (text : List ℕ) (tokens : List Token) → Reads text tokens → GoesThrough (symbols_of text tokens)
+through_spells : (text : List ℕ) (tokens : List Token) → Reads Own text tokens → GoesThrough (symbols_of text tokens)
     → (es : List Written) × Spells (symbols_of text tokens) es
 through_spells text tokens r g =
     let all : symbols_of text tokens ≡ symbols_of text r.front ++ symbol.End ∷ [] =
@@ -94,7 +95,8 @@ through_spells text tokens r g =
     sound place.First (symbols_of text tokens) (g.1 ∙ ap Some done)
 
 -- where the symbols of a text go through no further, a token is unexpected
-refused_unexpected : (text : List ℕ) (tokens : List Token) (i : ℕ) (d : Token) → Reads text tokens → RefusedAt (symbols_of text tokens) i
+refused_unexpected : (text : List ℕ) (tokens : List Token) (i : ℕ) (d : Token) → Reads Own text tokens
+    → RefusedAt (symbols_of text tokens) i
     → HasUnexpected text (get_or tokens i d).at
 refused_unexpected text tokens i d r f =
     let within : i < length tokens = omega (arith, f.within, length-map tokens (symbol_of text)) in
@@ -106,7 +108,7 @@ refused_unexpected text tokens i d r f =
       front = take i tokens;
       token = get_or tokens i d;
       rest = drop (i + 1) tokens;
-      reads = subst (Reads text)
+      reads = subst (Reads Own text)
           (sym (take-append-drop (i + 1) tokens) ∙ (ap (λ x. x ++ drop (i + 1) tokens) more
           ∙ append_assoc (take i tokens) (get_or tokens i d ∷ []) (drop (i + 1) tokens))) r;
       begins = through_begins (symbols_of text (take i tokens)) f.place (ap (run place.First) front ∙ f.before);
@@ -115,7 +117,7 @@ refused_unexpected text tokens i d r f =
     }
 
 -- where a token's symbol is refused, the token is unexpected at its place
-pub unexpected_at : (text : List ℕ) (tokens : List Token) (ss : List Symbol) (i : ℕ) (x : Token) → Reads text tokens
+pub unexpected_at : (text : List ℕ) (tokens : List Token) (ss : List Symbol) (i : ℕ) (x : Token) → Reads Own text tokens
     → ss ≡ symbols_of text tokens → RefusedAt ss i → x ≡ get_or tokens i x → HasUnexpected text x.at
 unexpected_at text tokens ss i x r s f e =
     subst (λ (t : Token). HasUnexpected text t.at) (sym e) (refused_unexpected text tokens i x r (subst (λ ss. RefusedAt ss i) s f))
@@ -126,7 +128,7 @@ pub same_symbols : (text : List ℕ) (tokens read : List Token) (symbols told : 
 same_symbols text tokens read symbols told a b c = c ∙ (b ∙ ap (symbols_of text) a)
 
 -- the equations that were found in them are those that they spell
-pub written_reads : (text : List ℕ) (tokens : List Token) (s t : List Symbol) (list : List Written) → Reads text tokens
+pub written_reads : (text : List ℕ) (tokens : List Token) (s t : List Symbol) (list : List Written) → Reads Own text tokens
     → s ≡ symbols_of text tokens → t ≡ symbols_of text tokens → GoesThrough s → ((es : List Written) → Spells t es → list ≡ es)
     → ReadsWritten text list
 written_reads text tokens s t list r a b g found =
@@ -135,25 +137,25 @@ written_reads text tokens s t list r a b g found =
     record { tokens = tokens; reads = r; spelled = subst (Spells (symbols_of text tokens)) (sym e) x.1 }
 
 -- where the symbols of a text spell these equations alone, the text reads as them alone
-pub written_only : (text : List ℕ) (tokens : List Token) (t : List Symbol) (list : List Written) → Reads text tokens
+pub written_only : (text : List ℕ) (tokens : List Token) (t : List Symbol) (list : List Written) → Reads Own text tokens
     → t ≡ symbols_of text tokens → ((es : List Written) → Spells t es → list ≡ es) → (other : List Written) → ReadsWritten text other
     → list ≡ other
 written_only text tokens t list r b found other w =
-    let same : w.tokens ≡ tokens = one_token_list text w.tokens tokens w.reads r in
+    let same : w.tokens ≡ tokens = one_token_list Own text w.tokens tokens w.reads r in
     found other (subst (λ ss. Spells ss other) (ap (symbols_of text) same ∙ sym b) w.spelled)
 
 -- a text whose symbols go through spells some equations
-pub written_found : (text : List ℕ) (tokens : List Token) (s t : List Symbol) → Reads text tokens → s ≡ symbols_of text tokens
+pub written_found : (text : List ℕ) (tokens : List Token) (s t : List Symbol) → Reads Own text tokens → s ≡ symbols_of text tokens
     → t ≡ symbols_of text tokens → GoesThrough s → ((es : List Written) → Spells t es → ⊥) → ⊥
 written_found text tokens s t r a b g none =
     let x = through_spells text tokens r (subst GoesThrough a g) in
     none x.0 (subst (λ ss. Spells ss x.0) (sym b) x.1)
 
 -- equations of a text of at most 65537 tokens and their alternatives are together at most 65537
-pub written_few : (text : List ℕ) (tokens : List Token) (list : List Written) → Reads text tokens → length tokens ≤ 65537
+pub written_few : (text : List ℕ) (tokens : List Token) (list : List Written) → Reads Own text tokens → length tokens ≤ 65537
     → ReadsWritten text list → length list + choice_count list ≤ 65537
 written_few text tokens list r few w =
-    let same : w.tokens ≡ tokens = one_token_list text w.tokens tokens w.reads r in
+    let same : w.tokens ≡ tokens = one_token_list Own text w.tokens tokens w.reads r in
     omega (arith, spelled_len (symbols_of text w.tokens) list w.spelled, length-map w.tokens (symbol_of text), ap length same)
 
 -- a text of equations has at least one

@@ -59,7 +59,7 @@ fn symbol_of(text: &[u8], token: Token) -> Symbol
         },
         Kind::Sign(sign) => sign_symbol(sign, token.at),
         Kind::End => Symbol::End,
-        Kind::Word(_) => Symbol::Other,
+        Kind::Word(_) | Kind::Foreign(_) | Kind::Aside(_) => Symbol::Other,
     }
 }
 

@@ -4,6 +4,7 @@ use Rattle.std.proofs.Common.{sym, subst}
 use Rattle.std.proofs.Common.{◌∙◌, arith}
 use Rattle.std.proofs.lemmas.Int.{ints}
 use Rattle.std.specs.List.{list_any}
+use Rattle.lang_tokens.specs.declared.lexicon.Lexicon.TheVariants.{Own}
 use Rattle.lang_tokens.specs.declared.token.Token.{Token}
 use Rattle.lang_tokens.specs.declared.token.Kind.{Kind}
 use Rattle.lang_tokens.specs.declared.token.Kind.TheVariants as kind
@@ -19,7 +20,7 @@ use Rattle.flow_templates.proofs.grammar.Spelling.{one_spelling}
 -- a line reads as one list of amounts at most
 pub one_terms : (line : List ℕ) (a b : List Amount) → ReadsTerms line a → ReadsTerms line b → a ≡ b
 one_terms line a b r s =
-    let same : r.tokens ≡ s.tokens = one_token_list line r.tokens s.tokens r.reads s.reads in
+    let same : r.tokens ≡ s.tokens = one_token_list Own line r.tokens s.tokens r.reads s.reads in
     let spelled : Spells (symbols_of line s.tokens) r.terms = subst (λ tokens. Spells (symbols_of line tokens) r.terms) same r.spelled in
     sym r.stand_for ∙ (ap (map amount) (one_spelling (symbols_of line s.tokens) r.terms s.terms spelled s.spelled) ∙ s.stand_for)
 
@@ -38,17 +39,18 @@ pub tokens_fit : (line : List ℕ) (tokens : List Token) → AreTokensOf line to
 tokens_fit line tokens h = subst (AllFit line) h.ended (front_fits line 0 h.front h.placed)
 
 -- a line without tokens is no row
-pub untold_is_none : (line : List ℕ) → ((tokens : List Token) → Reads line tokens → ⊥) → (amounts : List Amount) → ReadsTerms line amounts
+pub untold_is_none : (line : List ℕ) → ((tokens : List Token) → Reads Own line tokens → ⊥) → (amounts : List Amount)
+    → ReadsTerms line amounts
     → ⊥
 untold_is_none line h amounts r = h r.tokens r.reads
 
 -- tokens that spell no row are none
-unspelled_is_none : (line : List ℕ) (tokens : List Token) → Reads line tokens → NoRow (symbols_of line tokens) → (amounts : List Amount)
+unspelled_is_none : (line : List ℕ) (tokens : List Token) → Reads Own line tokens → NoRow (symbols_of line tokens) → (amounts : List Amount)
     → ReadsTerms line amounts → ⊥
 unspelled_is_none line tokens reads h amounts r =
-    h r.terms (subst (λ ts. Spells (symbols_of line ts) r.terms) (one_token_list line r.tokens tokens r.reads reads) r.spelled)
+    h r.terms (subst (λ ts. Spells (symbols_of line ts) r.terms) (one_token_list Own line r.tokens tokens r.reads reads) r.spelled)
 
-reads_kept : (line : List ℕ) (tokens : List Token) (kept : List Term) → IsFalse (list_any (λ b. eqb b 47) line) → Reads line tokens
+reads_kept : (line : List ℕ) (tokens : List Token) (kept : List Term) → IsFalse (list_any (λ b. eqb b 47) line) → Reads Own line tokens
     → SpellsKept (symbols_of line tokens) kept → ReadsKept line kept
 reads_kept line tokens kept slash reads h =
     let here : ReadsTerms line (map kept_amount kept) = record {
@@ -63,7 +65,7 @@ reads_kept line tokens kept slash reads h =
 
 -- what the tokens of a line tell of it
 pub terms_told : (line : List ℕ) (tokens : List Token) (found : Option (Vec Term Global)) → IsFalse (list_any (λ b. eqb b 47) line)
-    → Reads line tokens → MatchOption found (NoRow (symbols_of line tokens)) (λ terms. SpellsKept (symbols_of line tokens) terms.items)
+    → Reads Own line tokens → MatchOption found (NoRow (symbols_of line tokens)) (λ terms. SpellsKept (symbols_of line tokens) terms.items)
     → MatchOption found ((amounts : List Amount) → ReadsTerms line amounts → ⊥) (λ terms. ReadsKept line terms.items)
 terms_told line tokens None slash reads h = unspelled_is_none line tokens reads h
 terms_told line tokens (Some terms) slash reads h = reads_kept line tokens terms.items slash reads h

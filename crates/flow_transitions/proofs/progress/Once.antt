@@ -1,6 +1,7 @@
 -- A text is one thing at most.
 use Rattle.std.proofs.Common.{◌≡◌, ◌∙◌, ◌⊎◌, inl, inr, ⊎_elim, ℕ, ◌+◌, List, Result, Ok, Err, refl, sym, ap, subst, subst₂}
 use Rattle.std.specs.Prelude.{◌≢◌, IfOk, IfErr}
+use Rattle.lang_tokens.specs.declared.lexicon.Lexicon.TheVariants.{Own}
 use Rattle.lang_tokens.specs.declared.token.Token.{Token}
 use Rattle.lang_tokens.specs.Reading.{Reads}
 use Rattle.lang_tokens.proofs.reading.Once.{one_token_list, one_text_fault, no_fault}
@@ -102,11 +103,11 @@ module _ (text : List ℕ) (tokens : List Token) where
 -- a text is read as one answer alone
 read_once : (text : List ℕ) (a b : AutoAnswer) → IsRead text a → IsRead text b → a ≡ b
 read_once text a b (no_tokens f h e) (no_tokens g k d) =
-    e ∙ ap (λ z. let answer : AutoAnswer = Err (fault.Lex z) in answer) (one_text_fault text f g h k) ∙ sym d
-read_once text a b (no_tokens f h e) (some_tokens tokens k r) = absurd (no_fault text tokens f k h)
-read_once text a b (some_tokens tokens h r) (no_tokens f k d) = absurd (no_fault text tokens f h k)
+    e ∙ ap (λ z. let answer : AutoAnswer = Err (fault.Lex z) in answer) (one_text_fault Own text f g h k) ∙ sym d
+read_once text a b (no_tokens f h e) (some_tokens tokens k r) = absurd (no_fault Own text tokens f k h)
+read_once text a b (some_tokens tokens h r) (no_tokens f k d) = absurd (no_fault Own text tokens f h k)
 read_once text a b (some_tokens tokens h r) (some_tokens others k s) =
-    once text tokens (Ok start) 0 a b r (subst (λ ts. ReadsTo text ts (Ok start) 0 b) (one_token_list text others tokens k h) s)
+    once text tokens (Ok start) 0 a b r (subst (λ ts. ReadsTo text ts (Ok start) 0 b) (one_token_list Own text others tokens k h) s)
 
 -- a text has one answer alone
 pub one_answer : (text : List ℕ) (a b : AutoAnswer) → IsAuto text a → IsAuto text b → a ≡ b
@@ -138,14 +139,14 @@ gives text (Err f) h k answer is =
     ⊎_elim (λ e. inl e) (λ n. inr (read_once text answer (Err f) (is_read text answer is) (k n))) (memory_or f)
 
 -- what tokens read as is what the text is read as
-pub answered : (text : List ℕ) (tokens ts : List Token) (result : Result Auto AutoFault) → ts ≡ tokens → Reads text tokens →
+pub answered : (text : List ℕ) (tokens ts : List Token) (result : Result Auto AutoFault) → ts ≡ tokens → Reads Own text tokens →
     IfOk result (λ a. ReadsTo text ts (Ok start) 0 (Ok (content a))) → IfOk result (λ a. IsRead text (Ok (content a)))
-answered text tokens ts (Ok a) e r h = some_tokens ts (subst (Reads text) (sym e) r) h
+answered text tokens ts (Ok a) e r h = some_tokens ts (subst (Reads Own text) (sym e) r) h
 answered text tokens ts (Err f) e r h = tt
 
 -- a fault that tokens read as is what the text is read as
-pub refused : (text : List ℕ) (tokens ts : List Token) (result : Result Auto AutoFault) → ts ≡ tokens → Reads text tokens →
+pub refused : (text : List ℕ) (tokens ts : List Token) (result : Result Auto AutoFault) → ts ≡ tokens → Reads Own text tokens →
     IfErr result (λ f. f ≢ fault.NoMemory → ReadsTo text ts (Ok start) 0 (Err f))
     → IfErr result (λ f. f ≢ fault.NoMemory → IsRead text (Err f))
 refused text tokens ts (Ok a) e r h = tt
-refused text tokens ts (Err f) e r h = λ n. some_tokens ts (subst (Reads text) (sym e) r) (h n)
+refused text tokens ts (Err f) e r h = λ n. some_tokens ts (subst (Reads Own text) (sym e) r) (h n)

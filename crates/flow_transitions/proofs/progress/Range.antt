@@ -84,6 +84,8 @@ named (kind.Word w) text t h p = absurd (word_no_name w h)
 named (kind.Sign s) text t h p = absurd (sign_no_name s h)
 named kind.End text t h p = absurd cc
 named (kind.Number n) text t h p = absurd cc
+named (kind.Foreign f) text t h p = absurd cc
+named (kind.Aside s) text t h p = absurd cc
 
 proper_of : (text : List ℕ) (ts : List Token) (i : ℕ) (t : Token) → slice_get ts i ≡ Some t → AllProper text ts → IsProper text t
 proper_of text [] i t e p = absurd cc

@@ -95,6 +95,8 @@ kind_seen text b a stand r k = on k where
   on (lex_kind.TheVariants.Word w) = by (lex_kind.TheVariants.Word w) (word_here b w)
   on (lex_kind.TheVariants.Sign s) = by (lex_kind.TheVariants.Sign s) (sign_here s)
   on (lex_kind.TheVariants.Number n) = by (lex_kind.TheVariants.Number n) (λ h. cc, refl, refl)
+  on (lex_kind.TheVariants.Foreign f) = by (lex_kind.TheVariants.Foreign f) (λ h. cc, refl, refl)
+  on (lex_kind.TheVariants.Aside s) = by (lex_kind.TheVariants.Aside s) (λ h. cc, refl, refl)
   on lex_kind.TheVariants.End = by lex_kind.TheVariants.End (λ h. cc, refl, refl)
 
 symbol_seen : (b : List ℕ) (k : lex_kind.Kind) → symbol_of k ≡ symbol_here (kind_here b k)

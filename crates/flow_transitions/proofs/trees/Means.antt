@@ -5,6 +5,7 @@ use Rattle.std.proofs.Math.ListN.{get_or-append}
 use Rattle.std.proofs.Math.Seq.{drop-append_seam}
 use Rattle.std.proofs.lemmas.Bool.{ltb-true, ltb-false}
 use Rattle.std.proofs.lemmas.List.{drop-drop, drop-map, drop_all, length-append}
+use Rattle.lang_tokens.specs.declared.lexicon.Lexicon.TheVariants.{Own}
 use Rattle.lang_tokens.specs.Lexemes.{IsToken}
 use Rattle.lang_tokens.specs.Lines.{line_at}
 use Rattle.lang_tokens.specs.Reading.{end_at}
@@ -150,6 +151,8 @@ kind_goes : (k : lex_kind.Kind) (b : List ℕ) → IsToken k b → kind_here b k
 kind_goes lex_kind.TheVariants.End b h e = h
 kind_goes lex_kind.TheVariants.Name b h e = cc
 kind_goes (lex_kind.TheVariants.Number n) b h e = cc
+kind_goes (lex_kind.TheVariants.Foreign f) b h e = cc
+kind_goes (lex_kind.TheVariants.Aside s) b h e = cc
 kind_goes (lex_kind.TheVariants.Word w) b h e = words w e where
   words : (w : lex_word.Word) → kind_here b (lex_kind.TheVariants.Word w) ≡ the_end → ⊥
   words lex_word.TheVariants.VerifierAssume e = cc
@@ -460,4 +463,5 @@ module _ (text : List ℕ) (tokens : List lex_token.Token) (are : AreTokensOf te
 pub read_is : (text : List ℕ) (answer : AutoAnswer) → IsRead text answer → IsAuto text answer
 read_is text answer (no_reading f h e) = no_tokens f h e
 read_is text answer (some_tokens tokens h r) =
-    by_tokens tokens h (means_of text tokens (placed_tokens text tokens h) answer (some_token text tokens (placed_tokens text tokens h)) r)
+    by_tokens tokens h
+    (means_of text tokens (placed_tokens Own text tokens h) answer (some_token text tokens (placed_tokens Own text tokens h)) r)

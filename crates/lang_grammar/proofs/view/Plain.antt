@@ -56,6 +56,8 @@ plain_verdict gs lex_kind.TheVariants.Name bytes = verdict_same (a_name []) (a_n
 plain_verdict gs (lex_kind.TheVariants.Number n) bytes = verdict_same (a_number 0) (a_number (literal n))
     (λ g. number_entry_same g (literal n)) (λ g. number_opens g 0 ∙ sym (number_opens g (literal n))) gs
 plain_verdict gs (lex_kind.TheVariants.Sign s) bytes = refl
+plain_verdict gs (lex_kind.TheVariants.Foreign f) bytes = refl
+plain_verdict gs (lex_kind.TheVariants.Aside a) bytes = refl
 plain_verdict gs lex_kind.TheVariants.End bytes = refl
 
 -- The scan is the same whatever names and numbers are.

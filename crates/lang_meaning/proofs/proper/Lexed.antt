@@ -36,6 +36,8 @@ kind_proper (kind.Word w) text t h i = tt
 kind_proper kind.Name text t h i = (h, name_word _ i)
 kind_proper (kind.Number n) text t h i = tt
 kind_proper (kind.Sign s) text t h i = tt
+kind_proper (kind.Foreign f) text t h i = tt
+kind_proper (kind.Aside a) text t h i = tt
 kind_proper kind.End text t h i = tt
 
 front_proper : (text : List ℕ) (place : ℕ) (front : List Token) (n : ℕ) → AreTokensAfter text place front

@@ -8,6 +8,7 @@ use Rattle.std.proofs.lemmas.List.Sums.{prefix_len-le-length}
 use Rattle.std.proofs.lemmas.Bool.{not-true, not-false, cases_lt, eqb-true, and_parts, or_cases}
 use Rattle.std.specs.List.{prefix_len}
 use Rattle.lang_tokens.specs.Bytes.{is_on_line}
+use Rattle.lang_tokens.specs.declared.lexicon.Lexicon.{Lexicon}
 use Rattle.lang_tokens.specs.declared.fault.LexFault.{LexFault}
 use Rattle.lang_tokens.specs.declared.found.Found.{Found}
 use Rattle.lang_tokens.specs.declared.before.Before.{Before}
@@ -50,9 +51,10 @@ ends_from_stops [] h = refl
 ends_from_stops (x ∷ xs) h = not-false (eqb x 10) (not-true (not (eqb x 10)) h)
 
 -- what follows `//` up to the next line feed is a line comment, where nothing follows that it would be joined with
-line_comment_from : (before : Before) (body : List ℕ) (n : ℕ) → n ≡ prefix_len is_on_line body → IsUnjoined (take n body) (drop n body)
-    → StandsFirst before (47 ∷ 47 ∷ body) (record { kind = None; len = 2 + n; behind = behind_comment before })
-line_comment_from before body n e unjoined = record {
+line_comment_from : (lexicon : Lexicon) (before : Before) (body : List ℕ) (n : ℕ) → n ≡ prefix_len is_on_line body
+    → IsUnjoined (take n body) (drop n body)
+    → StandsFirst lexicon before (47 ∷ 47 ∷ body) (record { kind = None; len = 2 + n; behind = behind_comment before })
+line_comment_from lexicon before body n e unjoined = record {
   piece = line_comment (take n body);
   after = drop n body;
   split = ap (λ (xs : List ℕ). 47 ∷ 47 ∷ xs) (take-append-drop n body);
@@ -63,14 +65,16 @@ line_comment_from before body n e unjoined = record {
 }
 
 -- what follows `//` is a line comment to the end of the text, where no line feed comes
-pub last_line_comment : (before : Before) (body : List ℕ) (n : ℕ) → n ≡ prefix_len is_on_line body → n ≡ length body
-    → StandsFirst before (47 ∷ 47 ∷ body) (record { kind = None; len = 2 + n; behind = behind_comment before })
-last_line_comment before body n e end = line_comment_from before body n e (λ place ends. drop_all n body (omega (arith, end)))
+pub last_line_comment : (lexicon : Lexicon) (before : Before) (body : List ℕ) (n : ℕ) → n ≡ prefix_len is_on_line body → n ≡ length body
+    → StandsFirst lexicon before (47 ∷ 47 ∷ body) (record { kind = None; len = 2 + n; behind = behind_comment before })
+last_line_comment lexicon before body n e end =
+    line_comment_from lexicon before body n e (λ place ends. drop_all n body (omega (arith, end)))
 
 -- what follows `//` is a line comment up to the next line feed, where it ends in no backslash
-pub plain_line_comment : (before : Before) (body : List ℕ) (n : ℕ) → n ≡ prefix_len is_on_line body → IsLastBackslash (take n body) None
-    → StandsFirst before (47 ∷ 47 ∷ body) (record { kind = None; len = 2 + n; behind = behind_comment before })
-plain_line_comment before body n e none = line_comment_from before body n e (λ place ends. absurd (none place ends))
+pub plain_line_comment : (lexicon : Lexicon) (before : Before) (body : List ℕ) (n : ℕ) → n ≡ prefix_len is_on_line body
+    → IsLastBackslash (take n body) None
+    → StandsFirst lexicon before (47 ∷ 47 ∷ body) (record { kind = None; len = 2 + n; behind = behind_comment before })
+plain_line_comment lexicon before body n e none = line_comment_from lexicon before body n e (λ place ends. absurd (none place ends))
 
 first_feed : (xs : List ℕ) → ends_line xs ≡ true → 0 < length xs → 10 ∷ drop 1 xs ≡ xs
 first_feed [] h some = absurd (omega (arith, some))
@@ -92,11 +96,12 @@ joined_line_comment body n place e more ends = record {
         (omega (arith, length-drop n body, more))
 
 -- what is found where the text after `//` starts is found where the text starts
-pub line_comment_finds : (before : Before) (rest : List ℕ) (place : ℕ) (result : Result Found LexFault) → 2 ≤ length rest
-    → get_or rest 0 0 ≡ 47 → get_or rest 1 0 ≡ 47 → Finds before (47 ∷ 47 ∷ take (length rest - 2) (drop 2 rest)) place result
-    → Finds before rest place result
-line_comment_finds before rest place result some e f h =
-    subst (λ (r : List ℕ). Finds before r place result) (first_two rest 47 47 some e f) (rw (take_rest rest 2) at h)
+pub line_comment_finds : (lexicon : Lexicon) (before : Before) (rest : List ℕ) (place : ℕ) (result : Result Found LexFault)
+    → 2 ≤ length rest
+    → get_or rest 0 0 ≡ 47 → get_or rest 1 0 ≡ 47 → Finds lexicon before (47 ∷ 47 ∷ take (length rest - 2) (drop 2 rest)) place result
+    → Finds lexicon before rest place result
+line_comment_finds lexicon before rest place result some e f h =
+    subst (λ (r : List ℕ). Finds lexicon before r place result) (first_two rest 47 47 some e f) (rw (take_rest rest 2) at h)
 
 -- where `*/` is written it stands
 close_at : (front after text : List ℕ) → front ++ 42 ∷ 47 ∷ after ≡ text → ClosesAt text (length front)
@@ -142,9 +147,10 @@ pub open_body : (body : List ℕ) → IsFirstClose body None → IsBody body bod
 open_body body none = unclosed refl (unclosed_from body none)
 
 -- a comment ends at the first `*/`, where C joins no lines in it
-pub block_comment_from : (before : Before) (body : List ℕ) (k : ℕ) → IsFirstClose body (Some k) → IsFirstJoint (42 ∷ take k body) None
-    → StandsFirst before (47 ∷ 42 ∷ body) (record { kind = None; len = k + 4; behind = behind_comment before })
-block_comment_from before body k first none = record {
+pub block_comment_from : (lexicon : Lexicon) (before : Before) (body : List ℕ) (k : ℕ) → IsFirstClose body (Some k)
+    → IsFirstJoint (42 ∷ take k body) None
+    → StandsFirst lexicon before (47 ∷ 42 ∷ body) (record { kind = None; len = k + 4; behind = behind_comment before })
+block_comment_from lexicon before body k first none = record {
   piece = block_comment (take k body);
   after = drop (k + 2) body;
   split = ap (λ (xs : List ℕ). 47 ∷ 42 ∷ xs) (append_assoc (take k body) (42 ∷ 47 ∷ []) (drop (k + 2) body) ∙ close_split body k first.0);
@@ -194,12 +200,12 @@ module _ (rest : List ℕ) (some : 2 ≤ length rest) (slash : get_or rest 0 0 �
   all_is = take_rest rest 1 ∙ subst (λ (r : List ℕ). drop 1 r ≡ 42 ∷ drop 2 rest) split_is refl
 
   -- a text that starts with `/*` has a block comment first, up to the first `*/` that follows, where C joins no lines in it
-  pub block_comment_stands : (before : Before) (k : ℕ) → IsFirstClose (take (length rest - 2) (drop 2 rest)) (Some k)
+  pub block_comment_stands : (lexicon : Lexicon) (before : Before) (k : ℕ) → IsFirstClose (take (length rest - 2) (drop 2 rest)) (Some k)
       → IsFirstJoint (take (k + 2 - 1) (drop 1 rest)) None
-      → StandsFirst before rest (record { kind = None; len = k + 4; behind = behind_comment before })
-  block_comment_stands before k first none =
-      subst (λ (r : List ℕ). StandsFirst before r (record { kind = None; len = k + 4; behind = behind_comment before })) split_is
-      (block_comment_from before (drop 2 rest) k (rw body_is at first) (rw (inside_is k) at none))
+      → StandsFirst lexicon before rest (record { kind = None; len = k + 4; behind = behind_comment before })
+  block_comment_stands lexicon before k first none =
+      subst (λ (r : List ℕ). StandsFirst lexicon before r (record { kind = None; len = k + 4; behind = behind_comment before })) split_is
+      (block_comment_from lexicon before (drop 2 rest) k (rw body_is at first) (rw (inside_is k) at none))
 
   -- it is another one to C where it joins lines behind a `*` of it
   pub joined_block_stands : (k star_at : ℕ) → IsFirstClose (take (length rest - 2) (drop 2 rest)) (Some k)

@@ -3,13 +3,16 @@ use Rattle.std.proofs.Common.{◌≡◌, ◌≤◌, ◌<◌, ℕ, Bool, true, fa
 use Rattle.std.proofs.lemmas.List.{take_at, append_cancel_left}
 use Rattle.std.proofs.lemmas.Bool.{lt-ltb, le-ltb, or_from}
 use Rattle.std.specs.Str.Parse.{digits_value}
+use Rattle.lang_tokens.specs.declared.lexicon.Lexicon.{Lexicon}
+use Rattle.lang_tokens.specs.declared.lexicon.Lexicon.TheVariants.{Own}
 use Rattle.lang_tokens.specs.Bytes.{is_letter, is_digit}
+use Rattle.lang_tokens.specs.Directives.{starts_with_letter}
 use Rattle.lang_tokens.specs.declared.token.Kind.{Kind}
 use Rattle.lang_tokens.specs.declared.token.Kind.TheVariants as kind
 use Rattle.lang_tokens.specs.Signs.{sign_bytes}
 use Rattle.lang_tokens.specs.Words.{word_bytes}
 use Rattle.lang_tokens.specs.Lexemes.{is_word, is_numeral, is_padded, longest_word, greatest_literal}
-use Rattle.lang_tokens.specs.Reading.{IsLongest, IsWholeToken, starts_with_letter}
+use Rattle.lang_tokens.specs.Reading.{IsLongest, IsWholeToken, is_own}
 use Rattle.lang_tokens.specs.Faults.{is_bad}
 use Rattle.lang_tokens.proofs.lexemes.Heads.{heads, is_mark, sign_heads, word_heads, word_spelled, numeral_heads, letter_no_digit, mark_is}
 use Rattle.lang_tokens.proofs.lexemes.Spellings.{one_word, one_sign, word_short}
@@ -38,7 +41,7 @@ kind_grade (kind.Word word) = short_word
 kind_grade kind.Name = short_word
 kind_grade (kind.Number value) = good_number
 kind_grade (kind.Sign sign) = plain_sign
-kind_grade kind.End = plain_sign
+kind_grade kind = plain_sign
 
 -- a numeral starts with no letter, and a sign with neither
 numeral_no_word : (bytes : List ℕ) → heads is_digit bytes ≡ true → heads is_letter bytes ≡ false
@@ -83,32 +86,41 @@ bad_number_grade bytes after d bad = numeral_grade bytes after d ∙ rw bad refl
 sign_grade : (bytes after : List ℕ) → heads is_mark bytes ≡ true → grade bytes after ≡ plain_sign
 sign_grade bytes after m = rw (mark_no_letter bytes m, mark_no_digit bytes m) refl
 
--- a token has the grade of its kind
-pub token_grade : (kind : Kind) (bytes after : List ℕ) → IsWholeToken kind bytes after → grade bytes after ≡ kind_grade kind
-token_grade (kind.Word word) bytes after t = rw (← t.is_token) (short_word_grade (word_bytes word) after (word_spelled word)
+-- a token of the tool's own formats has the grade of its kind
+pub token_grade : (kind : Kind) (bytes after : List ℕ) → is_own kind ≡ true → IsWholeToken Own kind bytes after
+    → grade bytes after ≡ kind_grade kind
+token_grade (kind.Word word) bytes after own t = rw (← t.is_token) (short_word_grade (word_bytes word) after (word_spelled word)
     (word_short word))
-token_grade kind.Name bytes after t = short_word_grade bytes after t.is_token.word t.is_token.short
-token_grade (kind.Number value) bytes after t = good_number_grade bytes after t.is_token.digits
+token_grade kind.Name bytes after own t = short_word_grade bytes after t.is_token.word t.is_token.short
+token_grade (kind.Number value) bytes after own t = good_number_grade bytes after t.is_token.digits
     (or_from (is_padded bytes) (starts_with_letter after) t.is_token.plain t.apart) t.is_token.within
-token_grade (kind.Sign sign) bytes after t = rw (← t.is_token) (sign_grade (sign_bytes sign) after (sign_heads sign))
-token_grade kind.End bytes after t = absurd t.is_token
+token_grade (kind.Sign sign) bytes after own t = rw (← t.is_token) (sign_grade (sign_bytes sign) after (sign_heads sign))
+token_grade (kind.Foreign sort) bytes after own t = cc
+token_grade (kind.Aside sort) bytes after own t = cc
+token_grade kind.End bytes after own t = absurd t.is_token
 
--- the same bytes are a token of one kind
-pub one_kind : (k l : Kind) (bytes after : List ℕ) → IsWholeToken k bytes after → IsWholeToken l bytes after → k ≡ l
-one_kind (kind.Word w) (kind.Word v) bytes after s t = ap kind.Word (one_word w v bytes s.is_token t.is_token)
-one_kind (kind.Word w) kind.Name bytes after s t = absurd (t.is_token.free (w, s.is_token))
-one_kind kind.Name (kind.Word v) bytes after s t = absurd (s.is_token.free (v, t.is_token))
-one_kind kind.Name kind.Name bytes after s t = refl
-one_kind (kind.Number x) (kind.Number y) bytes after s t = ap kind.Number (s.is_token.value_is ∙ sym t.is_token.value_is)
-one_kind (kind.Sign x) (kind.Sign y) bytes after s t = ap kind.Sign (one_sign x y bytes s.is_token t.is_token)
-one_kind kind.End l bytes after s t = absurd s.is_token
-one_kind k kind.End bytes after s t = absurd t.is_token
-one_kind k l bytes after s t = let same : kind_grade k ≡ kind_grade l = sym (token_grade k bytes after s) ∙ token_grade l bytes after t in
+-- the same bytes are a token of one kind there
+pub one_kind : (k l : Kind) (bytes after : List ℕ) → is_own k ≡ true → is_own l ≡ true → IsWholeToken Own k bytes after
+    → IsWholeToken Own l bytes after → k ≡ l
+one_kind (kind.Word w) (kind.Word v) bytes after o p s t = ap kind.Word (one_word w v bytes s.is_token t.is_token)
+one_kind (kind.Word w) kind.Name bytes after o p s t = absurd (t.is_token.free (w, s.is_token))
+one_kind kind.Name (kind.Word v) bytes after o p s t = absurd (s.is_token.free (v, t.is_token))
+one_kind kind.Name kind.Name bytes after o p s t = refl
+one_kind (kind.Number x) (kind.Number y) bytes after o p s t = ap kind.Number (s.is_token.value_is ∙ sym t.is_token.value_is)
+one_kind (kind.Sign x) (kind.Sign y) bytes after o p s t = ap kind.Sign (one_sign x y bytes s.is_token t.is_token)
+one_kind (kind.Foreign x) l bytes after o p s t = cc
+one_kind (kind.Aside x) l bytes after o p s t = cc
+one_kind k (kind.Foreign y) bytes after o p s t = cc
+one_kind k (kind.Aside y) bytes after o p s t = cc
+one_kind kind.End l bytes after o p s t = absurd s.is_token
+one_kind k kind.End bytes after o p s t = absurd t.is_token
+one_kind k l bytes after o p s t = let same : kind_grade k ≡ kind_grade l = sym (token_grade k bytes after o s)
+    ∙ token_grade l bytes after p t in
     cc
 
 -- the longest lexeme of a text is one
-pub one_longest : (a x b y : List ℕ) → IsLongest a x → IsLongest b y → a ++ x ≡ b ++ y → a ≡ b
-one_longest a x b y s t e =
+pub one_longest : (lexicon : Lexicon) (a x b y : List ℕ) → IsLongest lexicon a x → IsLongest lexicon b y → a ++ x ≡ b ++ y → a ≡ b
+one_longest lexicon a x b y s t e =
     let low : length b ≤ length a = s.longest b y (sym e) t.lexeme in
     let high : length a ≤ length b = t.longest a x e s.lexeme in
     sym (take_at a x (length a) refl) ∙ (ap (take (length a)) e ∙ take_at b y (length a) (omega arith))

@@ -3,37 +3,52 @@ use Rattle.std.proofs.Common.{◌≡◌, ◌≤◌, ◌<◌, ◌+◌, ◌-◌, �
 use Rattle.std.proofs.Common.{arith, Option, Some}
 use Rattle.std.proofs.Common.{None}
 use Rattle.std.proofs.lemmas.List.{append_assoc, append-nil, length-append, length-drop, take_rest, drop_at, drop-drop}
+use Rattle.lang_tokens.specs.declared.lexicon.Lexicon.{Lexicon}
+use Rattle.lang_tokens.specs.declared.lexicon.Lexicon.TheVariants.{Own, C}
 use Rattle.lang_tokens.specs.declared.token.Kind.{Kind}
 use Rattle.lang_tokens.specs.declared.token.Token.{Token}
 use Rattle.lang_tokens.specs.declared.found.Found.{Found}
 use Rattle.lang_tokens.specs.declared.before.Before.{Before}
 use Rattle.lang_tokens.specs.declared.before.Before.TheVariants.{Blanks}
-use Rattle.lang_tokens.specs.Bytes.{is_letter, is_digit}
-use Rattle.lang_tokens.specs.Signs.{sign_bytes}
-use Rattle.lang_tokens.specs.Lexemes.{IsLexeme, a_word, a_numeral, a_sign}
+use Rattle.lang_tokens.specs.Bytes.{is_letter, is_digit, is_quote}
+use Rattle.lang_tokens.specs.Signs.{sign_bytes, foreign_bytes}
+use Rattle.lang_tokens.specs.Lexemes.{IsLexeme, IsForeignLexeme, a_word, a_number, a_sign, an_other, a_foreign_sign, a_quoted, a_stray}
 use Rattle.lang_tokens.specs.Reading.{Piece, blank, line_comment, block_comment, token, piece_bytes, spelling, Fits, AllFit, piece_tokens}
 use Rattle.lang_tokens.specs.Reading.{tokens_from, ReadsUpTo, behind, behind_all}
 use Rattle.lang_tokens.specs.declared.fault.LexFault.{LexFault}
 use Rattle.lang_tokens.specs.Faults.{Stands, HasFault}
 use Rattle.lang_tokens.specs.Steps.{StandsFirst, piece_kind}
-use Rattle.lang_tokens.proofs.lexemes.Heads.{heads, is_mark, sign_heads, word_heads, numeral_heads}
+use Rattle.lang_tokens.proofs.quoted.Parts.{quoted_test}
+use Rattle.lang_tokens.proofs.lexemes.Heads.{heads, is_mark, sign_heads, foreign_heads, word_heads, numeral_heads, leads_number}
+use Rattle.lang_tokens.proofs.lexemes.Heads.{number_heads, quoted_heads}
 
 heads_some : (p : ℕ → Bool) (xs : List ℕ) → heads p xs ≡ true → 0 < length xs
 heads_some p [] h = cc
 heads_some p (x ∷ xs) h = omega arith
 
+foreign_some : (bytes : List ℕ) → IsForeignLexeme bytes → 0 < length bytes
+foreign_some bytes (a_foreign_sign sign e) =
+    subst (λ (bs : List ℕ). 0 < length bs) e (heads_some is_mark (foreign_bytes sign) (foreign_heads sign))
+foreign_some bytes (a_quoted q) = heads_some is_quote bytes (quoted_heads bytes (quoted_test bytes q))
+foreign_some bytes (a_stray b is e) = rw (← e) (omega arith)
+
 -- a lexeme has a byte
-pub lexeme_some : (bytes : List ℕ) → IsLexeme bytes → 0 < length bytes
-lexeme_some bytes (a_word w) = heads_some is_letter bytes (word_heads bytes w)
-lexeme_some bytes (a_numeral d) = heads_some is_digit bytes (numeral_heads bytes d)
-lexeme_some bytes (a_sign sign e) = subst (λ (bs : List ℕ). 0 < length bs) e (heads_some is_mark (sign_bytes sign) (sign_heads sign))
+pub lexeme_some : (lexicon : Lexicon) (bytes : List ℕ) → IsLexeme lexicon bytes → 0 < length bytes
+lexeme_some lexicon bytes (a_word w) = heads_some is_letter bytes (word_heads bytes w)
+lexeme_some Own bytes (a_number n) = heads_some is_digit bytes (numeral_heads bytes n)
+lexeme_some C bytes (a_number n) = heads_some leads_number bytes (number_heads bytes n)
+lexeme_some lexicon bytes (a_sign sign e) =
+    subst (λ (bs : List ℕ). 0 < length bs) e (heads_some is_mark (sign_bytes sign) (sign_heads sign))
+lexeme_some Own bytes (an_other o) = absurd o
+lexeme_some C bytes (an_other o) = foreign_some bytes o
 
 -- a piece has a byte
-pub piece_some : (before : Before) (piece : Piece) (rest : List ℕ) → Fits before piece rest → 0 < length (piece_bytes piece)
-piece_some before (blank b) rest fits = omega arith
-piece_some before (line_comment body) rest fits = omega arith
-piece_some before (block_comment body) rest fits = omega arith
-piece_some before (token kind bytes) rest fits = lexeme_some bytes fits.1.longest.lexeme
+pub piece_some : (lexicon : Lexicon) (before : Before) (piece : Piece) (rest : List ℕ) → Fits lexicon before piece rest
+    → 0 < length (piece_bytes piece)
+piece_some lexicon before (blank b) rest fits = omega arith
+piece_some lexicon before (line_comment body) rest fits = omega arith
+piece_some lexicon before (block_comment body) rest fits = omega arith
+piece_some lexicon before (token kind bytes) rest fits = lexeme_some lexicon bytes fits.1.longest.lexeme
 
 spelling_push : (pieces : List Piece) (piece : Piece) → spelling (pieces ++ piece ∷ []) ≡ spelling pieces ++ piece_bytes piece
 spelling_push [] piece = append-nil (piece_bytes piece)
@@ -45,12 +60,13 @@ spelled_push : (pieces : List Piece) (piece : Piece) (rest : List ℕ) →
 spelled_push pieces piece rest = ap (λ (bs : List ℕ). bs ++ rest) (spelling_push pieces piece)
     ∙ append_assoc (spelling pieces) (piece_bytes piece) rest
 
-fit_push : (before : Before) (pieces : List Piece) (piece : Piece) (rest : List ℕ) → AllFit before pieces (piece_bytes piece ++ rest)
-    → Fits (behind_all before pieces) piece rest → AllFit before (pieces ++ piece ∷ []) rest
-fit_push before [] piece rest fit fits = (fits, tt)
-fit_push before (p ∷ pieces) piece rest fit fits = (
-  subst (Fits before p) (sym (spelled_push pieces piece rest)) fit.0,
-  fit_push (behind before p) pieces piece rest fit.1 fits,
+fit_push : (lexicon : Lexicon) (before : Before) (pieces : List Piece) (piece : Piece) (rest : List ℕ)
+    → AllFit lexicon before pieces (piece_bytes piece ++ rest) → Fits lexicon (behind_all before pieces) piece rest
+    → AllFit lexicon before (pieces ++ piece ∷ []) rest
+fit_push lexicon before [] piece rest fit fits = (fits, tt)
+fit_push lexicon before (p ∷ pieces) piece rest fit fits = (
+  subst (Fits lexicon before p) (sym (spelled_push pieces piece rest)) fit.0,
+  fit_push lexicon (behind before p) pieces piece rest fit.1 fits,
 )
 
 -- what stands before what follows a piece behind pieces
@@ -71,15 +87,15 @@ tokens_push at (p ∷ pieces) piece =
     (piece_tokens (at + length (piece_bytes p ++ spelling pieces)) piece))
 
 -- A reading, and what stands in its line before what follows.
-pub record ReadsBehind (text : List ℕ) (at : ℕ) (tokens : List Token) (rest : List ℕ) (before : Before) : Type 0 where
+pub record ReadsBehind (lexicon : Lexicon) (text : List ℕ) (at : ℕ) (tokens : List Token) (rest : List ℕ) (before : Before) : Type 0 where
   -- the text reads up to this place
-  pub reads : ReadsUpTo text at tokens rest
+  pub reads : ReadsUpTo lexicon text at tokens rest
   -- this stands before what follows
   pub behind_is : behind_all Blanks reads.pieces ≡ before
 
 -- every text reads up to its start, as no tokens
-pub reads_none : (text : List ℕ) → ReadsBehind text 0 [] text Blanks
-reads_none text = record { reads = record { pieces = []; spelled = refl; fit = tt; place = refl; told = refl }; behind_is = refl }
+pub reads_none : (lexicon : Lexicon) (text : List ℕ) → ReadsBehind lexicon text 0 [] text Blanks
+reads_none lexicon text = record { reads = record { pieces = []; spelled = refl; fit = tt; place = refl; told = refl }; behind_is = refl }
 
 -- the token of what is found
 abbrev pub found_tokens : ℕ → Option Kind → ℕ → List Token
@@ -94,17 +110,18 @@ found_piece at (line_comment body) kind len e f = rw (← f) refl
 found_piece at (block_comment body) kind len e f = rw (← f) refl
 
 -- a reading goes on by the piece that stands first in the rest
-pub reads_more : (text : List ℕ) (at : ℕ) (tokens : List Token) (rest : List ℕ) (before : Before) (found : Found)
-    → ReadsBehind text at tokens rest before → StandsFirst before rest found
-    → ReadsBehind text (at + found.len) (tokens ++ found_tokens at found.kind found.len) (drop found.len rest) found.behind
-reads_more text at tokens rest before found so_far stands = record {
+pub reads_more : (lexicon : Lexicon) (text : List ℕ) (at : ℕ) (tokens : List Token) (rest : List ℕ) (before : Before) (found : Found)
+    → ReadsBehind lexicon text at tokens rest before → StandsFirst lexicon before rest found
+    → ReadsBehind lexicon text (at + found.len) (tokens ++ found_tokens at found.kind found.len) (drop found.len rest) found.behind
+reads_more lexicon text at tokens rest before found so_far stands = record {
   reads = record {
     pieces = pieces;
     spelled = spelled_push reads.pieces stands.piece (drop found.len rest)
         ∙ (ap (λ (bs : List ℕ). spelling reads.pieces ++ bs) split ∙ reads.spelled);
-    fit = fit_push Blanks reads.pieces stands.piece (drop found.len rest) (subst (AllFit Blanks reads.pieces) (sym split) reads.fit)
-        (subst (λ (b : Before). Fits b stands.piece (drop found.len rest)) (sym so_far.behind_is)
-        (subst (Fits before stands.piece) after stands.fits));
+    fit = fit_push lexicon Blanks reads.pieces stands.piece (drop found.len rest)
+        (subst (AllFit lexicon Blanks reads.pieces) (sym split) reads.fit)
+        (subst (λ (b : Before). Fits lexicon b stands.piece (drop found.len rest)) (sym so_far.behind_is)
+        (subst (Fits lexicon before stands.piece) after stands.fits));
     place = place;
     told = tokens_push 0 reads.pieces stands.piece ∙ told;
   };
@@ -112,7 +129,7 @@ reads_more text at tokens rest before found so_far stands = record {
       ∙ (ap (λ (b : Before). behind b stands.piece) so_far.behind_is ∙ stands.behind_is);
 }
   where
-    reads : ReadsUpTo text at tokens rest
+    reads : ReadsUpTo lexicon text at tokens rest
     reads = so_far.reads
 
     pieces : List Piece
@@ -141,23 +158,26 @@ reads_more text at tokens rest before found so_far stands = record {
         rw (reads.told, here, piece) refl
 
 -- a fault that stands behind a reading is the fault of its text
-pub fault_behind : (text : List ℕ) (at : ℕ) (tokens : List Token) (rest : List ℕ) (before : Before) (fault : LexFault)
-    → ReadsBehind text at tokens rest before → Stands fault before at rest → HasFault text fault
-fault_behind text at tokens rest before fault so_far stands = record {
+pub fault_behind : (lexicon : Lexicon) (text : List ℕ) (at : ℕ) (tokens : List Token) (rest : List ℕ) (before : Before) (fault : LexFault)
+    → ReadsBehind lexicon text at tokens rest before → Stands lexicon fault before at rest → HasFault lexicon text fault
+fault_behind lexicon text at tokens rest before fault so_far stands = record {
   place = at;
   tokens = tokens;
   rest = rest;
   reads = so_far.reads;
-  stands = subst (λ (b : Before). Stands fault b at rest) (sym so_far.behind_is) stands;
+  stands = subst (λ (b : Before). Stands lexicon fault b at rest) (sym so_far.behind_is) stands;
 }
 
 -- what is found lies in the rest, and has a byte
-pub found_some : (before : Before) (rest : List ℕ) (found : Found) → StandsFirst before rest found → 0 < found.len
-found_some before rest found stands = omega (arith, piece_some before stands.piece stands.after stands.fits, stands.length_is)
+pub found_some : (lexicon : Lexicon) (before : Before) (rest : List ℕ) (found : Found) → StandsFirst lexicon before rest found
+    → 0 < found.len
+found_some lexicon before rest found stands =
+    omega (arith, piece_some lexicon before stands.piece stands.after stands.fits, stands.length_is)
 
 -- what is found lies within the rest
-pub found_within : (before : Before) (rest : List ℕ) (found : Found) → StandsFirst before rest found → found.len ≤ length rest
-found_within before rest found stands = omega (
+pub found_within : (lexicon : Lexicon) (before : Before) (rest : List ℕ) (found : Found) → StandsFirst lexicon before rest found
+    → found.len ≤ length rest
+found_within lexicon before rest found stands = omega (
   arith,
   stands.length_is,
   ap length stands.split,
@@ -165,27 +185,27 @@ found_within before rest found stands = omega (
 )
 
 -- one turn of the loop
-pub reads_step : (text : List ℕ) (at : ℕ) (tokens items : List Token) (before : Before) (found : Found)
-    → ReadsBehind text at tokens (drop at text) before → StandsFirst before (take (length text - at) (drop at text)) found
+pub reads_step : (lexicon : Lexicon) (text : List ℕ) (at : ℕ) (tokens items : List Token) (before : Before) (found : Found)
+    → ReadsBehind lexicon text at tokens (drop at text) before → StandsFirst lexicon before (take (length text - at) (drop at text)) found
     → items ≡ tokens ++ found_tokens at found.kind found.len
-    → ReadsBehind text (at + found.len) items (drop (at + found.len) text) found.behind
-reads_step text at tokens items before found reads stands e =
+    → ReadsBehind lexicon text (at + found.len) items (drop (at + found.len) text) found.behind
+reads_step lexicon text at tokens items before found reads stands e =
     let here = rw (take_rest text at) at stands in
-    let more = reads_more text at tokens (drop at text) before found reads here in
+    let more = reads_more lexicon text at tokens (drop at text) before found reads here in
     rw e (rw (drop-drop found.len at text) at more)
 
 -- what is found from a place on ends within the text
-pub found_fits : (text : List ℕ) (at : ℕ) (before : Before) (found : Found) → at ≤ length text
-    → StandsFirst before (take (length text - at) (drop at text)) found → at + found.len ≤ length text
-found_fits text at before found within stands = omega (
+pub found_fits : (lexicon : Lexicon) (text : List ℕ) (at : ℕ) (before : Before) (found : Found) → at ≤ length text
+    → StandsFirst lexicon before (take (length text - at) (drop at text)) found → at + found.len ≤ length text
+found_fits lexicon text at before found within stands = omega (
   arith,
-  found_within before (drop at text) found (rw (take_rest text at) at stands),
+  found_within lexicon before (drop at text) found (rw (take_rest text at) at stands),
   length-drop at text,
 )
 
 -- the fault that stands where the lexer is, is the fault of the text
-pub fault_step : (text : List ℕ) (at : ℕ) (tokens : List Token) (before : Before) (fault : LexFault)
-    → ReadsBehind text at tokens (drop at text) before → Stands fault before at (take (length text - at) (drop at text))
-    → HasFault text fault
-fault_step text at tokens before fault so_far stands =
-    fault_behind text at tokens (drop at text) before fault so_far (rw (take_rest text at) at stands)
+pub fault_step : (lexicon : Lexicon) (text : List ℕ) (at : ℕ) (tokens : List Token) (before : Before) (fault : LexFault)
+    → ReadsBehind lexicon text at tokens (drop at text) before → Stands lexicon fault before at (take (length text - at) (drop at text))
+    → HasFault lexicon text fault
+fault_step lexicon text at tokens before fault so_far stands =
+    fault_behind lexicon text at tokens (drop at text) before fault so_far (rw (take_rest text at) at stands)

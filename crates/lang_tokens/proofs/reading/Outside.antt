@@ -1,21 +1,27 @@
 -- Where no directive goes on, blank bytes and comments leave it so.
 use Rattle.std.proofs.Common.{◌≡◌, ℕ, true, cond, eqb, List, [], ◌∷◌, ◌++◌, refl, arith}
 use Rattle.std.proofs.lemmas.Bool.{cond_both, false_from_ne_true, eqb-true, or_left}
+use Rattle.lang_tokens.specs.declared.lexicon.Lexicon.{Lexicon}
+use Rattle.lang_tokens.specs.declared.lexicon.Lexicon.TheVariants.{Own, C}
 use Rattle.lang_tokens.specs.Bytes.{is_blank}
 use Rattle.lang_tokens.specs.Directives.{is_directive}
 use Rattle.lang_tokens.specs.declared.before.Before.{Before}
 use Rattle.lang_tokens.specs.declared.before.Before.TheVariants.{Blanks, Others, Directive}
-use Rattle.lang_tokens.specs.Reading.{Piece, is_outside, is_blank_at, behind_blank, behind_comment, behind, behind_all}
+use Rattle.lang_tokens.specs.Reading.{Piece, is_outside, is_own_blank, is_blank_at, behind_blank, behind_comment, behind, behind_all}
 
 blank_no_hash : (b : ℕ) → is_blank b ≡ true → eqb b 35 ≡ true → ⊥
 blank_no_hash b l k = grind (arith, eqb-true)
 
+own_blank : (before : Before) (b : ℕ) (rest : List ℕ) → is_outside before ≡ true → is_blank b ≡ true → is_own_blank before (b ∷ rest) ≡ true
+own_blank Blanks b rest out is = or_left (is_blank b) (is_directive Own (b ∷ rest)) is
+own_blank Others b rest out is = is
+own_blank Directive b rest out is = cc
+
 -- a blank byte is a blank where no directive goes on
-pub plain_blank : (before : Before) (b : ℕ) (rest : List ℕ) → is_outside before ≡ true → is_blank b ≡ true
-    → is_blank_at before (b ∷ rest) ≡ true
-plain_blank Blanks b rest out is = or_left (is_blank b) (is_directive (b ∷ rest)) is
-plain_blank Others b rest out is = is
-plain_blank Directive b rest out is = cc
+pub plain_blank : (lexicon : Lexicon) (before : Before) (b : ℕ) (rest : List ℕ) → is_outside before ≡ true → is_blank b ≡ true
+    → is_blank_at lexicon before (b ∷ rest) ≡ true
+plain_blank Own before b rest out is = own_blank before b rest out is
+plain_blank C before b rest out is = is
 
 -- behind it no directive goes on
 pub blank_outside : (before : Before) (b : ℕ) → is_outside before ≡ true → is_blank b ≡ true → is_outside (behind_blank before b) ≡ true

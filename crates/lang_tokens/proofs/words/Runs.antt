@@ -1,7 +1,10 @@
 -- The longest front of a list that passes a test.
-use Rattle.std.proofs.Common.{◌≡◌, ◌≤◌, ◌+◌, ℕ, suc, Bool, true, false, cond, not, List, [], ◌∷◌, ◌++◌, length, take, drop, refl, arith}
+use Rattle.std.proofs.Common.{◌≡◌, ◌≤◌, ◌+◌, ℕ, suc, Bool, true, false, cond, not, List, [], ◌∷◌, ◌++◌, length, take, drop, eqb, ⊎_elim}
+use Rattle.std.proofs.Common.{refl, arith}
 use Rattle.std.specs.List.{list_all, prefix_len}
-use Rattle.std.proofs.lemmas.Bool.{and_from}
+use Rattle.std.proofs.lemmas.Bool.{and_from, cases_Bool, eq-eqb, ne_eqb}
+use Rattle.std.proofs.lemmas.List.{take_all, append-nil}
+use Rattle.std.proofs.lemmas.List.Sums.{prefix_len-le-length}
 
 -- no element, or one that fails at once
 abbrev pub stops : {X : Type 0} → (X → Bool) → List X → Bool
@@ -34,3 +37,14 @@ pub run_longest : {X : Type 0} (p : X → Bool) (other after xs : List X) → ot
 run_longest p [] after xs e h = omega arith
 run_longest p (o ∷ other) after [] e h = cc
 run_longest p (o ∷ other) after (x ∷ xs) e h = grind (arith, run_longest p other after xs)
+
+all_fits : {X : Type 0} (p : X → Bool) (xs : List X) → prefix_len p xs ≡ length xs → list_all p xs ≡ true
+all_fits p xs e = let all = all_run p xs in rw (take_all (prefix_len p xs) xs (omega arith)) at all
+
+-- the longest front that passes is all of the list exactly if all of it passes
+pub run_is_all : {X : Type 0} (p : X → Bool) (xs : List X) → eqb (prefix_len p xs) (length xs) ≡ list_all p xs
+run_is_all p xs = ⊎_elim
+    (λ (all : list_all p xs ≡ true). rw all (eq-eqb (prefix_len p xs) (length xs)
+    (omega (arith, run_longest p xs [] xs (append-nil xs) all, prefix_len-le-length p xs))))
+    (λ (some : list_all p xs ≡ false). rw some (ne_eqb (prefix_len p xs) (length xs) (λ e. let all = all_fits p xs e in cc)))
+    (cases_Bool (list_all p xs))

@@ -3,8 +3,9 @@ use Rattle.std.proofs.Common.{◌≡◌, ◌≤◌, ◌+◌, ◌-◌, ℕ, pos, 
 use Rattle.std.proofs.Common.{ap, ap₂, ◌∙◌, subst, arith}
 use Rattle.std.specs.List.{slice_range}
 use Rattle.std.specs.Str.Parse.{digits_value}
-use Rattle.std.proofs.lemmas.Bool.{and_parts, not-true}
+use Rattle.std.proofs.lemmas.Bool.{and_parts, and_from, not-true}
 use Rattle.std.proofs.lemmas.List.{append_assoc, length-append, take_at, drop_at}
+use Rattle.lang_tokens.specs.declared.lexicon.Lexicon.TheVariants.{Own}
 use Rattle.lang_tokens.specs.declared.token.Kind.TheVariants as kind
 use Rattle.lang_tokens.specs.declared.sign.Sign.{Sign}
 use Rattle.lang_tokens.specs.declared.word.Word.{Word}
@@ -12,8 +13,9 @@ use Rattle.lang_tokens.specs.Bytes.{is_blank, is_letter, is_digit, is_word_byte}
 use Rattle.lang_tokens.specs.Words.{word_bytes}
 use Rattle.lang_tokens.specs.Signs.{sign_bytes}
 use Rattle.lang_tokens.specs.Lexemes.{is_numeral, is_padded, greatest_literal}
-use Rattle.lang_tokens.specs.Reading.{Piece, blank, token, piece_bytes, spelling, Fits, AllFit, starts_with_letter, piece_tokens}
+use Rattle.lang_tokens.specs.Reading.{Piece, blank, token, piece_bytes, spelling, Fits, AllFit, piece_tokens}
 use Rattle.lang_tokens.specs.Reading.{tokens_from, is_outside, behind}
+use Rattle.lang_tokens.specs.Directives.{starts_with_letter}
 use Rattle.lang_tokens.specs.declared.before.Before.{Before}
 use Rattle.lang_tokens.proofs.reading.Outside.{plain_blank, blank_outside}
 use Rattle.lang_tokens.proofs.lexemes.Heads.{heads}
@@ -120,15 +122,19 @@ good_append (sign s ∷ ps) qs g h = good_append ps qs g h
 good_append (letter b ∷ ps) qs g h = (g.0, good_append ps qs g.1 h)
 good_append (number n bytes ∷ ps) qs g h = (g.0, good_append ps qs g.1 h)
 
+-- a token of the tool's own formats stands where no directive goes on
+own_stands : (before : Before) → is_outside before ≡ true → (is_outside before && true) ≡ true
+own_stands before out = and_from (is_outside before) true out refl
+
 part_fits : (before : Before) (p : Part) (rest : List ℕ) → is_outside before ≡ true → IsGood p → stands p rest ≡ true
-    → Fits before (piece_of p) rest
-part_fits before (space b) rest out g h = plain_blank before b rest out h
-part_fits before (word w) rest out g h = (out, a_whole_word w rest (not-true (heads is_word_byte rest) h))
-part_fits before (sign s) rest out g h = (out, a_whole_sign s rest (not-true (heads is_second rest) h))
-part_fits before (letter b) rest out g h = (out, a_whole_letter b rest g (not-true (heads is_word_byte rest) h))
+    → Fits Own before (piece_of p) rest
+part_fits before (space b) rest out g h = plain_blank Own before b rest out h
+part_fits before (word w) rest out g h = (own_stands before out, a_whole_word w rest (not-true (heads is_word_byte rest) h))
+part_fits before (sign s) rest out g h = (own_stands before out, a_whole_sign s rest (not-true (heads is_second rest) h))
+part_fits before (letter b) rest out g h = (own_stands before out, a_whole_letter b rest g (not-true (heads is_word_byte rest) h))
 part_fits before (number n bytes) rest out g h =
     let both = and_parts (not (heads is_digit rest)) (not (starts_with_letter rest)) h in (
-      out,
+      own_stands before out,
       a_whole_number n bytes rest g.digits g.plain g.value g.small (not-true (heads is_digit rest) both.0)
           (not-true (starts_with_letter rest) both.1),
     )
@@ -144,12 +150,12 @@ part_outside before (number n bytes) rest out h = refl
 
 -- good parts that stand before what follows them fit, where no directive goes on
 pub all_fit : (before : Before) (ps : List Part) (rest : List ℕ) → is_outside before ≡ true → AllGood ps → all_stand ps rest ≡ true
-    → AllFit before (map piece_of ps) rest
+    → AllFit Own before (map piece_of ps) rest
 all_fit before [] rest out g h = tt
 all_fit before (p ∷ ps) rest out g h =
     let both = and_parts (stands p (spelled ps ++ rest)) (all_stand ps rest) h in
     let good = good_parts p ps g in (
-      subst (λ (x : List ℕ). Fits before (piece_of p) (x ++ rest)) (sym (spelled_is ps))
+      subst (λ (x : List ℕ). Fits Own before (piece_of p) (x ++ rest)) (sym (spelled_is ps))
           (part_fits before p (spelled ps ++ rest) out good.0 both.0),
       all_fit (behind before (piece_of p)) ps rest (part_outside before p (spelled ps ++ rest) out both.0) good.1 both.1,
     )

@@ -3,6 +3,7 @@ use Rattle.std.proofs.Common.{◌≡◌, ◌≤◌, ◌+◌, ◌-◌, ◌*◌, �
 use Rattle.std.specs.Prelude.{decimal}
 use Rattle.std.proofs.lemmas.List.{append_assoc, append-nil, length-append, map-append}
 use Rattle.base_limits.specs.declared.limits.TheConstants.{MOST_TEXT_BYTES}
+use Rattle.lang_tokens.specs.declared.lexicon.Lexicon.TheVariants.{Own}
 use Rattle.lang_tokens.specs.declared.token.Token as lex_token
 use Rattle.lang_tokens.specs.Lines.{line_at}
 use Rattle.lang_tokens.specs.declared.before.Before.TheVariants.{Blanks}
@@ -38,7 +39,7 @@ use Rattle.lang_tree.specs.declared.limits.TheConstants.{MOST_VARIABLES}
 abbrev pub lexed : List ℕ → List Loop → List lex_token.Token
 lexed text ls = tokens_from 0 (map piece_of (text_parts ls)) ++ end_at (length text) ∷ []
 
-text_reads : (text : List ℕ) (ls : List Loop) → AreDrawn ls → spelled (text_parts ls) ≡ text → Reads text (lexed text ls)
+text_reads : (text : List ℕ) (ls : List Loop) → AreDrawn ls → spelled (text_parts ls) ≡ text → Reads Own text (lexed text ls)
 text_reads text ls d e =
     let pieces = map piece_of (text_parts ls) in
     let same : spelling pieces ≡ text = spelled_is (text_parts ls) ∙ e in
@@ -174,7 +175,7 @@ text_means text ls d c e =
     subst (Means text tokens) (ap (λ (x : List g.Token). feed (line_at text) 3 x begin >>= λ s. result_of s) same ∙ fed text ls d c e) means
 
 -- a generated text reads as the tokens of its parts
-pub generated_reads : (seed loops : ℕ) → Reads (generated_text seed loops) (lexed (generated_text seed loops) (loops_from seed loops))
+pub generated_reads : (seed loops : ℕ) → Reads Own (generated_text seed loops) (lexed (generated_text seed loops) (loops_from seed loops))
 generated_reads seed loops = text_reads (generated_text seed loops) (loops_from seed loops) (are_drawn seed loops) (text_spelled seed loops)
 
 -- the tokens of a generated text with at most 46 loops mean its body over a, b and c

@@ -3,6 +3,7 @@ use Rattle.std.proofs.Common.{◌≡◌, ◌≤◌, ℕ, pos, Bool, true, false,
 use Rattle.std.proofs.lemmas.Bool.{and_parts, and_from, or_left, or_parts}
 use Rattle.std.specs.List.{list_all}
 use Rattle.std.specs.Str.Parse.{digits_value}
+use Rattle.lang_tokens.specs.declared.lexicon.Lexicon.TheVariants.{Own}
 use Rattle.lang_tokens.specs.declared.token.Kind.TheVariants as kind
 use Rattle.lang_tokens.specs.declared.sign.Sign.{Sign}
 use Rattle.lang_tokens.specs.declared.sign.Sign.TheVariants.{LeftParen, Slash}
@@ -15,9 +16,9 @@ use Rattle.lang_tokens.specs.declared.word.Word.TheVariants.{VerifierNondetInt}
 use Rattle.lang_tokens.specs.Bytes.{is_letter, is_digit, is_word_byte}
 use Rattle.lang_tokens.specs.Words.{word_bytes}
 use Rattle.lang_tokens.specs.Signs.{sign_bytes}
-use Rattle.lang_tokens.specs.Lexemes.{a_word, a_numeral, a_sign, is_word, is_numeral, is_padded, greatest_literal, IsName}
-use Rattle.lang_tokens.specs.Directives.{goes_on_as_comment}
-use Rattle.lang_tokens.specs.Reading.{IsLongest, IsSignApart, IsWholeToken, starts_with_letter}
+use Rattle.lang_tokens.specs.Lexemes.{a_word, a_number, a_sign, is_word, is_numeral, is_padded, greatest_literal, IsName}
+use Rattle.lang_tokens.specs.Directives.{goes_on_as_comment, starts_with_letter}
+use Rattle.lang_tokens.specs.Reading.{IsLongest, IsSignApart, IsWholeToken}
 use Rattle.lang_tokens.proofs.lexemes.Heads.{heads, is_mark, sign_heads, word_spelled, mark_is}
 use Rattle.lang_tokens.proofs.lexemes.Longest.{word_starts, numeral_starts, sign_starts}
 
@@ -42,7 +43,7 @@ pub numeral_passes : (bytes : List ℕ) → is_numeral bytes ≡ true → list_a
 numeral_passes [] h = refl
 numeral_passes (b ∷ bs) h = h
 
-word_whole : (bytes rest : List ℕ) → is_word bytes ≡ true → heads is_word_byte rest ≡ false → IsLongest bytes rest
+word_whole : (bytes rest : List ℕ) → is_word bytes ≡ true → heads is_word_byte rest ≡ false → IsLongest Own bytes rest
 word_whole [] rest w h = cc
 word_whole (b ∷ bs) rest w h = record {
   lexeme = a_word w;
@@ -50,10 +51,10 @@ word_whole (b ∷ bs) rest w h = record {
       (word_passes other (word_starts other after (bs ++ rest) b e lexeme (and_parts (is_letter b) (list_all is_word_byte bs) w).0)) e;
 }
 
-numeral_whole : (bytes rest : List ℕ) → is_numeral bytes ≡ true → heads is_digit rest ≡ false → IsLongest bytes rest
+numeral_whole : (bytes rest : List ℕ) → is_numeral bytes ≡ true → heads is_digit rest ≡ false → IsLongest Own bytes rest
 numeral_whole [] rest w h = cc
 numeral_whole (b ∷ bs) rest w h = record {
-  lexeme = a_numeral w;
+  lexeme = a_number w;
   longest = λ other after e lexeme. front_short is_digit (b ∷ bs) rest other after h
       (numeral_passes other (numeral_starts other after (bs ++ rest) b e lexeme (and_parts (is_digit b) (list_all is_digit bs) w).0)) e;
 }
@@ -91,7 +92,7 @@ sign_front b bs rest [] after h k e = omega arith
 sign_front b bs rest (o ∷ other) after h k e = let less = front_short is_second bs rest other after h k (cc) in omega arith
 
 sign_whole : (sign : Sign) (bytes rest : List ℕ) → sign_bytes sign ≡ bytes → heads is_mark bytes ≡ true → heads is_second rest ≡ false
-    → IsLongest bytes rest
+    → IsLongest Own bytes rest
 sign_whole sign [] rest e m h = cc
 sign_whole sign (b ∷ bs) rest e m h = record {
   lexeme = a_sign sign e;
@@ -145,11 +146,12 @@ long_word VerifierAssert = omega arith
 long_word VerifierNondetInt = omega arith
 
 -- a reserved word is a whole token where no byte of a word follows
-pub a_whole_word : (word : Word) (rest : List ℕ) → heads is_word_byte rest ≡ false → IsWholeToken (kind.Word word) (word_bytes word) rest
+pub a_whole_word : (word : Word) (rest : List ℕ) → heads is_word_byte rest ≡ false
+    → IsWholeToken Own (kind.Word word) (word_bytes word) rest
 a_whole_word word rest h = record { is_token = refl; longest = word_whole (word_bytes word) rest (word_spelled word) h; apart = tt }
 
 -- a sign is a whole token where no second byte of a sign follows
-pub a_whole_sign : (sign : Sign) (rest : List ℕ) → heads is_second rest ≡ false → IsWholeToken (kind.Sign sign) (sign_bytes sign) rest
+pub a_whole_sign : (sign : Sign) (rest : List ℕ) → heads is_second rest ≡ false → IsWholeToken Own (kind.Sign sign) (sign_bytes sign) rest
 a_whole_sign sign rest h = record {
   is_token = refl;
   longest = sign_whole sign (sign_bytes sign) rest refl (sign_heads sign) h;
@@ -157,7 +159,8 @@ a_whole_sign sign rest h = record {
 }
 
 -- a letter is a whole token where no byte of a word follows
-pub a_whole_letter : (b : ℕ) (rest : List ℕ) → is_letter b ≡ true → heads is_word_byte rest ≡ false → IsWholeToken kind.Name (b ∷ []) rest
+pub a_whole_letter : (b : ℕ) (rest : List ℕ) → is_letter b ≡ true → heads is_word_byte rest ≡ false
+    → IsWholeToken Own kind.Name (b ∷ []) rest
 a_whole_letter b rest l h = record { is_token = name; longest = word_whole (b ∷ []) rest word h; apart = tt }
   where
     word : is_word (b ∷ []) ≡ true
@@ -173,7 +176,8 @@ a_whole_letter b rest l h = record { is_token = name; longest = word_whole (b �
 
 -- a numeral is a whole token where neither a digit nor a letter follows
 pub a_whole_number : (n : ℕ) (bytes rest : List ℕ) → is_numeral bytes ≡ true → is_padded bytes ≡ false → digits_value 10 bytes ≡ n
-    → n ≤ greatest_literal → heads is_digit rest ≡ false → starts_with_letter rest ≡ false → IsWholeToken (kind.Number (pos n)) bytes rest
+    → n ≤ greatest_literal → heads is_digit rest ≡ false → starts_with_letter rest ≡ false
+    → IsWholeToken Own (kind.Number (pos n)) bytes rest
 a_whole_number n bytes rest d p e s h l = record {
   is_token = record { digits = d; plain = p; value_is = ap pos (sym e); within = subst (λ (x : ℕ). x ≤ greatest_literal) (sym e) s };
   longest = numeral_whole bytes rest d h;

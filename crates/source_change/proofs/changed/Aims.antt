@@ -1,6 +1,7 @@
 -- What is done to places, step by step.
-use Rattle.std.proofs.Common.{◌≡◌, ℕ, List, Option, Some, None, Ok, refl, sym, subst}
+use Rattle.std.proofs.Common.{◌≡◌, ℕ, Option, Some, None, Ok, refl, sym, subst}
 use Rattle.source_grammar.specs.Tokens as g
+use Rattle.source_grammar.specs.Tokens.{Name}
 use Rattle.source_grammar.specs.Grammar.{Expr, Index, no_index, index, place, Effect, assigns, steps}
 use Rattle.source_tree.specs.Expressions.{Expression, Operation, variable, joined, none, more, plus, minus, times, over, remainder}
 use Rattle.source_tree.specs.Statements.{sets, evaluates}
@@ -13,11 +14,11 @@ use Rattle.source_change.proofs.results.Binds.{bind_assoc, bind_left}
 use Rattle.base_integers.specs.declared.integers.Integers.{Integers}
 
 -- a place is resolved before anything is done to it
-pub changed_so : (integers : Integers) (n line : ℕ) (st : State) (x : List ℕ) (a : ℕ) (i : Index) (f : Effect)
+pub changed_so : (integers : Integers) (n line : ℕ) (st : State) (x : Name) (a : ℕ) (i : Index) (f : Effect)
     → changed integers n line st (place x a i) f ≡ (aim integers n line st x a i >>= λ t. done_to integers n line st t f)
 changed_so integers n line st x a no_index f = sym (bind_assoc (variable_of x a st) (λ i. Ok (a_variable i a))
     (λ t. done_to integers n line st t f))
-changed_so integers n line st x a (index b e c) f = sym (bind_assoc (read_element integers n line st x a b e) (λ old. Ok (an_element old))
+changed_so integers n line st x a (index is) f = sym (bind_assoc (read_element integers n line st x a is) (λ old. Ok (an_element old))
     (λ t. done_to integers n line st t f))
 
 -- a step

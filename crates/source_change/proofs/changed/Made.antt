@@ -1,5 +1,5 @@
 -- What the code makes of values.
-use Rattle.std.proofs.Common.{◌≡◌, ◌∙◌, ℕ, Some, None, Ok, refl, sym, ap}
+use Rattle.std.proofs.Common.{◌≡◌, ◌∙◌, ℕ, pos, Some, None, Ok, refl, sym, ap}
 use Rattle.std.proofs.lemmas.List.{append-nil}
 use Rattle.source_grammar.specs.Tokens as g
 use Rattle.source_tree.specs.Expressions.{Expression, none, more, joined, number}
@@ -45,13 +45,13 @@ module _ (integers : Integers) (n line : ℕ) where
   to_none r value (an_element old) e h p q s = (refl, alone r value e p q s)
 
 -- the 1 of a step is in range
-pub one_ranged : (integers : Integers) (line sign h : ℕ) → ranged integers line sign h (number 1 sign) ≡ Ok (number 1 sign)
+pub one_ranged : (integers : Integers) (line sign h : ℕ) → ranged integers line sign h (number (pos 1) sign) ≡ Ok (number (pos 1) sign)
 one_ranged Mathematical line sign h = refl
 one_ranged (Machine Bits8) line sign h = refl
 one_ranged (Machine Bits16) line sign h = refl
 one_ranged (Machine Bits32) line sign h = refl
 
 -- a step is an operation with 1
-pub stepped_so : (d : g.Direction) (sign : ℕ) (old : Expression) → stepped d sign old ≡ joined (step_by d) sign old (number 1 sign)
+pub stepped_so : (d : g.Direction) (sign : ℕ) (old : Expression) → stepped d sign old ≡ joined (step_by d) sign old (number (pos 1) sign)
 stepped_so g.up sign old = refl
 stepped_so g.down sign old = refl

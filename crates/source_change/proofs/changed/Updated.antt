@@ -1,7 +1,7 @@
 -- Changes of places, step by step.
 use Rattle.std.proofs.Common.{◌≡◌, ◌∙◌, ℕ, List, Result, sym, ap, ap₂}
 use Rattle.source_grammar.specs.Tokens as g
-use Rattle.source_grammar.specs.Tokens.{Token}
+use Rattle.source_grammar.specs.Tokens.{Name, Token}
 use Rattle.source_grammar.specs.Grammar.{Index, place, Effect, assigns, steps, update, step_before}
 use Rattle.source_grammar.proofs.grammar.Follow.{AfterPlace}
 use Rattle.source_tree.specs.Statements.{Change}
@@ -22,11 +22,11 @@ effect_follows (assigns g a e) w = tt
 effect_follows (steps g a) w = tt
 
 -- a change: its place, what is done to it, and its limits, over v variables, in this line
-abbrev pub by_parts : (integers : Integers) (v l at : ℕ) → State → List ℕ → (a : ℕ) → Index → Effect → Result (State × Change) FunctionFault
+abbrev pub by_parts : (integers : Integers) (v l at : ℕ) → State → Name → (a : ℕ) → Index → Effect → Result (State × Change) FunctionFault
 by_parts integers v l at st x a i f = aim integers v l st x a i >>= λ t. done_to integers v l st t f >>= λ g. counted_change integers v l
     at st g
 
-module _ (integers : Integers) (line : ℕ → ℕ) (n : ℕ) (st : State) (x : List ℕ) (a : ℕ) (i : Index) where
+module _ (integers : Integers) (line : ℕ → ℕ) (n : ℕ) (st : State) (x : Name) (a : ℕ) (i : Index) where
   -- an assignment or a step behind the place
   pub update_so : (f : Effect) (k : Integers) (l v : ℕ) → k ≡ integers → l ≡ line a → v ≡ n
       → read_update integers line n st (update (place x a i) f) ≡ by_parts k v l a st x a i f

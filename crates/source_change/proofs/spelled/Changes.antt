@@ -1,19 +1,33 @@
 -- The spelling of the grammar, with other tokens behind it.
 use Rattle.std.proofs.Common.{◌≡◌, ◌∙◌, ◌++◌, List, [], ◌∷◌, refl, ap, append_assoc}
-use Rattle.source_grammar.specs.Tokens.{a_name, left_bracket, right_bracket, comma, step_sign, Token, token}
-use Rattle.source_grammar.specs.Grammar.{spell_expr, Index, no_index, index, spell_index, Place, place, spell_place, Effect, assigns, steps}
+use Rattle.source_grammar.specs.Tokens.{a_name, left_bracket, right_bracket, left_brace, right_brace, comma, step_sign, change_sign}
+use Rattle.source_grammar.specs.Tokens.{replaces, Token, token}
+use Rattle.source_grammar.specs.Grammar.{Size, number_size, name_size, spell_size, Sizes, last_size, next_size, spell_sizes, spell_values}
+use Rattle.source_grammar.specs.Grammar.{Index, no_index, index, spell_index, Place, place, spell_place, Effect, assigns, steps}
 use Rattle.source_grammar.specs.Grammar.{spell_effect, Update, update, step_before, spell_update, MoreUpdates, last_update, next_update}
 use Rattle.source_grammar.specs.Grammar.{spell_more_updates, Updates, no_updates, some_updates, spell_updates, Initialiser, bare, given}
-use Rattle.source_grammar.specs.Grammar.{sized}
+use Rattle.source_grammar.specs.Grammar.{sized, filled}
 use Rattle.source_grammar.specs.Grammar.{spell_initialiser, Declarator, declarator, spell_declarator, MoreDeclarators, last_declarator}
 use Rattle.source_grammar.specs.Grammar.{next_declarator, spell_more_declarators, Declarators, declares, spell_declarators}
+use Rattle.source_grammar.specs.Grammar.{Subscripts, last_subscript, next_subscript, spell_subscripts}
+use Rattle.source_reader.specs.Reading.{first_kind}
 use Rattle.source_change.specs.Onto.{onto_index, onto_place, onto_effect, onto_update, onto_more_updates, onto_updates, onto_initialiser}
-use Rattle.source_change.specs.Onto.{onto_declarator, onto_more_declarators, onto_declarators}
+use Rattle.source_change.specs.Onto.{onto_size, onto_sizes, onto_declarator, onto_more_declarators, onto_declarators}
+
+-- the indexes of an element begin with a bracket
+pub subscripts_first : (is : Subscripts) (w : List Token) → first_kind (spell_subscripts is ++ w) ≡ left_bracket
+subscripts_first (last_subscript a e b) w = refl
+subscripts_first (next_subscript a e b is) w = refl
+
+-- so do the sizes of an array
+pub sizes_first : (ss : Sizes) (w : List Token) → first_kind (onto_sizes ss w) ≡ left_bracket
+sizes_first (last_size a s b) w = refl
+sizes_first (next_size a s b ss) w = refl
 
 -- an index with a rest behind it
 pub index_onto : (i : Index) (w : List Token) → spell_index i ++ w ≡ onto_index i w
 index_onto no_index w = refl
-index_onto (index a e b) w = ap (λ ts. token left_bracket a ∷ ts) (append_assoc (spell_expr e) (token right_bracket b ∷ []) w)
+index_onto (index is) w = refl
 
 -- a place with a rest behind it
 pub place_onto : (p : Place) (w : List Token) → spell_place p ++ w ≡ onto_place p w
@@ -42,11 +56,29 @@ updates_onto no_updates w = refl
 updates_onto (some_updates u us) w = append_assoc (spell_update u) (spell_more_updates us) w
     ∙ update_onto u (spell_more_updates us ++ w) ∙ ap (onto_update u) (more_updates_onto us w)
 
+-- a size with a rest behind it
+pub size_onto : (s : Size) (w : List Token) → spell_size s ++ w ≡ onto_size s w
+size_onto (number_size n a) w = refl
+size_onto (name_size x a) w = refl
+
+-- sizes with a rest behind it
+pub sizes_onto : (ss : Sizes) (w : List Token) → spell_sizes ss ++ w ≡ onto_sizes ss w
+sizes_onto (last_size a s b) w = ap (λ ts. token left_bracket a ∷ ts)
+    (append_assoc (spell_size s) (token right_bracket b ∷ []) w ∙ size_onto s (token right_bracket b ∷ w))
+sizes_onto (next_size a s b ss) w = ap (λ ts. token left_bracket a ∷ ts)
+    (append_assoc (spell_size s) (token right_bracket b ∷ spell_sizes ss) w ∙ size_onto s (token right_bracket b ∷ (spell_sizes ss ++ w))
+    ∙ ap (λ ts. onto_size s (token right_bracket b ∷ ts)) (sizes_onto ss w))
+
 -- what stands behind a declared name with a rest behind it
 pub initialiser_onto : (i : Initialiser) (w : List Token) → spell_initialiser i ++ w ≡ onto_initialiser i w
 initialiser_onto bare w = refl
 initialiser_onto (given a e) w = refl
-initialiser_onto (sized a n b c) w = refl
+initialiser_onto (sized ss) w = sizes_onto ss w
+initialiser_onto (filled ss a b vs c) w =
+    append_assoc (spell_sizes ss) (token (change_sign replaces) a ∷ token left_brace b ∷ (spell_values vs ++ token right_brace c ∷ [])) w
+    ∙ sizes_onto ss (token (change_sign replaces) a ∷ token left_brace b ∷ ((spell_values vs ++ token right_brace c ∷ []) ++ w))
+    ∙ ap (λ ts. onto_sizes ss (token (change_sign replaces) a ∷ token left_brace b ∷ ts))
+    (append_assoc (spell_values vs) (token right_brace c ∷ []) w)
 
 -- a declarator with a rest behind it
 pub declarator_onto : (x : Declarator) (w : List Token) → spell_declarator x ++ w ≡ onto_declarator x w

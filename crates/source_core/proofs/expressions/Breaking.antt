@@ -5,8 +5,9 @@ use Rattle.lang_tree.specs.declared.check.Check.{Check}
 use Rattle.lang_tree.specs.Meaning.{State}
 use Rattle.source_tree.specs.Expressions.{Expression, Expressions, number, variable, unknown, call, element, grouped, negative, positive}
 use Rattle.source_tree.specs.Expressions.{inverse, joined, compared, both, either, chosen, none, more}
-use Rattle.source_tree.specs.Values.{Breaks, SomeBreaks}
-use Rattle.source_core.specs.Laws.{is_over, are_over, Agree}
+use Rattle.source_tree.specs.Expressions.{Subscripts, no_subscript, subscript}
+use Rattle.source_tree.specs.Values.{Breaks, SomeBreaks, IndexBreaks}
+use Rattle.source_core.specs.Laws.{is_over, are_over, are_indexes_over, Agree}
 use Rattle.source_core.proofs.forms.Tests.{both_of}
 use Rattle.source_core.proofs.expressions.Values.{may-agrees}
 use Rattle.base_integers.specs.declared.integers.Integers.{Integers}
@@ -20,8 +21,7 @@ mutual
   breaks-agrees integers (variable i at) n x y about o a m = m
   breaks-agrees integers (unknown at) n x y about o a m = m
   breaks-agrees integers (call es at) n x y about o a m = some_breaks-agrees integers es n x y about o a m
-  breaks-agrees integers (element size bracket e at) n x y about o a m =
-      ⊎_elim (λ k. inl (breaks-agrees integers e n x y about o a k)) (λ k. inr (k.0, may-agrees integers e n x y k.0 o a k.1, k.2, k.3)) m
+  breaks-agrees integers (element is at) n x y about o a m = index_breaks-agrees integers is n x y about o a m
   breaks-agrees integers (grouped at e) n x y about o a m = breaks-agrees integers e n x y about o a m
   breaks-agrees integers (negative at e) n x y about o a m =
       ⊎_elim (λ k. inl (breaks-agrees integers e n x y about o a k)) (λ k. inr (k.0, may-agrees integers e n x y k.0 o a k.1, k.2)) m
@@ -60,3 +60,15 @@ mutual
       let p = both_of (is_over n e) (are_over n es) o in
       ⊎_elim (λ k. inl (breaks-agrees integers e n x y about p.0 a k))
       (λ r. inr ((r.0.0, may-agrees integers e n x y r.0.0 p.0 a r.0.1), some_breaks-agrees integers es n x y about p.1 a r.1)) m
+
+  -- and of indexes
+  pub index_breaks-agrees : (integers : Integers) (is : Subscripts) (n : ℕ) (x y : State) (about : Check) → IsTrue (are_indexes_over n is)
+      → Agree n x y
+      → IndexBreaks integers is x about → IndexBreaks integers is y about
+  index_breaks-agrees integers no_subscript n x y about o a m = m
+  index_breaks-agrees integers (subscript extent bracket e is) n x y about o a m =
+      let p = both_of (is_over n e) (are_indexes_over n is) o in
+      ⊎_elim (λ k. inl (breaks-agrees integers e n x y about p.0 a k))
+      (λ k. inr (⊎_elim (λ r. inl (r.0, may-agrees integers e n x y r.0 p.0 a r.1, r.2, r.3))
+      (λ r. inr ((r.0.0, may-agrees integers e n x y r.0.0 p.0 a r.0.1, r.0.2), index_breaks-agrees integers is n x y about p.1 a r.1))
+      k)) m

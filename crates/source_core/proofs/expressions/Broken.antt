@@ -1,5 +1,5 @@
 -- Where an operation may have no value, the check of it may be false on the way through the prelude.
-use Rattle.std.proofs.Common.{◌≡◌, ⊎_elim, ◌≤◌, ℕ, true, false, List, ◌++◌}
+use Rattle.std.proofs.Common.{◌≡◌, ⊎_elim, ◌≤◌, ℕ, true, false, List, [], ◌∷◌, ◌++◌}
 use Rattle.std.proofs.Common.{refl, sym, subst, arith}
 use Rattle.std.specs.Prelude.{ℤ, pos, ◌-ℤ◌, neg_ℤ, ◌&&◌, IsTrue}
 use Rattle.std.proofs.lemmas.Int.{ints}
@@ -11,10 +11,11 @@ use Rattle.lang_tree.specs.Meaning.{State, value}
 use Rattle.lang_tree.specs.Tree.{Deed, checks}
 use Rattle.source_tree.specs.Expressions.{Expression, Expressions, number, variable, unknown, call, element, grouped, negative, positive}
 use Rattle.source_tree.specs.Expressions.{inverse, joined, compared, both, either, chosen, none, more}
-use Rattle.source_tree.specs.Values.{May, Breaks, SomeBreaks}
+use Rattle.source_tree.specs.Expressions.{Subscripts, no_subscript, subscript}
+use Rattle.source_tree.specs.Values.{May, Breaks, SomeBreaks, IndexBreaks}
 use Rattle.source_core.specs.Preludes.{AllLeave, MayFail, all_under}
-use Rattle.source_core.specs.Laws.{is_over, are_over, AreIn}
-use Rattle.source_core.specs.Elaborated.{elaborated, evaluated, numbered, tested}
+use Rattle.source_core.specs.Laws.{is_over, are_over, are_indexes_over, AreIn}
+use Rattle.source_core.specs.Elaborated.{elaborated, evaluated, indexed, numbered, tested}
 use Rattle.source_core.specs.Elaborated.{operated, operation_held, is_held, ranged, form_behind, is_index}
 use Rattle.source_core.specs.Forms.{opposite}
 use Rattle.base_integers.specs.declared.integers.Integers.TheVariants.{Mathematical, Machine}
@@ -31,7 +32,8 @@ use Rattle.source_core.proofs.expressions.Values.{may-agrees}
 use Rattle.source_core.proofs.preludes.Preludes.{leave-agrees, fail-before, fail-behind, fail-under, leave-under}
 use Rattle.source_core.proofs.preludes.Results.{keeps-number, keeps-truth}
 use Rattle.source_core.proofs.expressions.Kept.{kept}
-use Rattle.source_core.proofs.expressions.Breaking.{breaks-agrees, some_breaks-agrees}
+use Rattle.source_core.proofs.expressions.Breaking.{breaks-agrees, some_breaks-agrees, index_breaks-agrees}
+use Rattle.source_core.proofs.expressions.Operated.{fits-check, leave-check}
 use Rattle.base_integers.specs.declared.integers.Integers.{Integers}
 
 -- the opposite of a number that is none of the integers
@@ -55,16 +57,7 @@ mutual
   broken integers line (variable k at) n h s o x i about m = absurd m
   broken integers line (unknown at) n h s o x i about m = absurd m
   broken integers line (call es at) n h s o x i about m = some_broken integers line es n h s o x i about m
-  broken integers line (element size bracket e at) n h s o x i about m =
-      let a = elaborated integers line e h in
-      let v = numbered integers line a in
-      let k = keeps-number integers line h (May integers e) a (kept integers line e n h s o) in
-      ⊎_elim (λ b. fail-before v.prelude _ x about (fail-number integers line a x about (broken integers line e n h s o x i about b)))
-      (λ b.
-      let r = k.keeps x b.0 b.1 in
-      subst (λ (c : Check). MayFail (elaborated integers line (element size bracket e at) h).prelude x c) (sym b.3)
-      (fail-last v.prelude record { kind = Index; at = bracket } (is_index size v.form) line x r.0 r.1
-      (no_index size v.form r.0 b.0 r.2 b.2))) m
+  broken integers line (element is at) n h s o x i about m = index_broken integers line is n h s o x i about m
   broken integers line (grouped at e) n h s o x i about m = broken integers line e n h s o x i about m
   broken integers line (negative at e) n h s o x i about m =
       let a = elaborated integers line e h in
@@ -215,3 +208,35 @@ mutual
       fail-behind a.prelude b.prelude x y.0 about y.1
       (some_broken integers line es n a.next later p.1 y.0 (in-agrees integers n x y.0 agree i) about
       (some_breaks-agrees integers es n x y.0 about p.1 agree r.1))) m
+
+  -- and of those in some indexes, and of the indexes
+  pub index_broken : (integers : Integers) (line : ℕ) (is : Subscripts) (n h : ℕ) → n ≤ h → IsTrue (are_indexes_over n is) → (x : State)
+      → AreIn integers n x
+      → (about : Check)
+      → IndexBreaks integers is x about → MayFail (indexed integers line is h).prelude x about
+  index_broken integers line no_subscript n h s o x i about m = absurd m
+  index_broken integers line (subscript extent bracket e is) n h s o x i about m =
+      let p = both_of (is_over n e) (are_indexes_over n is) o in
+      let a = elaborated integers line e h in
+      let v = numbered integers line a in
+      let k = keeps-number integers line h (May integers e) a (kept integers line e n h s p.0) in
+      let it : Check = record { kind = Index; at = bracket } in
+      let con = is_index extent v.form in
+      let first = v.prelude ++ checks it con line ∷ [] in
+      let f = fits-check h v.prelude v.next it con line k.fits in
+      let later : n ≤ v.next = omega (arith, s, k.fits.grows) in
+      let b = indexed integers line is v.next in
+      ⊎_elim (λ q. fail-before first b.prelude x about (fail-before v.prelude _ x about
+      (fail-number integers line a x about (broken integers line e n h s p.0 x i about q))))
+      (λ q. ⊎_elim
+      (λ r.
+      let y = k.keeps x r.0 r.1 in
+      fail-before first b.prelude x about (subst (λ (c : Check). MayFail first x c) (sym r.3)
+      (fail-last v.prelude it con line x y.0 y.1 (no_index extent v.form y.0 r.0 y.2 r.2))))
+      (λ r.
+      let y = k.keeps x r.0.0 r.0.1 in
+      let l = leave-check v.prelude it con line x y.0 y.1 in
+      let agree = agree_less n h x y.0 s (leave-agrees h first x y.0 f.writes l) in
+      fail-behind first b.prelude x y.0 about l
+      (index_broken integers line is n v.next later p.1 y.0 (in-agrees integers n x y.0 agree i) about
+      (index_breaks-agrees integers is n x y.0 about p.1 agree r.1))) q) m

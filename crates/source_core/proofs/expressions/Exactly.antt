@@ -71,12 +71,12 @@ inverts false = refl
 -- an exact expression may have each value that its result may be behind its prelude
 pub exactly : (line : ℕ) (e : Expression) (n h : ℕ) → n ≤ h → IsTrue (is_over n e) → IsTrue (is_exact line e h)
     → Has (May Mathematical e) (elaborated Mathematical line e h)
-exactly line (number v at) n h s o t = λ x y z l m. (m ∙ value-constant (pos v) y, tt)
+exactly line (number v at) n h s o t = λ x y z l m. (m ∙ value-constant v y, tt)
 exactly line (variable i at) n h s o t = λ x y z l m.
     m ∙ value-variable i y ∙ ap (λ (r : State). Rattle.std.specs.Prelude.get_or r i (pos 0)) l
 exactly line (unknown at) n h s o t = λ x y z l m. tt
 exactly line (call es at) n h s o t = absurd (true≢false (sym t))
-exactly line (element size bracket e at) n h s o t = absurd (true≢false (sym t))
+exactly line (element is at) n h s o t = absurd (true≢false (sym t))
 exactly line (grouped at e) n h s o t = exactly line e n h s o t
 exactly line (negative at e) n h s o t = λ x y z l m.
     let k = kept Mathematical line e n h s o in

@@ -1,13 +1,13 @@
 -- Checks that may be false where an operation has no value.
 use Rattle.std.proofs.Common.{◌≡◌, inl, inr, ℕ, Bool, true, false, List, [], ◌∷◌, ◌++◌}
 use Rattle.std.proofs.Common.{refl, sym, ap, subst, ◌∙◌, arith}
-use Rattle.std.specs.Prelude.{ℤ, pos, ◌-ℤ◌, ◌≤ℤ◌, ◌<ℤ◌, nat_le, if◌then◌else◌}
+use Rattle.std.specs.Prelude.{ℤ, pos, negsuc, ◌-ℤ◌, ◌≤ℤ◌, ◌<ℤ◌, if◌then◌else◌}
 use Rattle.std.proofs.lemmas.Int.{ints, by_lt_z}
 use Rattle.std.proofs.lemmas.Bool.{leb-true}
 use Rattle.lang_tree.specs.declared.form.Form.{Form}
 use Rattle.lang_tree.specs.declared.check.Check.{Check}
 use Rattle.lang_tree.specs.declared.check.CheckKind.TheVariants.{Divisor, Range}
-use Rattle.lang_tree.specs.declared.cond.Rel.TheVariants.{Ne}
+use Rattle.lang_tree.specs.declared.cond.Rel.TheVariants.{Ne, Le}
 use Rattle.lang_tree.specs.Tree as tree
 use Rattle.lang_tree.specs.Tree.{Condition}
 use Rattle.lang_tree.specs.Meaning.{State, value, MayBe}
@@ -15,14 +15,14 @@ use Rattle.lang_tree.specs.Tree.{Deed, checks}
 use Rattle.base_integers.specs.declared.integers.Width.{Width}
 use Rattle.base_integers.specs.declared.integers.Integers.{Integers}
 use Rattle.base_integers.specs.declared.integers.Integers.TheVariants.{Mathematical, Machine}
-use Rattle.base_integers.specs.Integers.{greatest}
-use Rattle.source_tree.specs.Expressions.{Operation, plus, minus, times, over, remainder}
+use Rattle.base_integers.specs.Integers.{greatest, Has}
+use Rattle.source_tree.specs.Expressions.{Operation, plus, minus, times, over, remainder, Extent, endless, elements}
 use Rattle.source_tree.specs.Values.{DividesByZero, Exceeds, IsIndex}
 use Rattle.source_core.specs.Forms.{constant_form, is_constant}
 use Rattle.source_core.specs.Preludes.{AllLeave, MayFail}
 use Rattle.source_core.specs.Elaborated.{Result, a_form, a_truth, any, Elaborated, checked, form_behind, is_held, number_at, numbered}
 use Rattle.source_core.specs.Elaborated.{as_number, operated, quotient_by, ranged, remainder_by, unless_zero, is_divisor, is_unit, is_index}
-use Rattle.source_core.specs.Elaborated.{related}
+use Rattle.source_core.specs.Elaborated.{has, related}
 use Rattle.source_core.proofs.forms.Forms.{value-minus, value-constant, value-is_constant}
 use Rattle.source_core.proofs.preludes.Preludes.{fail-before, fail-behind}
 use Rattle.source_core.proofs.preludes.Held.{held-false}
@@ -112,11 +112,17 @@ below_zero z k i p q r = λ s. omega (arith, ints, p, q, r, s)
 above_last : (z i k : ℤ) (size : ℕ) → z ≡ i -ℤ k → k ≡ pos size -ℤ pos 1 → pos size ≤ℤ i → ¬ (z ≤ℤ pos 0)
 above_last z i k size p q r = λ s. omega (arith, ints, p, q, r, s)
 
+not_from_first : (f : Form) (y : State) (i : ℤ) → i ≡ value f y → i <ℤ pos 0
+    → MayBe false (related Le (constant_form (pos 0)) f) y
+not_from_first f y i e b =
+    below_zero _ _ i (value-minus (constant_form (pos 0)) f y ∙ ap (λ v. value (constant_form (pos 0)) y -ℤ v) (sym e))
+    (value-constant (pos 0) y) b
+
 -- where a number is no index the condition that it is may be false
-pub no_index : (size : ℕ) (f : Form) (y : State) (i : ℤ) → i ≡ value f y → ¬ (IsIndex size i) → MayBe false (is_index size f) y
-no_index size f y i e n = by_lt_z i (pos 0)
-    (λ b. inl (below_zero _ _ i (value-minus (constant_form (pos 0)) f y ∙ ap (λ v. value (constant_form (pos 0)) y -ℤ v) (sym e))
-    (value-constant (pos 0) y) b))
+pub no_index : (extent : Extent) (f : Form) (y : State) (i : ℤ) → i ≡ value f y → ¬ (IsIndex extent i)
+    → MayBe false (is_index extent f) y
+no_index endless f y i e n = by_lt_z i (pos 0) (λ b. not_from_first f y i e b) (λ a. absurd (n a))
+no_index (elements size) f y i e n = by_lt_z i (pos 0) (λ b. inl (not_from_first f y i e b))
     (λ a. inr (above_last _ i _ size (value-minus f (constant_form (pos size -ℤ pos 1)) y
     ∙ ap (λ v. v -ℤ value (constant_form (pos size -ℤ pos 1)) y) (sym e)) (value-constant (pos size -ℤ pos 1) y)
     (by_lt_z i (pos size) (λ l. absurd (n (a, l))) (λ g. g))))
@@ -128,18 +134,23 @@ pub fail-ranged : (integers : Integers) (line place : ℕ) (holds : Width → Fo
 fail-ranged Mathematical line place holds e x about m = m
 fail-ranged (Machine width) line place holds e x about m = fail-before e.prelude _ x about m
 
--- a number of the text that is none of the integers
-pub fail-number_at : (integers : Integers) (line v at h : ℕ) (x : State) (about : Check) → Exceeds integers at about (pos v)
+-- a number that passes as one of the integers is one
+has_held : (width : Width) (v : ℤ) → has width v ≡ true → Has (Machine width) v
+has_held width (pos v) e = let l = leb-true v (greatest width) e in (omega (arith, ints), omega (arith, ints, l))
+has_held width (negsuc v) e = let l = leb-true v (greatest width) e in (omega (arith, ints, l), omega (arith, ints))
+
+-- a number that is none of the integers
+pub fail-number_at : (integers : Integers) (line : ℕ) (v : ℤ) (at h : ℕ) (x : State) (about : Check) → Exceeds integers at about v
     → MayFail (number_at integers line v at h).prelude x about
 fail-number_at Mathematical line v at h x about m = absurd (m.1 tt)
-fail-number_at (Machine width) line v at h x about m = by (nat_le v (greatest width)) refl
+fail-number_at (Machine width) line v at h x about m = by (has width v) refl
   where
     c : Condition
-    c = is_held width (constant_form (pos v))
+    c = is_held width (constant_form v)
 
-    by : (t : Bool) → nat_le v (greatest width) ≡ t
-        → MayFail (if t then form_behind [] h (constant_form (pos v)) else form_behind (checked line Range at c ∷ []) h
-        (constant_form (pos v))).prelude
+    by : (t : Bool) → has width v ≡ t
+        → MayFail (if t then form_behind [] h (constant_form v) else form_behind (checked line Range at c ∷ []) h
+        (constant_form v)).prelude
         x about
-    by true e = absurd (m.1 (let l = leb-true v (greatest width) e in (omega (arith, ints), omega (arith, ints, l))))
-    by false e = inl (sym m.0, held-false width (constant_form (pos v)) x (pos v) (sym (value-constant (pos v) x)) m.1)
+    by true e = absurd (m.1 (has_held width v e))
+    by false e = inl (sym m.0, held-false width (constant_form v) x v (sym (value-constant v x)) m.1)

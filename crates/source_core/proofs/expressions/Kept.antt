@@ -1,20 +1,22 @@
 -- The values that an expression may have are those of what it is in the core.
-use Rattle.std.proofs.Common.{◌≡◌, ◌≤◌, ℕ, Bool, true, false, not, ◌++◌}
+use Rattle.std.proofs.Common.{◌≡◌, ◌≤◌, ℕ, Bool, true, false, not, [], ◌∷◌, ◌++◌}
 use Rattle.std.proofs.Common.{refl, sym, ◌∙◌, arith}
 use Rattle.std.specs.Prelude.{ℤ, pos, negsuc, neg_ℤ, ◌-ℤ◌, ◌&&◌, IsTrue}
 use Rattle.std.proofs.lemmas.Int.{ints}
 use Rattle.std.proofs.lemmas.Bool.{ltb-true}
 use Rattle.lang_tree.specs.Meaning.{State, MayBe}
 use Rattle.lang_tree.specs.Tree as tree
+use Rattle.lang_tree.specs.Tree.{checks}
 use Rattle.lang_tree.specs.declared.check.Check.{Check}
 use Rattle.lang_tree.specs.declared.check.CheckKind.TheVariants.{Index}
 use Rattle.source_tree.specs.Expressions.{Expression, Expressions, number, variable, unknown, call, element, grouped, negative, positive}
 use Rattle.source_tree.specs.Expressions.{inverse, joined, compared, both, either, chosen, none, more}
-use Rattle.source_tree.specs.Values.{truth_number, May, AllMay}
-use Rattle.source_core.specs.Laws.{is_over, are_over}
+use Rattle.source_tree.specs.Expressions.{Subscripts, no_subscript, subscript}
+use Rattle.source_tree.specs.Values.{truth_number, May, AllMay, AreIndexes}
+use Rattle.source_core.specs.Laws.{is_over, are_over, are_indexes_over}
 use Rattle.source_core.specs.Preludes.{AllLeave}
 use Rattle.source_core.specs.Elaborated.{Elaborated, Evaluated, elaborated, evaluated, form_behind, numbered, tested, is_held}
-use Rattle.source_core.specs.Elaborated.{is_index}
+use Rattle.source_core.specs.Elaborated.{indexed, is_index}
 use Rattle.source_core.specs.Forms.{opposite}
 use Rattle.source_core.proofs.forms.Tests.{both_of}
 use Rattle.source_core.proofs.forms.Forms.{value-variable, value-opposite}
@@ -25,7 +27,7 @@ use Rattle.source_core.proofs.preludes.Results.{keeps-number, keeps-truth}
 use Rattle.source_core.proofs.expressions.Operated.{fits-check, leave-check, keeps-operation_on, keeps-number_at, keeps-ranged}
 use Rattle.source_core.proofs.expressions.Operands.{Rests, both-numbered, keeps-compared, joint-tested, keeps-both, keeps-either}
 use Rattle.source_core.proofs.expressions.Operands.{keeps-choice}
-use Rattle.source_core.proofs.expressions.Values.{may-agrees, all_may-agrees}
+use Rattle.source_core.proofs.expressions.Values.{may-agrees, all_may-agrees, indexes-agrees}
 use Rattle.base_integers.specs.declared.integers.Integers.{Integers}
 
 -- a value rests on the first n variables alone, so on more, too
@@ -37,7 +39,7 @@ pub through : (integers : Integers) {n : ℕ} {P Q : State → ℤ → Type 0} {
     → Keeps integers n P e → Keeps integers n Q e
 through integers f k = record { fits = k.fits; over = k.over; keeps = λ x z m. k.keeps x z (f x z m) }
 
--- what is kept of arguments
+-- what is kept of arguments, or of indexes
 pub record KeepsAll (n : ℕ) (P : State → Type 0) (e : Evaluated) : Type 0 where
   -- their prelude takes the hidden variables from n up to the next one
   pub fits : Fits n e.prelude e.next
@@ -72,15 +74,11 @@ mutual
     over = tt;
     keeps = λ x z m. let r = k.keeps x m.0 in (r.0, r.1, m.1);
   }
-  kept integers line (element size bracket e at) n h s o =
-      let k = keeps-number integers line h (May integers e) (elaborated integers line e h) (kept integers line e n h s o) in
-      let i = numbered integers line (elaborated integers line e h) in
-      let about : Check = record { kind = Index; at = bracket } in
-      record {
-        fits = fits-check h i.prelude i.next about (is_index size i.form) line k.fits;
-        over = tt;
-        keeps = λ x z m. let r = k.keeps x m.0 m.1 in (r.0, leave-check i.prelude about (is_index size i.form) line x r.0 r.1, m.3);
-      }
+  kept integers line (element is at) n h s o = let k = all_indexed integers line is n h s o in record {
+    fits = k.fits;
+    over = tt;
+    keeps = λ x z m. let r = k.keeps x m.0 in (r.0, r.1, m.1);
+  }
   kept integers line (grouped at e) n h s o = kept integers line e n h s o
   kept integers line (negative at e) n h s o =
       let k = keeps-number integers line h (May integers e) (elaborated integers line e h) (kept integers line e n h s o) in
@@ -181,4 +179,28 @@ mutual
             let agree = leave-agrees h a.prelude x r.0 k.fits.writes r.1 in
             let t = l.keeps r.0 (all_may-agrees integers es n x r.0 p.1 (agree_less n h x r.0 s agree) m.1) in
             (t.0, leave-then a.prelude b.prelude x r.0 t.0 r.1 t.1);
+      }
+
+  -- so where indexes are within their extents
+  pub all_indexed : (integers : Integers) (line : ℕ) (is : Subscripts) (n h : ℕ) → n ≤ h → IsTrue (are_indexes_over n is)
+      → KeepsAll h (AreIndexes integers is) (indexed integers line is h)
+  all_indexed integers line no_subscript n h s o = record { fits = fits-none h; keeps = λ x m. (x, refl) }
+  all_indexed integers line (subscript extent bracket e is) n h s o =
+      let p = both_of (is_over n e) (are_indexes_over n is) o in
+      let k = keeps-number integers line h (May integers e) (elaborated integers line e h) (kept integers line e n h s p.0) in
+      let i = numbered integers line (elaborated integers line e h) in
+      let about : Check = record { kind = Index; at = bracket } in
+      let c = is_index extent i.form in
+      let first = i.prelude ++ checks about c line ∷ [] in
+      let f = fits-check h i.prelude i.next about c line k.fits in
+      let l = all_indexed integers line is n i.next (omega (arith, s, k.fits.grows)) p.1 in
+      let b = indexed integers line is i.next in
+      record {
+        fits = fits-then h i.next b.next first b.prelude f l.fits;
+        keeps = λ x m.
+            let r = k.keeps x m.0.0 m.0.1 in
+            let q = leave-check i.prelude about c line x r.0 r.1 in
+            let agree = leave-agrees h first x r.0 f.writes q in
+            let t = l.keeps r.0 (indexes-agrees integers is n x r.0 p.1 (agree_less n h x r.0 s agree) m.1) in
+            (t.0, leave-then first b.prelude x r.0 t.0 q t.1);
       }

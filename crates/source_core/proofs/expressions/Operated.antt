@@ -1,7 +1,7 @@
 -- Operations on two forms give the values that they have by C.
 use Rattle.std.proofs.Common.{◌≡◌, ◌≢◌, ◌⊎◌, inl, inr, ◌/◌, ℕ, suc, Bool, true, false, List, [], ◌∷◌, ◌++◌}
 use Rattle.std.proofs.Common.{refl, sym, ap, ap₂, subst, ◌∙◌, arith, ◌*◌, true≢false}
-use Rattle.std.specs.Prelude.{ℤ, pos, negsuc, ◌+ℤ◌, ◌-ℤ◌, ◌*ℤ◌, neg_ℤ, int_div, int_rem, IsTrue, ◌||◌, if◌then◌else◌, nat_le}
+use Rattle.std.specs.Prelude.{ℤ, pos, negsuc, ◌+ℤ◌, ◌-ℤ◌, ◌*ℤ◌, neg_ℤ, int_div, int_rem, IsTrue, ◌||◌, if◌then◌else◌}
 use Rattle.std.specs.Ordering.{int_eq}
 use Rattle.std.proofs.lemmas.Int.{ints}
 use Rattle.std.proofs.lemmas.Bool.Decides.{Decides-int_eq}
@@ -17,7 +17,7 @@ use Rattle.source_core.specs.Forms.{constant_form, variable_form, scaled, is_con
 use Rattle.source_core.specs.Preludes.{AllLeave}
 use Rattle.source_core.specs.Elaborated.{operated, product, quotient_by, remainder_by, unless_zero, quotient_behind, is_divisor}
 use Rattle.source_core.specs.Elaborated.{held, checked, Elaborated, form_in, is_held, is_unit, divides, havocked, number_at, ranged}
-use Rattle.source_core.specs.Elaborated.{operation_held, operation_on, form_behind, related}
+use Rattle.source_core.specs.Elaborated.{has, operation_held, operation_on, form_behind, related}
 use Rattle.lang_tree.specs.Tree.{Condition}
 use Rattle.lang_tree.specs.declared.check.Check.{Check}
 use Rattle.lang_tree.specs.declared.check.CheckKind.TheVariants.{Divisor, Range}
@@ -32,7 +32,7 @@ use Rattle.source_core.proofs.preludes.Parts.{Fits, fits-none, fits-then, hidden
 use Rattle.source_core.proofs.preludes.Held.{take-any, fits-any}
 use Rattle.base_integers.specs.declared.integers.Width.{Width}
 use Rattle.base_integers.specs.declared.integers.Integers.TheVariants.{Mathematical, Machine}
-use Rattle.base_integers.specs.Integers.{greatest, Has}
+use Rattle.base_integers.specs.Integers.{Has}
 use Rattle.base_integers.specs.declared.integers.Integers.{Integers}
 
 -- two operands whose values are those of two forms behind a prelude
@@ -355,28 +355,28 @@ keeps-operation_on integers line n o sign R ds h f g b =
     keeps-ranged integers line n (Given integers o R) sign (λ width r. operation_held width o f g r)
     (operated integers line o sign ds h f g) (keeps-operated integers line n o sign R ds h f g b)
 
--- a number of the text is its own result
-pub keeps-number_at : (integers : Integers) (line h v at : ℕ) → Keeps integers h (λ x z. z ≡ pos v) (number_at integers line v at h)
+-- a number is its own result
+pub keeps-number_at : (integers : Integers) (line h : ℕ) (v : ℤ) (at : ℕ) → Keeps integers h (λ x z. z ≡ v) (number_at integers line v at h)
 keeps-number_at Mathematical line h v at = record {
   fits = fits-none h;
-  over = over_constant h (pos v);
-  keeps = λ x z m. (x, refl, m ∙ sym (value-constant (pos v) x));
+  over = over_constant h v;
+  keeps = λ x z m. (x, refl, m ∙ sym (value-constant v x));
 }
-keeps-number_at (Machine width) line h v at = by (nat_le v (greatest width))
+keeps-number_at (Machine width) line h v at = by (has width v)
   where
-    by : (t : Bool) → Keeps (Machine width) h (λ x z. z ≡ pos v) (if t then form_behind [] h (constant_form (pos v))
-        else form_behind (checked line Range at (is_held width (constant_form (pos v))) ∷ []) h (constant_form (pos v)))
+    by : (t : Bool) → Keeps (Machine width) h (λ x z. z ≡ v) (if t then form_behind [] h (constant_form v)
+        else form_behind (checked line Range at (is_held width (constant_form v)) ∷ []) h (constant_form v))
     by true = record {
       fits = fits-none h;
-      over = over_constant h (pos v);
-      keeps = λ x z m. (x, refl, m ∙ sym (value-constant (pos v) x));
+      over = over_constant h v;
+      keeps = λ x z m. (x, refl, m ∙ sym (value-constant v x));
     }
     by false = record {
-      fits = fits-check h [] h record { kind = Range; at = at } (is_held width (constant_form (pos v))) line (fits-none h);
-      over = over_constant h (pos v);
+      fits = fits-check h [] h record { kind = Range; at = at } (is_held width (constant_form v)) line (fits-none h);
+      over = over_constant h v;
       keeps = λ x z m. (
         x,
-        leave-check [] record { kind = Range; at = at } (is_held width (constant_form (pos v))) line x x refl,
-        m ∙ sym (value-constant (pos v) x),
+        leave-check [] record { kind = Range; at = at } (is_held width (constant_form v)) line x x refl,
+        m ∙ sym (value-constant v x),
       );
     }

@@ -1,7 +1,7 @@
 -- What an expression is in the core, but for its prelude, and what it may be by all integers, whatever the integers by which it is
 -- computed.
 use Rattle.std.proofs.Common.{◌≡◌, inl, inr, ⊎_elim, ℕ, suc, Bool, true, false, List, [], ◌∷◌, ◌++◌, refl, ap, ap₂, subst, ◌∙◌}
-use Rattle.std.specs.Prelude.{ℤ, pos, nat_le, if◌then◌else◌}
+use Rattle.std.specs.Prelude.{ℤ, pos, if◌then◌else◌}
 use Rattle.lang_tree.specs.declared.form.Form.{Form}
 use Rattle.lang_tree.specs.declared.check.CheckKind.TheVariants.{Range}
 use Rattle.lang_tree.specs.Tree as tree
@@ -10,14 +10,15 @@ use Rattle.lang_tree.specs.Meaning.{State}
 use Rattle.base_integers.specs.declared.integers.Width.{Width}
 use Rattle.base_integers.specs.declared.integers.Integers.{Integers}
 use Rattle.base_integers.specs.declared.integers.Integers.TheVariants.{Mathematical, Machine}
-use Rattle.base_integers.specs.Integers.{greatest}
 use Rattle.source_tree.specs.Expressions.{Operation, plus, minus, times, over, remainder}
 use Rattle.source_tree.specs.Expressions.{Expression, Expressions, number, variable, unknown, call, element, grouped, negative, positive}
 use Rattle.source_tree.specs.Expressions.{inverse, joined, compared, both, either, chosen, none, more}
-use Rattle.source_tree.specs.Values.{May, AllMay}
+use Rattle.source_tree.specs.Expressions.{Subscripts, no_subscript, subscript}
+use Rattle.source_tree.specs.Values.{May, AllMay, AreIndexes}
 use Rattle.source_core.specs.Forms.{constant_form, is_constant, opposite, variable_form}
-use Rattle.source_core.specs.Elaborated.{Result, a_form, a_truth, any, Elaborated, Numbered, elaborated, evaluated, numbered, as_number}
-use Rattle.source_core.specs.Elaborated.{as_condition, checked, form_behind, is_divisor, is_held, is_unit, number_at, operated}
+use Rattle.source_core.specs.Elaborated.{Result, a_form, a_truth, any, Elaborated, Numbered, elaborated, evaluated, indexed, numbered}
+use Rattle.source_core.specs.Elaborated.{as_number, has, as_condition, checked, form_behind, is_divisor, is_held, is_unit, number_at}
+use Rattle.source_core.specs.Elaborated.{operated}
 use Rattle.source_core.specs.Elaborated.{operation_held}
 use Rattle.source_core.specs.Elaborated.{ranged, related}
 use Rattle.source_core.proofs.expressions.Exact.{held_by_all}
@@ -30,7 +31,7 @@ mutual
   may-by_all integers (variable i at) x z m = m
   may-by_all integers (unknown at) x z m = tt
   may-by_all integers (call es at) x z m = (all-by_all integers es x m.0, tt)
-  may-by_all integers (element size bracket e at) x z m = (m.0, may-by_all integers e x m.0 m.1, m.2, tt)
+  may-by_all integers (element is at) x z m = (indexes-by_all integers is x m.0, tt)
   may-by_all integers (grouped at e) x z m = may-by_all integers e x z m
   may-by_all integers (negative at e) x z m = (m.0, may-by_all integers e x m.0 m.1, m.2, tt)
   may-by_all integers (positive at e) x z m = may-by_all integers e x z m
@@ -53,6 +54,12 @@ mutual
   pub all-by_all : (integers : Integers) (es : Expressions) (x : State) → AllMay integers es x → AllMay Mathematical es x
   all-by_all integers none x m = tt
   all-by_all integers (more e es) x m = ((m.0.0, may-by_all integers e x m.0.0 m.0.1), all-by_all integers es x m.1)
+
+  -- and each of some indexes
+  pub indexes-by_all : (integers : Integers) (is : Subscripts) (x : State) → AreIndexes integers is x → AreIndexes Mathematical is x
+  indexes-by_all integers no_subscript x m = tt
+  indexes-by_all integers (subscript extent bracket e is) x m =
+      ((m.0.0, may-by_all integers e x m.0.0 m.0.1, m.0.2), indexes-by_all integers is x m.1)
 
 -- ---- results
 -- two expressions have one result, and take the same hidden variables
@@ -100,16 +107,16 @@ module _ (integers : Integers) (line : ℕ) where
       (subst (λ i. SameAs left (operated Mathematical line o sign es h i q)) b
       (subst (λ i. SameAs left (operated Mathematical line o sign es h f i)) c (operated_same o sign ds es h f g)))
 
-  number_same : (v at h : ℕ) → SameAs (number_at integers line v at h) (number_at Mathematical line v at h)
+  number_same : (v : ℤ) (at h : ℕ) → SameAs (number_at integers line v at h) (number_at Mathematical line v at h)
   number_same v at h = by integers
     where
       by : (k : Integers) → SameAs (number_at k line v at h) (number_at Mathematical line v at h)
       by Mathematical = (refl, refl)
-      by (Machine width) = one (nat_le v (greatest width))
+      by (Machine width) = one (has width v)
         where
-          one : (t : Bool) → SameAs (if t then form_behind [] h (constant_form (pos v))
-              else form_behind (checked line Range at (is_held width (constant_form (pos v))) ∷ []) h (constant_form (pos v)))
-              (form_behind [] h (constant_form (pos v)))
+          one : (t : Bool) → SameAs (if t then form_behind [] h (constant_form v)
+              else form_behind (checked line Range at (is_held width (constant_form v)) ∷ []) h (constant_form v))
+              (form_behind [] h (constant_form v))
           one true = (refl, refl)
           one false = (refl, refl)
 
@@ -138,8 +145,7 @@ module _ (integers : Integers) (line : ℕ) where
     elaborated_same (variable i at) h = (refl, refl)
     elaborated_same (unknown at) h = (refl, refl)
     elaborated_same (call es at) h = (refl, evaluated_same es h)
-    elaborated_same (element size bracket e at) h =
-        (refl, (numbered_same (elaborated integers line e h) (elaborated Mathematical line e h) (elaborated_same e h)).1)
+    elaborated_same (element is at) h = (refl, indexed_same is h)
     elaborated_same (grouped at e) h = elaborated_same e h
     elaborated_same (negative at e) h =
         let a = numbered_same (elaborated integers line e h) (elaborated Mathematical line e h) (elaborated_same e h) in
@@ -192,3 +198,11 @@ module _ (integers : Integers) (line : ℕ) where
     evaluated_same (more e es) h =
         let a = elaborated_same e h in
         evaluated_same es (elaborated integers line e h).next ∙ ap (λ k. (evaluated Mathematical line es k).next) a.1
+
+    -- some indexes
+    pub indexed_same : (is : Subscripts) (h : ℕ) → (indexed integers line is h).next ≡ (indexed Mathematical line is h).next
+    indexed_same no_subscript h = refl
+    indexed_same (subscript extent bracket e is) h =
+        let a = numbered_same (elaborated integers line e h) (elaborated Mathematical line e h) (elaborated_same e h) in
+        indexed_same is (numbered integers line (elaborated integers line e h)).next
+        ∙ ap (λ k. (indexed Mathematical line is k).next) a.1

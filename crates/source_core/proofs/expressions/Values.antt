@@ -5,8 +5,9 @@ use Rattle.std.proofs.lemmas.Bool.{ltb-true}
 use Rattle.lang_tree.specs.Meaning.{State}
 use Rattle.source_tree.specs.Expressions.{Expression, Expressions, number, variable, unknown, call, element, grouped, negative, positive}
 use Rattle.source_tree.specs.Expressions.{inverse, joined, compared, both, either, chosen, none, more}
-use Rattle.source_tree.specs.Values.{May, AllMay}
-use Rattle.source_core.specs.Laws.{is_over, are_over, Agree}
+use Rattle.source_tree.specs.Expressions.{Subscripts, no_subscript, subscript}
+use Rattle.source_tree.specs.Values.{May, AllMay, AreIndexes}
+use Rattle.source_core.specs.Laws.{is_over, are_over, are_indexes_over, Agree}
 use Rattle.source_core.proofs.forms.Tests.{both_of}
 use Rattle.base_integers.specs.declared.integers.Integers.{Integers}
 
@@ -18,7 +19,7 @@ mutual
   may-agrees integers (variable i at) n x y z o a m = m ∙ a i (ltb-true i n o)
   may-agrees integers (unknown at) n x y z o a m = m
   may-agrees integers (call es at) n x y z o a m = (all_may-agrees integers es n x y o a m.0, m.1)
-  may-agrees integers (element size bracket e at) n x y z o a m = (m.0, may-agrees integers e n x y m.0 o a m.1, m.2, m.3)
+  may-agrees integers (element is at) n x y z o a m = (indexes-agrees integers is n x y o a m.0, m.1)
   may-agrees integers (grouped at e) n x y z o a m = may-agrees integers e n x y z o a m
   may-agrees integers (negative at e) n x y z o a m = (m.0, may-agrees integers e n x y m.0 o a m.1, m.2, m.3)
   may-agrees integers (positive at e) n x y z o a m = may-agrees integers e n x y z o a m
@@ -50,3 +51,11 @@ mutual
   all_may-agrees integers (more e es) n x y o a m =
       let p = both_of (is_over n e) (are_over n es) o in
       ((m.0.0, may-agrees integers e n x y m.0.0 p.0 a m.0.1), all_may-agrees integers es n x y p.1 a m.1)
+
+  -- so indexes that are within their extents
+  pub indexes-agrees : (integers : Integers) (is : Subscripts) (n : ℕ) (x y : State) → IsTrue (are_indexes_over n is) → Agree n x y
+      → AreIndexes integers is x → AreIndexes integers is y
+  indexes-agrees integers no_subscript n x y o a m = tt
+  indexes-agrees integers (subscript extent bracket e is) n x y o a m =
+      let p = both_of (is_over n e) (are_indexes_over n is) o in
+      ((m.0.0, may-agrees integers e n x y m.0.0 p.0 a m.0.1, m.0.2), indexes-agrees integers is n x y p.1 a m.1)

@@ -1,6 +1,7 @@
 -- Each function of the cycle answers what is wanted of what it reads, behind what it calls.
 use Rattle.std.proofs.Common.{◌≡◌, ◌∙◌, ◌+◌, ◌++◌, ◌∷◌, suc, [], Some, Ok, Err, refl, sym}
-use Rattle.std.proofs.Common.{ap, subst, arith, append_assoc}
+use Rattle.std.proofs.Common.{ap, subst, arith, append_assoc, ◌≤◌, length, map}
+use Rattle.std.proofs.lemmas.List.{length-map}
 use Rattle.std.specs.Option.{option_map}
 use Rattle.source_tree.specs.Expressions as made
 use Rattle.source_tree.specs.Expressions.{Expression}
@@ -9,31 +10,36 @@ use Rattle.source_grammar.specs.Tokens.{token, infix_sign, question, colon, left
 use Rattle.source_grammar.specs.Tokens.{a_name, level, sign_of}
 use Rattle.source_grammar.specs.Symbols.{op_of, symbol_kind}
 use Rattle.source_grammar.specs.View.{plain_kind}
-use Rattle.source_grammar.specs.Grammar.{Expr, Groups, spell_expr, spell_arguments}
+use Rattle.source_grammar.specs.Grammar.{Groups, spell_expr, spell_arguments, spell_subscripts}
+use Rattle.source_tree.specs.Extents.{extent_of}
 use Rattle.source_meaning.specs.Results.{◌>>=◌}
-use Rattle.source_meaning.specs.Names.{array_of, as_called, known}
+use Rattle.source_meaning.specs.Names.{array_of, as_called, thing_of}
 use Rattle.source_meaning.specs.Expressions as meaning
 use Rattle.source_meaning.specs.Expressions.{first_of, ranged, read, read_arguments}
 use Rattle.source_reader.specs.Answers.{Answers}
 use Rattle.source_value.specs.declared.value.Value.{Value}
 use Rattle.source_reader.specs.Reading.{Reading, behind_first, first_kind, first_place}
-use Rattle.source_reader.proofs.Going.{goes_then, passed_goes, same_goes}
+use Rattle.source_reader.proofs.Going.{behind_fewer, mark_less, goes_then, passed_goes, same_goes, stays}
+use Rattle.source_reader.specs.declared.mark.Mark.TheVariants as mark
 use Rattle.source_reader.specs.Placed.{placed}
-use Rattle.source_expression.specs.Signs.{is_closing, is_comma, is_question, opening_in, prefix_of, sign_in, work_in}
+use Rattle.source_expression.specs.Signs.{is_closing, is_comma, is_question, prefix_of, sign_in, work_in}
 use Rattle.source_expression.specs.declared.signs.Opening.TheVariants as opening
 use Rattle.source_expression.specs.Sides.{IsRead}
-use Rattle.source_expression.specs.Readings.{Reads}
 use Rattle.source_expression.specs.Joins.{Stops}
 use Rattle.source_expression.proofs.Answering.{beside, handed, ok_then}
-use Rattle.source_expression.proofs.Shapes.{first_place_of, sign_plain, question_plain, operand_by, no_opening}
+use Rattle.source_expression.proofs.Shapes.{first_place_of, sign_plain, question_plain, no_opening}
 use Rattle.source_expression.proofs.Joined.{goes_next, goes_last}
 use Rattle.source_expression.proofs.Leaves.{passed_to, place_is, found_is}
 use Rattle.source_expression.proofs.Parts.{called_ok}
-use Rattle.source_expression.proofs.Whole.{parts, behind_operand, operand_ahead, operand_stops, operand_fault, operand_read, whole_fault}
+use Rattle.source_expression.proofs.Whole.{operand_opens, parts, behind_operand, operand_ahead, operand_stops}
+use Rattle.source_expression.proofs.Whole.{operand_fault, operand_read, whole_fault}
 use Rattle.source_expression.proofs.Whole.{whole_read, whole_choice}
 use Rattle.source_expression.proofs.Behind.{half, half_fault, whole, level_more, right_fault, right_read}
-use Rattle.source_expression.proofs.Listed.{listing_last}
 use Rattle.source_expression.proofs.Given.{closing_plain, comma_plain, none_read, first_fault, first_read, next_fault, next_read}
+use Rattle.source_expression.proofs.Given.{listing_last, argument_passed, argument_read, ends_after}
+use Rattle.source_expression.proofs.Listed.{one_fault, one_done}
+use Rattle.source_expression.proofs.Indexed.{element_named, index_whole, indexing_first, indexing_fault, indexing_more, indexing_last}
+use Rattle.source_expression.proofs.Indexed.{extents_from}
 use Rattle.source_expression.proofs.+expressions.Goals as goal
 
 -- ---- a choice
@@ -90,6 +96,17 @@ expressions::choice-returns-clause-reads t c = λ x h sign between e f rest i ge
     (c.placed-2.ensures ∙ ap (λ n. placed n c.chosen.result)
     (place_is c.args.reader.now question sign (spell_expr e ++ behind) q c.in_ok-sign.sign c.in_ok-sign.ensures.1))
     rb.2.1
+
+pub expressions::choice-expression-requires-2 : goal.expressions::choice-expression-requires-2
+expressions::choice-expression-requires-2 t c =
+    let a = mark_less mark.Question c.args.reader.now.ahead c.in_ok-sign.ensures.0 in
+    let b : length c.take.new.self.ahead ≡ length (behind_first c.args.reader.now.ahead) =
+    ap (λ (r : Reading). length r.ahead) c.in_ok-sign.ensures.2 in
+    let d = c.expression.ensures.goes.fewer in
+    let e = behind_fewer c.expression.new.reader.ahead in
+    let f : length c.take-2.new.self.ahead ≡ length (behind_first c.expression.new.reader.ahead) =
+    ap (λ (r : Reading). length r.ahead) c.in_ok-_between.ensures.2 in
+    (omega (arith, a, b, d, e, f), tt)
 
 -- ---- an expression
 pub expressions::expression-returns-in_err-value-clause-reads : goal.expressions::expression-returns-in_err-value-clause-reads
@@ -198,111 +215,78 @@ expressions::joins-returns-clause-reads t c = λ e rest l g s q.
 -- ---- operands
 pub operands::operand-returns-in-Some-Number-clause-reads : goal.operands::operand-returns-in-Some-Number-clause-reads
 operands::operand-returns-in-Some-Number-clause-reads t c = λ e rest g s q.
-    let site = c.args.site in
-    let st = c.args.known.now in
-    let o = opening.Number in
     let i = c.in-Some-Number in
-    let M : Expr → Type 0 = λ e. c.args.reader.now.ahead ≡ spell_expr e ++ rest
-    → Reads site c.args.next (read site.integers site.line st e c.args.next) rest c.number.result c.number.new.reader in
-    let r : Some o ≡ opening_in (symbol_kind c.symbol.result) (symbol_kind c.second.result) = ap Some (sym i.field-0-is) ∙ sym i.is
-    ∙ c.opening_in.ensures in
-    operand_by M e rest (symbol_kind c.symbol.result) (symbol_kind c.second.result) o g s
-    (c.symbol.ensures ∙ ap (λ ts. plain_kind (first_kind ts)) q)
-    (c.second.ensures ∙ ap (λ ts. plain_kind (first_kind (behind_first ts))) q) r
-    (λ v a q. c.number.ensures.reads v a st rest q) q
+    operand_opens c.args.site c.args.known.now c.args.next c.args.reader.now c.number.result c.number.new.reader e rest
+    (symbol_kind c.symbol.result) (symbol_kind c.second.result) opening.Number g s q c.symbol.ensures c.second.ensures
+    (ap Some (sym i.field-0-is) ∙ sym i.is ∙ c.opening_in.ensures)
+    (λ v a q. c.number.ensures.reads v a c.args.known.now rest q)
 
 pub operands::operand-returns-in-Some-Variable-clause-reads : goal.operands::operand-returns-in-Some-Variable-clause-reads
 operands::operand-returns-in-Some-Variable-clause-reads t c = λ e rest g s q.
-    let site = c.args.site in
-    let st = c.args.known.now in
-    let o = opening.Variable in
     let i = c.in-Some-Variable in
-    let M : Expr → Type 0 = λ e. c.args.reader.now.ahead ≡ spell_expr e ++ rest
-    → Reads site c.args.next (read site.integers site.line st e c.args.next) rest c.variable.result c.variable.new.reader in
-    let r : Some o ≡ opening_in (symbol_kind c.symbol.result) (symbol_kind c.second.result) = ap Some (sym i.field-0-is) ∙ sym i.is
-    ∙ c.opening_in.ensures in
-    operand_by M e rest (symbol_kind c.symbol.result) (symbol_kind c.second.result) o g s
-    (c.symbol.ensures ∙ ap (λ ts. plain_kind (first_kind ts)) q)
-    (c.second.ensures ∙ ap (λ ts. plain_kind (first_kind (behind_first ts))) q) r
-    (λ x a q. c.variable.ensures.reads x a rest q) q
+    operand_opens c.args.site c.args.known.now c.args.next c.args.reader.now c.named.result c.named.new.reader e rest
+    (symbol_kind c.symbol.result) (symbol_kind c.second.result) opening.Variable g s q c.symbol.ensures c.second.ensures
+    (ap Some (sym i.field-0-is) ∙ sym i.is ∙ c.opening_in.ensures)
+    (λ x a q. c.named.ensures.reads x a rest q)
 
 pub operands::operand-returns-in-Some-Element-clause-reads : goal.operands::operand-returns-in-Some-Element-clause-reads
 operands::operand-returns-in-Some-Element-clause-reads t c = λ e rest g s q.
-    let site = c.args.site in
-    let st = c.args.known.now in
-    let o = opening.Element in
     let i = c.in-Some-Element in
-    let M : Expr → Type 0 = λ e. c.args.reader.now.ahead ≡ spell_expr e ++ rest
-    → Reads site c.args.next (read site.integers site.line st e c.args.next) rest c.element.result c.element.new.reader in
-    let r : Some o ≡ opening_in (symbol_kind c.symbol.result) (symbol_kind c.second.result) = ap Some (sym i.field-0-is) ∙ sym i.is
-    ∙ c.opening_in.ensures in
-    operand_by M e rest (symbol_kind c.symbol.result) (symbol_kind c.second.result) o g s
-    (c.symbol.ensures ∙ ap (λ ts. plain_kind (first_kind ts)) q)
-    (c.second.ensures ∙ ap (λ ts. plain_kind (first_kind (behind_first ts))) q) r
-    (λ x a b e d g q. c.element.ensures.reads x a b d e rest g (q
-    ∙ ap (λ ts. token (a_name x) a ∷ token left_bracket b ∷ ts) (append_assoc (spell_expr e) (token right_bracket d ∷ []) rest))) q
+    operand_opens c.args.site c.args.known.now c.args.next c.args.reader.now c.named_element.result c.named_element.new.reader e rest
+    (symbol_kind c.symbol.result) (symbol_kind c.second.result) opening.Element g s q c.symbol.ensures c.second.ensures
+    (ap Some (sym i.field-0-is) ∙ sym i.is ∙ c.opening_in.ensures)
+    (λ x a is g q. c.named_element.ensures.reads x a is rest g s q)
+
+pub operands::operand-returns-in-Some-SteppedBehind-clause-reads : goal.operands::operand-returns-in-Some-SteppedBehind-clause-reads
+operands::operand-returns-in-Some-SteppedBehind-clause-reads t c = λ e rest g s q.
+    let i = c.in-Some-SteppedBehind in
+    operand_opens c.args.site c.args.known.now c.args.next c.args.reader.now c.stepped_behind.result c.stepped_behind.new.reader e rest
+    (symbol_kind c.symbol.result) (symbol_kind c.second.result) opening.SteppedBehind g s q c.symbol.ensures c.second.ensures
+    (ap Some (sym i.field-0-is) ∙ sym i.is ∙ c.opening_in.ensures)
+    (λ x a d b q. c.stepped_behind.ensures.reads c.args.site c.args.next x a d b rest q)
+
+pub operands::operand-returns-in-Some-SteppedBefore-clause-reads : goal.operands::operand-returns-in-Some-SteppedBefore-clause-reads
+operands::operand-returns-in-Some-SteppedBefore-clause-reads t c = λ e rest g s q.
+    let i = c.in-Some-SteppedBefore in
+    operand_opens c.args.site c.args.known.now c.args.next c.args.reader.now c.stepped_before.result c.stepped_before.new.reader e rest
+    (symbol_kind c.symbol.result) (symbol_kind c.second.result) opening.SteppedBefore g s q c.symbol.ensures c.second.ensures
+    (ap Some (sym i.field-0-is) ∙ sym i.is ∙ c.opening_in.ensures)
+    (λ d a x b q. c.stepped_before.ensures.reads c.args.site c.args.next d a x b rest q)
 
 pub operands::operand-returns-in-Some-Call-clause-reads : goal.operands::operand-returns-in-Some-Call-clause-reads
 operands::operand-returns-in-Some-Call-clause-reads t c = λ e rest g s q.
-    let site = c.args.site in
-    let st = c.args.known.now in
-    let o = opening.Call in
     let i = c.in-Some-Call in
-    let M : Expr → Type 0 = λ e. c.args.reader.now.ahead ≡ spell_expr e ++ rest
-    → Reads site c.args.next (read site.integers site.line st e c.args.next) rest c.call.result c.call.new.reader in
-    let r : Some o ≡ opening_in (symbol_kind c.symbol.result) (symbol_kind c.second.result) = ap Some (sym i.field-0-is) ∙ sym i.is
-    ∙ c.opening_in.ensures in
-    operand_by M e rest (symbol_kind c.symbol.result) (symbol_kind c.second.result) o g s
-    (c.symbol.ensures ∙ ap (λ ts. plain_kind (first_kind ts)) q)
-    (c.second.ensures ∙ ap (λ ts. plain_kind (first_kind (behind_first ts))) q) r
+    operand_opens c.args.site c.args.known.now c.args.next c.args.reader.now c.call.result c.call.new.reader e rest
+    (symbol_kind c.symbol.result) (symbol_kind c.second.result) opening.Call g s q c.symbol.ensures c.second.ensures
+    (ap Some (sym i.field-0-is) ∙ sym i.is ∙ c.opening_in.ensures)
     (λ x a b es d g q. c.call.ensures.reads x a b d es rest g (q
-    ∙ ap (λ ts. token (a_name x) a ∷ token left_paren b ∷ ts) (append_assoc (spell_arguments es) (token right_paren d ∷ []) rest))) q
+    ∙ ap (λ ts. token (a_name x) a ∷ token left_paren b ∷ ts) (append_assoc (spell_arguments es) (token right_paren d ∷ []) rest)))
 
 pub operands::operand-returns-in-Some-Unknown-clause-reads : goal.operands::operand-returns-in-Some-Unknown-clause-reads
 operands::operand-returns-in-Some-Unknown-clause-reads t c = λ e rest g s q.
-    let site = c.args.site in
-    let st = c.args.known.now in
-    let o = opening.Unknown in
     let i = c.in-Some-Unknown in
-    let M : Expr → Type 0 = λ e. c.args.reader.now.ahead ≡ spell_expr e ++ rest
-    → Reads site c.args.next (read site.integers site.line st e c.args.next) rest c.unknown.result c.unknown.new.reader in
-    let r : Some o ≡ opening_in (symbol_kind c.symbol.result) (symbol_kind c.second.result) = ap Some (sym i.field-0-is) ∙ sym i.is
-    ∙ c.opening_in.ensures in
-    operand_by M e rest (symbol_kind c.symbol.result) (symbol_kind c.second.result) o g s
-    (c.symbol.ensures ∙ ap (λ ts. plain_kind (first_kind ts)) q)
-    (c.second.ensures ∙ ap (λ ts. plain_kind (first_kind (behind_first ts))) q) r
-    (λ a b d q. c.unknown.ensures.reads a b d st rest q) q
+    operand_opens c.args.site c.args.known.now c.args.next c.args.reader.now c.unknown.result c.unknown.new.reader e rest
+    (symbol_kind c.symbol.result) (symbol_kind c.second.result) opening.Unknown g s q c.symbol.ensures c.second.ensures
+    (ap Some (sym i.field-0-is) ∙ sym i.is ∙ c.opening_in.ensures)
+    (λ a b d q. c.unknown.ensures.reads a b d c.args.known.now rest q)
 
 pub operands::operand-returns-in-Some-Grouped-clause-reads : goal.operands::operand-returns-in-Some-Grouped-clause-reads
 operands::operand-returns-in-Some-Grouped-clause-reads t c = λ e rest g s q.
-    let site = c.args.site in
-    let st = c.args.known.now in
-    let o = opening.Grouped in
     let i = c.in-Some-Grouped in
-    let M : Expr → Type 0 = λ e. c.args.reader.now.ahead ≡ spell_expr e ++ rest
-    → Reads site c.args.next (read site.integers site.line st e c.args.next) rest c.grouped.result c.grouped.new.reader in
-    let r : Some o ≡ opening_in (symbol_kind c.symbol.result) (symbol_kind c.second.result) = ap Some (sym i.field-0-is) ∙ sym i.is
-    ∙ c.opening_in.ensures in
-    operand_by M e rest (symbol_kind c.symbol.result) (symbol_kind c.second.result) o g s
-    (c.symbol.ensures ∙ ap (λ ts. plain_kind (first_kind ts)) q)
-    (c.second.ensures ∙ ap (λ ts. plain_kind (first_kind (behind_first ts))) q) r
+    operand_opens c.args.site c.args.known.now c.args.next c.args.reader.now c.grouped.result c.grouped.new.reader e rest
+    (symbol_kind c.symbol.result) (symbol_kind c.second.result) opening.Grouped g s q c.symbol.ensures c.second.ensures
+    (ap Some (sym i.field-0-is) ∙ sym i.is ∙ c.opening_in.ensures)
     (λ a e b g q. c.grouped.ensures.reads a b e rest g (q
-    ∙ ap (λ ts. token left_paren a ∷ ts) (append_assoc (spell_expr e) (token right_paren b ∷ []) rest))) q
+    ∙ ap (λ ts. token left_paren a ∷ ts) (append_assoc (spell_expr e) (token right_paren b ∷ []) rest)))
 
 pub operands::operand-returns-in-Some-Prefixed-clause-reads : goal.operands::operand-returns-in-Some-Prefixed-clause-reads
 operands::operand-returns-in-Some-Prefixed-clause-reads t c = λ e rest g s q.
-    let site = c.args.site in
-    let st = c.args.known.now in
-    let o = opening.Prefixed c.in-Some-Prefixed.prefix in
     let i = c.in-Some-Prefixed in
-    let M : Expr → Type 0 = λ e. c.args.reader.now.ahead ≡ spell_expr e ++ rest
-    → Reads site c.args.next (read site.integers site.line st e c.args.next) rest c.prefixed.result c.prefixed.new.reader in
-    let r : Some o ≡ opening_in (symbol_kind c.symbol.result) (symbol_kind c.second.result) = ap Some (sym i.field-0-is) ∙ sym i.is
-    ∙ c.opening_in.ensures in
-    operand_by M e rest (symbol_kind c.symbol.result) (symbol_kind c.second.result) o g s
-    (c.symbol.ensures ∙ ap (λ ts. plain_kind (first_kind ts)) q)
-    (c.second.ensures ∙ ap (λ ts. plain_kind (first_kind (behind_first ts))) q) r
-    (λ a e g q. c.prefixed.ensures.reads a e rest g s q) q
+    operand_opens c.args.site c.args.known.now c.args.next c.args.reader.now c.prefixed.result c.prefixed.new.reader e rest
+    (symbol_kind c.symbol.result) (symbol_kind c.second.result) (opening.Prefixed c.in-Some-Prefixed.prefix) g s q c.symbol.ensures
+    c.second.ensures
+    (ap Some (sym i.field-0-is) ∙ sym i.is ∙ c.opening_in.ensures)
+    (λ a e g q. c.prefixed.ensures.reads a e rest g s q)
 
 pub operands::operand-returns-in-None-clause-reads : goal.operands::operand-returns-in-None-clause-reads
 operands::operand-returns-in-None-clause-reads t c = λ e rest g s q.
@@ -337,27 +321,18 @@ operands::grouped-returns-clause-reads t c = λ a b e rest g q.
       (r.2.0, passed_to c.expression.new.reader right_paren b rest r.2.1 c.take-2.new.self c.in_ok-_close.ensures.2),
     )
 
-pub operands::element-returns-clause-reads : goal.operands::element-returns-clause-reads
-operands::element-returns-clause-reads t c = λ x a b d e rest g q.
+pub operands::named_element-returns-clause-reads : goal.operands::named_element-returns-clause-reads
+operands::named_element-returns-clause-reads t c = λ x a is rest g s q.
     let site = c.args.site in
     let st = c.args.known.now in
-    let h = c.args.next in
-    let out = c.element_behind.result in
-    let close = token right_bracket d ∷ rest in
-    let all = token left_bracket b ∷ (spell_expr e ++ close) in
+    let all = spell_subscripts is ++ rest in
     let p = passed_to c.args.reader.now (a_name x) a all q c.skip.new.self c.skip.ensures in
-    let r = c.in_ok-index.ensures.reads e close g tt
-    (passed_to c.skip.new.self left_bracket b (spell_expr e ++ close) p c.take.new.self c.in_ok-bracket.ensures.2) in
-    let size = c.in_ok-size.size in
-    let f = found_is st c.args.reader.now c.name.result.now c.at.result c.name.ensures.bytes c.at.ensures x a all q
-    (λ y n. array_of y n st) (Ok size) c.in_ok-size.ensures in
-    let As : Value → Expression → Type 0 = λ v x. IsRead site h v x × (c.element_behind.new.reader.ahead ≡ rest) in
-    let m = place_is c.skip.new.self left_bracket b (spell_expr e ++ close) p c.in_ok-bracket.bracket c.in_ok-bracket.ensures.1 in
-    ok_then As out (array_of x a st) size (λ size. read site.integers site.line st e h >>= λ i. ranged site.integers site.line b h
-    (made.element size b i a)) (sym f)
-    (ok_then As out (read site.integers site.line st e h) r.0 (λ i. ranged site.integers site.line b h (made.element size b i a)) r.1
-    (subst (λ n. Answers As out (ranged site.integers site.line n h (made.element size n r.0 a))) m
-    (c.element_behind.ensures.reads r.0 h a d rest r.2.0 r.2.1)))
+    let extents = c.in_ok-extents.extents.now in
+    let f = found_is st c.args.reader.now c.name-name.result.now c.constant-value.result c.at-at.result c.name-name.ensures.bytes
+    c.constant-value.ensures c.at-at.ensures x a all q
+    (λ y n. array_of y n c.subscripts.result st) (Ok (map extent_of extents)) c.in_ok-extents.ensures in
+    element_named site st c.args.next x a is rest s c.skip.new.self p c.subscripts.result (map extent_of extents) c.subscripts.ensures f
+    c.element.result c.element.new.reader (λ l. c.element.ensures.reads a is rest g (l ∙ length-map extents extent_of) p)
 
 pub operands::call-returns-clause-reads : goal.operands::call-returns-clause-reads
 operands::call-returns-clause-reads t c = λ x a b d es rest g q.
@@ -371,11 +346,11 @@ operands::call-returns-clause-reads t c = λ x a b d es rest g q.
     let r = c.in_ok-given.ensures.reads es close g refl
     (passed_to c.skip.new.self left_paren b (spell_arguments es ++ close) p c.take.new.self c.in_ok-_open.ensures.2) in
     let u : Unit {0} = tt in
-    let f = found_is st c.args.reader.now c.name.result.now c.at.result c.name.ensures.bytes c.at.ensures x a all q
-    (λ y n. as_called n (known y st.names) u) (Ok u) c.in_ok-called.ensures in
+    let f = found_is st c.args.reader.now c.name.result.now c.constant.result c.at.result c.name.ensures.bytes c.constant.ensures
+    c.at.ensures x a all q (λ y n. as_called n (thing_of y st) u) (Ok u) c.in_ok-called.ensures in
     let As : Value → Expression → Type 0 = λ v x. IsRead site h v x × (c.call_behind.new.reader.ahead ≡ rest) in
-    ok_then As out (as_called a (known x st.names) a) a (λ a. read_arguments site.integers site.line st es h >>= λ es. Ok (made.call es a))
-    (called_ok a (known x st.names) a u f)
+    ok_then As out (as_called a (thing_of x st) a) a (λ a. read_arguments site.integers site.line st es h >>= λ es. Ok (made.call es a))
+    (called_ok a (thing_of x st) a u f)
     (ok_then As out (read_arguments site.integers site.line st es h) r.0 (λ es. Ok (made.call es a)) r.1
     (c.call_behind.ensures.reads r.0 h a d rest r.2.0 r.2.1))
 
@@ -388,26 +363,25 @@ lists::arguments-returns-then-is_closing-clause-reads t c = λ es rest g k q.
 
 pub lists::arguments-returns-in_err-first-clause-reads : goal.lists::arguments-returns-in_err-first-clause-reads
 lists::arguments-returns-in_err-first-clause-reads t c = λ es rest g k q.
-    first_fault c.args.site c.args.known.now c.args.next c.args.reader.now es rest g k q c.from_residual.result c.in_err-first.field-0.0
-    c.expression.new.reader
+    first_fault c.args.site c.args.known.now c.args.next c.args.reader.now es rest g k q c.none-none.result c.from_residual.result
+    c.in_err-first.field-0.0 c.argument.new.reader
     (sym (c.is_closing.ensures ∙ ap is_closing c.symbol.ensures ∙ closing_plain (first_kind c.args.reader.now.ahead))
-    ∙ c.if-is_closing.false) c.from_residual.ensures.1 c.in_err-first.ensures.reads
+    ∙ c.if-is_closing.false) c.none-none.ensures c.from_residual.ensures.1 c.in_err-first.ensures.reads
 
 pub lists::arguments-returns-clause-reads : goal.lists::arguments-returns-clause-reads
 lists::arguments-returns-clause-reads t c = λ es rest g k q.
-    first_read c.args.site c.args.known.now c.args.next c.args.reader.now es rest g k q c.none-none.result c.in_ok-first-2.first
-    c.in_ok-first.first c.expression.new.reader c.more_arguments.new.reader c.more_arguments.result
+    first_read c.args.site c.args.known.now c.args.next c.args.reader.now es rest g k q c.none-none.result c.in_ok-first.first
+    c.argument.new.reader c.more_arguments.new.reader c.more_arguments.result
     (sym (c.is_closing.ensures ∙ ap is_closing c.symbol.ensures ∙ closing_plain (first_kind c.args.reader.now.ahead))
-    ∙ c.if-is_closing.false) c.none-none.ensures.next c.none-none.ensures c.in_ok-first.ensures.reads c.in_ok-first-2.ensures
-    c.more_arguments.ensures.reads
+    ∙ c.if-is_closing.false) c.none-none.ensures c.in_ok-first.ensures.reads c.more_arguments.ensures.reads
 
-pub lists::more_arguments-returns-in_err-value-clause-reads : goal.lists::more_arguments-returns-in_err-value-clause-reads
-lists::more_arguments-returns-in_err-value-clause-reads t c = λ xs h es rest i g k q.
+pub lists::more_arguments-returns-in_err-all-clause-reads : goal.lists::more_arguments-returns-in_err-all-clause-reads
+lists::more_arguments-returns-in_err-all-clause-reads t c = λ xs h es rest i g k q.
     next_fault c.args.site c.args.known.now h xs es rest c.commas.all c.commas.reader c.skip.new.self
     (c.commas.invariant.reads xs h es rest i g k q) k
     (sym (c.is_comma.ensures ∙ ap is_comma c.symbol.ensures ∙ comma_plain (first_kind c.commas.reader.ahead)) ∙ c.commas-test.true)
-    (ap (λ (r : Reading). r.ahead) c.skip.ensures) c.from_residual.result c.in_err-value.field-0.0 c.expression.new.reader
-    c.from_residual.ensures.1 c.in_err-value.ensures.reads
+    (ap (λ (r : Reading). r.ahead) c.skip.ensures) c.from_residual.result c.in_err-all.field-0.0 c.argument.new.reader
+    c.from_residual.ensures.1 c.in_err-all.ensures.reads
 
 pub lists::more_arguments-commas-preserved : goal.lists::more_arguments-commas-preserved
 lists::more_arguments-commas-preserved t c = record {
@@ -415,13 +389,87 @@ lists::more_arguments-commas-preserved t c = record {
       next_read c.args.site c.args.known.now h xs es rest c.commas.all c.commas.reader c.skip.new.self
       (c.commas.invariant.reads xs h es rest i g k q) k
       (sym (c.is_comma.ensures ∙ ap is_comma c.symbol.ensures ∙ comma_plain (first_kind c.commas.reader.ahead)) ∙ c.commas-test.true)
-      (ap (λ (r : Reading). r.ahead) c.skip.ensures) c.in_ok-value.value c.in_ok-all.all c.expression.new.reader
-      c.in_ok-value.ensures.reads c.in_ok-all.ensures;
+      (ap (λ (r : Reading). r.ahead) c.skip.ensures) c.in_ok-all.all c.argument.new.reader c.in_ok-all.ensures.reads;
   goes = goes_then _ _ _ (goes_then _ _ _ c.commas.invariant.goes (passed_goes c.commas.reader c.skip.new.self c.skip.ensures))
-      c.expression.ensures.goes;
+      c.argument.ensures.goes;
 }
 
 pub lists::more_arguments-returns-clause-reads : goal.lists::more_arguments-returns-clause-reads
 lists::more_arguments-returns-clause-reads t c = λ xs h es rest i g k q.
     listing_last c.args.site c.args.known.now h xs es rest c.commas.all c.commas.reader (c.commas.invariant.reads xs h es rest i g k q)
     (sym (c.is_comma.ensures ∙ ap is_comma c.symbol.ensures ∙ comma_plain (first_kind c.commas.reader.ahead)) ∙ c.commas-test.false)
+
+pub lists::argument-returns-then-is_array_alone-clause-reads : goal.lists::argument-returns-then-is_array_alone-clause-reads
+lists::argument-returns-then-is_array_alone-clause-reads t c = λ xs h e rest i g k q.
+    argument_passed c.args.site c.args.known.now h xs e rest c.args.before c.args.reader.now c.skip.new.self
+    (sym (c.is_array_alone.ensures e rest q k) ∙ c.if-is_array_alone.true) i q (ap (λ (r : Reading). r.ahead) c.skip.ensures)
+
+pub lists::argument-returns-else-is_array_alone-clause-reads : goal.lists::argument-returns-else-is_array_alone-clause-reads
+lists::argument-returns-else-is_array_alone-clause-reads t c = λ xs h e rest i g k q.
+    argument_read c.args.site c.args.known.now h xs e rest c.one.result c.one.new.reader
+    (sym (c.is_array_alone.ensures e rest q k) ∙ c.if-is_array_alone.false)
+    (c.one.ensures.reads xs h e rest i g (ends_after (first_kind rest) k) q)
+
+pub lists::one-returns-in_err-value-clause-reads : goal.lists::one-returns-in_err-value-clause-reads
+lists::one-returns-in_err-value-clause-reads t c = λ xs h e rest i g k q.
+    one_fault c.args.site c.args.known.now h xs e rest c.args.before i g k c.args.reader.now q c.from_residual.result
+    c.in_err-value.field-0.0 c.expression.new.reader c.from_residual.ensures.1 c.in_err-value.ensures.reads
+
+pub lists::one-returns-clause-reads : goal.lists::one-returns-clause-reads
+lists::one-returns-clause-reads t c = λ xs h e rest i g k q.
+    one_done c.args.site c.args.known.now h xs e rest c.args.before i g k c.args.reader.now q c.in_ok-value.value c.in_ok-with.field-0
+    c.expression.new.reader c.in_ok-value.ensures.reads c.in_ok-with.ensures
+
+-- ---- indexes
+pub subscripts::element-loop-extent-init : goal.subscripts::element-loop-extent-init
+subscripts::element-loop-extent-init t c = record {
+  reads = λ at is rest g l q.
+      indexing_first c.args.site c.args.known.now c.args.next at (map extent_of c.args.extents.now) is rest c.none-all.result
+      c.args.reader.now.ahead g (l ∙ sym (length-map c.args.extents.now extent_of)) q c.none-all.ensures;
+  goes = stays c.args.reader.now;
+}
+
+pub subscripts::element-returns-in_err-all-clause-reads : goal.subscripts::element-returns-in_err-all-clause-reads
+subscripts::element-returns-in_err-all-clause-reads t c = λ at is rest g l q.
+    let es = c.args.extents.now in
+    let i = c.loop-extent.extent-index in
+    let m = length-map es extent_of in
+    indexing_fault c.args.site c.args.known.now c.args.next at (map extent_of es) is rest i c.loop-extent.all _ c.loop-extent.reader
+    c.index.new.reader c.from_residual.result c.in_err-all.field-0.0 (l ∙ sym m) (let k = c.loop-extent-test.true in omega (arith, k, m))
+    (extents_from es i _ c.loop-extent-test.true) (c.loop-extent.invariant.reads at is rest g l q) c.from_residual.ensures.1
+    c.in_err-all.ensures.reads
+
+pub subscripts::element-loop-extent-preserved : goal.subscripts::element-loop-extent-preserved
+subscripts::element-loop-extent-preserved t c =
+    let es = c.args.extents.now in
+    let i = c.loop-extent.extent-index in
+    record {
+      reads = λ at is rest g l q.
+          let m = length-map es extent_of in
+          indexing_more c.args.site c.args.known.now c.args.next at (map extent_of es) is rest i c.loop-extent.all c.in_ok-all.all _
+          c.loop-extent.reader c.index.new.reader (let k = c.loop-extent-test.true in omega (arith, k, m))
+          (extents_from es i _ c.loop-extent-test.true) (c.loop-extent.invariant.reads at is rest g l q) c.in_ok-all.ensures.reads;
+      goes = goes_then _ _ _ c.loop-extent.invariant.goes c.index.ensures.goes;
+    }
+
+pub subscripts::element-returns-clause-reads : goal.subscripts::element-returns-clause-reads
+subscripts::element-returns-clause-reads t c = λ at is rest g l q.
+    let es = c.args.extents.now in
+    let m = length-map es extent_of in
+    let k : length es ≤ c.loop-extent.extent-index = omega arith in
+    indexing_last c.args.site c.args.known.now c.args.next at (map extent_of es) is rest c.loop-extent.extent-index c.loop-extent.all
+    c.into_any.result c.loop-extent.reader (l ∙ sym m) (omega (arith, k, m)) (c.loop-extent.invariant.reads at is rest g l q)
+    c.into_any.ensures
+
+pub subscripts::index-returns-clause-reads : goal.subscripts::index-returns-clause-reads
+subscripts::index-returns-clause-reads t c = λ at ys h b d e rest i g q.
+    let site = c.args.site in
+    let st = c.args.known.now in
+    let close = token right_bracket d ∷ rest in
+    let p = passed_to c.args.reader.now left_bracket b (spell_expr e ++ close) q c.take.new.self c.in_ok-bracket.ensures.2 in
+    let m = place_is c.args.reader.now left_bracket b (spell_expr e ++ close) q c.in_ok-bracket.bracket c.in_ok-bracket.ensures.1 in
+    index_whole site st at ys h (extent_of c.args.extent) b e rest close c.args.before i c.expression.new.reader c.take-2.new.self
+    c.in_ok-bracket.bracket m c.in_ok-value.value c.in_ok-number.number c.in_ok-checked.checked c.in_ok-joined.field-0 c.indexed.result
+    (c.in_ok-value.ensures.reads e close g tt p) c.in_ok-number.ensures c.indexed.ensures (sym c.placed.ensures ∙ c.in_ok-checked.was)
+    c.in_ok-joined.ensures
+    (λ w. passed_to c.expression.new.reader right_bracket d rest w c.take-2.new.self c.in_ok-_close.ensures.2)

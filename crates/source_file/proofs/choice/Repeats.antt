@@ -25,7 +25,8 @@ texts ks = map (λ (k : Vec ℕ Global). k.items) ks
 abbrev pub has : List ℕ → List (Vec ℕ Global) → Bool
 has x ks = list_any (λ (k : Vec ℕ Global). bytes_eq x k.items) ks
 
-any_text : (x : List ℕ) (ks : List (Vec ℕ Global)) → list_any (bytes_eq x) (texts ks) ≡ has x ks
+-- a text among them
+pub any_text : (x : List ℕ) (ks : List (Vec ℕ Global)) → list_any (bytes_eq x) (texts ks) ≡ has x ks
 any_text x [] = refl
 any_text x (k ∷ ks) = ap (λ (b : Bool). bytes_eq x k.items || b) (any_text x ks)
 

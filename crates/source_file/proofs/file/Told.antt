@@ -11,10 +11,13 @@ use Rattle.source_grammar.specs.Goals.{scan_of}
 use Rattle.source_grammar.specs.declared.symbol.Piece as code_piece
 use Rattle.source_grammar.specs.declared.machine.Syntax.{Syntax}
 use Rattle.source_meaning.specs.Walk.{walk}
+use Rattle.source_meaning.specs.declared.fault.FunctionFault.{FunctionFault}
+use Rattle.source_meaning.specs.declared.fault.FunctionFault as function
 use Rattle.source_file.specs.Gives.{FunctionGives, Gives, Tells}
 use Rattle.source_file.specs.Meaning.{Answer, FunctionMeans, walked}
 use Rattle.source_file.specs.declared.fault.SourceFault.{SourceFault}
 use Rattle.source_file.specs.declared.fault.SourceFault.TheVariants.{NoMemory}
+use Rattle.source_file.specs.declared.fault.SourceFault.TheVariants as fault
 use Rattle.base_integers.specs.declared.integers.Integers.{Integers}
 
 -- what is found of pieces is found of their tokens
@@ -50,3 +53,10 @@ module _ (integers : Integers) (text : List ℕ) (ts : List Token) where
   program_told p ((f, reads), fine) gives =
       let g : FunctionGives integers (Ok p) (walk integers (line_at text) f) = gives f reads in
       (g.0, inr (inr (f, reads, fine, ap walked (sym g.1))), g.2)
+
+  -- a fault is told
+  pub walk_told : (e : FunctionFault) → Finds whole ts
+      → ((f : Function) → Reads ts f → FunctionGives integers (Err e) (walk integers (line_at text) f))
+      → (e ≡ function.TheVariants.NoMemory → ⊥)
+      → FunctionMeans integers text ts (Err (fault.Function e))
+  walk_told e ((f, reads), fine) gives n = inr (inr (f, reads, fine, sym (ap walked (gives f reads n))))

@@ -1,5 +1,5 @@
 -- Each variable of a function that is meant is a name of the language.
-use Rattle.std.proofs.Common.{◌≡◌, ◌++◌, ◌-◌, ◌+◌, ℕ, zero, suc, Bool, true, false, cond, List, [], ◌∷◌, length, Result, Ok, Err}
+use Rattle.std.proofs.Common.{◌++◌, ◌+◌, ℕ, ℤ, Bool, true, false, cond, List, [], ◌∷◌, length, Option, Some, None, Result, Ok, Err}
 use Rattle.std.proofs.Common.{sym, subst, reverse, nat_le, nat_lt}
 use Rattle.std.specs.Prelude.{◌&&◌}
 use Rattle.std.specs.List.{All, list_any, list_all}
@@ -15,52 +15,52 @@ use Rattle.lang_tokens.specs.declared.token.Kind as lex_kind
 use Rattle.lang_tokens.specs.declared.token.Kind.TheVariants as kind
 use Rattle.lang_tokens.specs.declared.token.Token as lex_token
 use Rattle.lang_tokens.specs.Lexemes.{IsName, IsToken}
-use Rattle.source_grammar.specs.Tokens.{Kind, a_name, Token, token, semicolon, left_paren, right_paren, left_brace, right_brace}
+use Rattle.source_grammar.specs.Tokens.{Name, Kind, a_name, Token, token, semicolon, left_paren, right_paren, left_brace, right_brace}
 use Rattle.source_grammar.specs.Tokens.{else_word}
 use Rattle.source_grammar.specs.Grammar.{spell_expr, Optional, absent, present, Update, update, step_before, steps, MoreUpdates}
-use Rattle.source_grammar.specs.Grammar.{last_update}
-use Rattle.source_grammar.specs.Grammar.{next_update, Updates, no_updates, some_updates, bare, given, sized, Declarator, declarator}
-use Rattle.source_grammar.specs.Grammar.{MoreDeclarators, last_declarator, next_declarator, Declarators, spell_declarator}
-use Rattle.source_grammar.specs.Grammar.{spell_more_declarators, spell_declarators, ForFirst, declared_first, updated_first, spell_first}
-use Rattle.source_grammar.specs.Grammar.{spell_optional, spell_updates, Core, Sub, Items, empty, block, if_alone, if_else, repeat}
-use Rattle.source_grammar.specs.Grammar.{repeat_after, repeat_for, jumps, demands, calls, updates, labelled, plain, no_items, item}
-use Rattle.source_grammar.specs.Grammar.{spell_core, spell_sub, spell_items, MoreParameters, last_parameter, next_parameter, Parameters}
-use Rattle.source_grammar.specs.Grammar.{no_parameters, void_parameters, int_parameters, spell_more_parameters, spell_parameters}
-use Rattle.source_grammar.specs.Grammar.{spell_specifiers, spell_function_name, Function, function, spell}
+use Rattle.source_grammar.specs.Grammar.{last_update, next_update, Updates, no_updates, some_updates, bare, given, sized, filled}
+use Rattle.source_grammar.specs.Grammar.{Declarator, declarator, MoreDeclarators, last_declarator, next_declarator, Declarators}
+use Rattle.source_grammar.specs.Grammar.{spell_type, spell_declarator, spell_more_declarators, spell_declarators, ForFirst}
+use Rattle.source_grammar.specs.Grammar.{declared_first, updated_first, spell_first, spell_optional, spell_updates, Core, Sub, Items}
+use Rattle.source_grammar.specs.Grammar.{empty, block, if_alone, if_else, repeat, repeat_after, repeat_for, jumps, demands, calls}
+use Rattle.source_grammar.specs.Grammar.{updates, labelled, plain, no_items, item, spell_core, spell_sub, spell_items, Parameter}
+use Rattle.source_grammar.specs.Grammar.{number_parameter, pointer_parameter, array_parameter, spell_parameter, MoreParameters}
+use Rattle.source_grammar.specs.Grammar.{last_parameter, next_parameter, Parameters, no_parameters, void_parameters, some_parameters}
+use Rattle.source_grammar.specs.Grammar.{spell_more_parameters, spell_parameters, spell_specifiers, spell_function_name, Function}
+use Rattle.source_grammar.specs.Grammar.{function, spell}
 use Rattle.source_grammar.specs.Grammar as tree
 use Rattle.source_tree.specs.Expressions.{Expression}
 use Rattle.source_tree.specs.Expressions as operand
 use Rattle.source_tree.specs.Statements.{Change, sets, evaluates, Statements}
 use Rattle.lang_tree.specs.Tree.{nodes_in}
 use Rattle.source_core.specs.Core.{change_deeds, core_in, core_of, taken_any}
+use Rattle.source_tokens.specs.declared.definition.Definition.{Definition}
+use Rattle.source_tokens.specs.Constants.{constant_at}
 use Rattle.source_tokens.specs.Texts.{AreTokensIn}
 use Rattle.source_tokens.specs.View.{bytes_of, kind_of, tokens_of, word_kind, sign_kind}
 use Rattle.source_meaning.specs.declared.fault.FunctionFault.{FunctionFault}
-use Rattle.source_meaning.specs.declared.fault.FunctionFault.TheVariants.{NameTwice, Array, NoVariables}
+use Rattle.source_meaning.specs.declared.fault.FunctionFault.TheVariants.{NameTwice, NoVariables}
 use Rattle.source_meaning.specs.declared.fault.FunctionFault.TheVariants as fault
 use Rattle.source_meaning.specs.declared.fault.Limit.TheVariants as limit
 use Rattle.source_meaning.specs.Results.{◌>>=◌, provided}
-use Rattle.source_meaning.specs.Names.{variable, array, Named, Thing, State, start_state, fresh, with_variable, with_array, forgotten}
-use Rattle.source_meaning.specs.Names.{closed}
-use Rattle.source_meaning.specs.Names.{as_called, known}
+use Rattle.source_meaning.specs.Names.{variable, array, constant, Thing, State, start_state, fresh, as_variable_again, with_variable}
+use Rattle.source_meaning.specs.Names.{declared_number, as_array_again, fresh_array, as_called, thing_of}
+use Rattle.source_meaning.specs.Arrays.{read_sizes, read_bounds}
 use Rattle.source_meaning.specs.Limits.{counted, is_small, is_small_deed}
-use Rattle.source_meaning.specs.Expressions.{read, read_arguments}
+use Rattle.source_meaning.specs.Expressions.{read, read_arguments, read_values}
 use Rattle.source_meaning.specs.Changes.{behind_change, changed, few, first_place, read_update}
 use Rattle.source_meaning.specs.Statements.{new_label, jumped, prelude_of, demand_of, call_of, read_condition, read_declarator}
 use Rattle.source_meaning.specs.Statements.{read_more_declarators, read_declarators}
 use Rattle.source_meaning.specs.Statements.{read_more_updates, read_updates, read_first, read_test, read_evaluated, read_returned}
-use Rattle.source_meaning.specs.Statements.{read_core}
-use Rattle.source_meaning.specs.Statements.{read_sub, read_items}
-use Rattle.source_meaning.specs.Walk.{variables_of, read_parameter, read_more_parameters, read_parameters, function_of, walk, width_of}
+use Rattle.source_meaning.specs.Statements.{read_core, read_sub, read_items}
+use Rattle.source_meaning.specs.Walk.{read_parameter, read_more_parameters, read_parameters, function_of, walk, width_of}
 use Rattle.source_meaning.proofs.results.Values.{OnValue, on_bind, on_provided}
-use Rattle.source_meaning.proofs.names.Sound.{fresh_apart}
-use Rattle.source_meaning.specs.Laws.{IsNoneOf}
 use Rattle.base_integers.specs.declared.integers.Integers.{Integers}
 
 -- ---- names among tokens
 -- a token that is a name is one of the language
 abbrev KindNamed : Kind → Type 0
-KindNamed (a_name x) = IsName x
+KindNamed (a_name x) = IsName x.text
 KindNamed _ = Unit {0}
 
 -- each of these tokens
@@ -80,31 +80,36 @@ sign_named : (s : Sign) → KindNamed (sign_kind s)
 sign_named LeftParen = tt
 sign_named _ = tt
 
-kind_named : (k : lex_kind.Kind) (bytes : List ℕ) → IsToken k bytes → KindNamed (kind_of bytes k)
-kind_named (kind.Word w) bytes h = word_named w
-kind_named kind.Name bytes h = h
-kind_named (kind.Number n) bytes h = tt
-kind_named (kind.Sign s) bytes h = sign_named s
-kind_named kind.End bytes h = tt
+kind_named : (k : lex_kind.Kind) (bytes : List ℕ) (v : Option ℤ) → IsToken k bytes → KindNamed (kind_of bytes v k)
+kind_named (kind.Word w) bytes v h = word_named w
+kind_named kind.Name bytes v h = h
+kind_named (kind.Number n) bytes v h = tt
+kind_named (kind.Sign s) bytes v h = sign_named s
+kind_named (kind.Foreign sort) bytes v h = tt
+kind_named (kind.Aside aside) bytes v h = tt
+kind_named kind.End bytes v h = tt
 
 -- the names among the tokens of a text are names of the language
-pub tokens_named : (text : List ℕ) (ts : List lex_token.Token) → AreTokensIn text ts → AllNamed (tokens_of text ts)
-tokens_named text [] h = tt
-tokens_named text (t ∷ ts) h = (kind_named t.kind (bytes_of text t) h.0.is_token, tokens_named text ts h.1)
+pub tokens_named : (definitions : List Definition) (text : List ℕ) (ts : List lex_token.Token) → AreTokensIn text ts
+    → AllNamed (tokens_of definitions text ts)
+tokens_named definitions text [] h = tt
+tokens_named definitions text (t ∷ ts) h =
+    let bytes = bytes_of text t in
+    (kind_named t.kind bytes (constant_at definitions bytes t.at) h.0.is_token, tokens_named definitions text ts h.1)
 
--- ---- names that were met
+-- ---- variables that were met
 -- each is a name of the language
-abbrev NamesKept : List Named → Type 0
+abbrev NamesKept : List (List ℕ) → Type 0
 NamesKept [] = Unit {0}
-NamesKept (n ∷ ns) = IsName n.name × NamesKept ns
+NamesKept (x ∷ xs) = IsName x × NamesKept xs
 
 -- each that was met is
 abbrev Kept : State → Type 0
-Kept st = NamesKept st.names
+Kept st = NamesKept st.variables
 
 -- the same of a state with something beside it
 abbrev KeptWith : {A : Type 0} → State × A → Type 0
-KeptWith r = NamesKept r.0.names
+KeptWith r = NamesKept r.0.variables
 
 abbrev Anything : {A : Type 0} → A → Type 0
 Anything x = Unit {0}
@@ -121,34 +126,37 @@ provided_twice : {A : Type 0} (P : A → Type 0) (a b : Bool) (e f : FunctionFau
 provided_twice P a b e f x h =
     on_bind P P (provided a e x) (λ y. provided b f y) (on_provided P a e x (λ t. h)) (λ y k. on_provided P b f y (λ t. k))
 
-label_kept : (x : List ℕ) (at : ℕ) (st : State) → Kept st → OnValue Kept (new_label x at st)
-label_kept x at st h = by (list_any (λ y. bytes_eq x y) st.labels) where
-  by : (b : Bool) → OnValue Kept (cond b (Err (NameTwice at)) (counted at 1 (record st { labels = x ∷ st.labels })))
+label_kept : (x : Name) (at : ℕ) (st : State) → Kept st → OnValue Kept (new_label x at st)
+label_kept x at st h = by (list_any (λ y. bytes_eq x.text y) st.labels) where
+  by : (b : Bool) → OnValue Kept (cond b (Err (NameTwice at)) (counted at 1 (record st { labels = x.text ∷ st.labels })))
   by true = tt
-  by false = count_kept at 1 (record st { labels = x ∷ st.labels }) h
+  by false = count_kept at 1 (record st { labels = x.text ∷ st.labels }) h
 
 jump_kept : (inside : Bool) (at : ℕ) (st : State) → Kept st → OnValue Kept (jumped inside at st)
 jump_kept true at st h = count_kept at 1 st h
 jump_kept false at st h = tt
 
-variable_kept : (x : List ℕ) (at : ℕ) (st : State) → IsName x → Kept st → OnValue Kept (with_variable x at st)
+again_kept : (x : List ℕ) (at : ℕ) (st : State) → IsName x → Kept st → (before : Option Thing)
+    → OnValue Kept (as_variable_again x at st before)
+again_kept x at st n h None =
+    on_provided Kept (nat_lt (length st.variables) MOST_VARIABLES) (fault.Limit at limit.Variables) _ (λ t. (n, h))
+again_kept x at st n h (Some (variable i)) = h
+again_kept x at st n h (Some (array extents)) = tt
+again_kept x at st n h (Some (constant v)) = tt
+
+variable_kept : (x : Name) (at : ℕ) (st : State) → IsName x.text → Kept st → OnValue Kept (with_variable x at st)
 variable_kept x at st n h =
-    on_bind (λ now. (now ≡ st) × IsNoneOf x (variables_of st.names)) Kept (fresh x at st) _ (fresh_apart x at st)
-    (λ now p. on_provided Kept (nat_lt now.variables MOST_VARIABLES) (fault.Limit at limit.Variables) _
-    (λ t. (n, subst Kept (sym p.0) h)))
+    on_bind (Anything {A = Option Thing}) Kept (fresh x at st) _ (anything (fresh x at st)) (λ before i. again_kept x.text at st n h before)
 
-array_kept : (x : List ℕ) (at size place : ℕ) (st : State) → IsName x → Kept st → OnValue Kept (with_array x at size place st)
-array_kept x at size place st n h =
-    on_bind (λ now. (now ≡ st) × IsNoneOf x (variables_of st.names)) Kept (fresh x at st) _ (fresh_apart x at st)
-    (λ now p. on_provided Kept (nat_le 1 size && nat_le size 2147483647) (Array place) _ (λ t. (n, subst Kept (sym p.0) h)))
+array_again_kept : (at : ℕ) (st : State) → Kept st → (before : Option Thing) → OnValue Kept (as_array_again at before st)
+array_again_kept at st h None = h
+array_again_kept at st h (Some (variable i)) = tt
+array_again_kept at st h (Some (array extents)) = h
+array_again_kept at st h (Some (constant v)) = tt
 
-forgotten_kept : (k : ℕ) (ns : List Named) → NamesKept ns → NamesKept (forgotten k ns)
-forgotten_kept zero ns h = h
-forgotten_kept (suc k) [] h = h
-forgotten_kept (suc k) (n ∷ ns) h = (h.0, forgotten_kept k ns h.1)
-
-closed_kept : (before : ℕ) (st : State) → Kept st → Kept (closed before st)
-closed_kept before st h = forgotten_kept (length st.names - before) st.names h
+array_kept : (x : Name) (at : ℕ) (st : State) → Kept st → OnValue Kept (fresh_array x at st)
+array_kept x at st h =
+    on_bind (Anything {A = Option Thing}) Kept (fresh x at st) _ (anything (fresh x at st)) (λ before i. array_again_kept at st h before)
 
 -- ---- walks
 module _ (integers : Integers) (line : ℕ → ℕ) (n : ℕ) where
@@ -174,19 +182,29 @@ module _ (integers : Integers) (line : ℕ → ℕ) (n : ℕ) where
       (list_all is_small_deed (change_deeds integers n g) && list_all is_small []) (fault.Limit at limit.Hidden)
       (fault.Limit at limit.Leaves) x h
 
+  evaluated_kept : (at : ℕ) (g : Change) (st : State) → Kept st → Walks (read_evaluated integers line n st at g)
+  evaluated_kept at g st h = now_kept (few integers n (line at) at g st) _ (few_kept Kept (line at) at g st h)
+      (λ now k. now_kept (counted at (length (change_deeds integers n g)) now) _
+      (count_kept at (length (change_deeds integers n g)) now k) (λ more l. l))
+
   declarator_kept : (d : Declarator) (st : State) → AllNamed (spell_declarator d) → Kept st → Walks (read_declarator integers line n st d)
   declarator_kept (declarator x at bare) st m h = now_kept (with_variable x at st) _ (variable_kept x at st m.0 h)
-      (λ now k. let size = length (taken_any integers st.variables (line at)) in
+      (λ now k. let size = length (taken_any integers (declared_number now) (line at)) in
       now_kept (counted at size now) _ (count_kept at size now k) (λ more l. l))
   declarator_kept (declarator x at (given b e)) st m h = some_kept (read integers (line at) st e n) _
       (λ v. now_kept (with_variable x at st) _ (variable_kept x at st m.0 h)
-      (λ now k. let g : Change = sets st.variables v (line at) in
+      (λ now k. let g : Change = sets (declared_number now) v (line at) in
       now_kept (few integers n (line at) at g now) _ (few_kept Kept (line at) at g now k)
       (λ then l. now_kept (counted at (length (change_deeds integers n g)) then) _
       (count_kept at (length (change_deeds integers n g)) then l)
       (λ more i. i))))
-  declarator_kept (declarator x at (sized b size c d)) st m h =
-      now_kept (with_array x at size c st) _ (array_kept x at size c st m.0 h) (λ now k. k)
+  declarator_kept (declarator x at (sized zs)) st m h = now_kept (fresh_array x at st) _ (array_kept x at st h)
+      (λ now k. some_kept (read_sizes now zs) _ (λ extents. k))
+  declarator_kept (declarator x at (filled zs a b vs c)) st m h = now_kept (fresh_array x at st) _ (array_kept x at st h)
+      (λ now k. some_kept (read_sizes now zs) _
+      (λ extents. some_kept (read_values integers (line at) now vs n) _
+      (λ es. then_kept (read_evaluated integers line n now at (evaluates es (line at))) _
+      (evaluated_kept at (evaluates es (line at)) now k) (λ r l. l))))
 
   more_declarators_kept : (xs : MoreDeclarators) (st : State) → AllNamed (spell_more_declarators xs) → Kept st
       → Walks (read_more_declarators integers line n st xs)
@@ -234,15 +252,10 @@ module _ (integers : Integers) (line : ℕ → ℕ) (n : ℕ) where
       (more_updates_kept us r.0 k) (λ q l. l))
 
   first_kept : (f : ForFirst) (st : State) → AllNamed (spell_first f) → Kept st → Walks (read_first integers line n st f)
-  first_kept (declared_first a xs) st m h = declarators_kept xs st m.1 h
+  first_kept (declared_first t xs) st m h = declarators_kept xs st (split (spell_type t) (spell_declarators xs) m).1 h
   first_kept (updated_first us) st m h =
       on_bind (KeptWith {A = List Change}) (KeptWith {A = Statements}) (read_updates integers line n st us) _ (updates_kept us st h)
       (λ r k. k)
-
-  evaluated_kept : (at : ℕ) (g : Change) (st : State) → Kept st → Walks (read_evaluated integers line n st at g)
-  evaluated_kept at g st h = now_kept (few integers n (line at) at g st) _ (few_kept Kept (line at) at g st h)
-      (λ now k. now_kept (counted at (length (change_deeds integers n g)) now) _
-      (count_kept at (length (change_deeds integers n g)) now k) (λ more l. l))
 
   returned_kept : (at : ℕ) (t : Optional) (st : State) → Kept st → Walks (read_returned integers line n st at t)
   returned_kept at absent st h = h
@@ -262,7 +275,7 @@ module _ (integers : Integers) (line : ℕ → ℕ) (n : ℕ) where
     core_kept inside (empty a) st m h = h
     core_kept inside (block a is b) st m h = then_kept (read_items integers line n inside st is) _
         (items_kept inside is st (split (spell_items is) (token right_brace b ∷ []) m.1).0 h)
-        (λ r k. closed_kept (length st.names) r.0 k)
+        (λ r k. k)
     core_kept inside (if_alone a b e c s) st m h =
         let part = split (spell_expr e) (token right_paren c ∷ spell_sub s) m.1.1 in
         test_kept a e st (λ x. prelude_of integers line n a x + 1) _ h
@@ -293,7 +306,7 @@ module _ (integers : Integers) (line : ℕ → ℕ) (n : ℕ) where
         (λ now l. on_bind (KeptWith {A = List Change}) (KeptWith {A = Statements}) (read_updates integers line n now us) _
         (updates_kept us now l)
         (λ u j. then_kept (read_sub integers line n true u.0 s) _ (sub_kept true s u.0 three.1.1 j)
-        (λ q o. closed_kept (length st.names) q.0 o)))))
+        (λ q o. o)))))
     core_kept inside (jumps j a b) st m h = now_kept (jumped inside a st) _ (jump_kept inside a st h) (λ now k. k)
     core_kept inside (tree.returns a t b) st m h = then_kept (read_returned integers line n st a t) _ (returned_kept a t st h)
         (λ r k. now_kept (counted a 1 r.0) _ (count_kept a 1 r.0 k) (λ now l. l))
@@ -302,7 +315,7 @@ module _ (integers : Integers) (line : ℕ → ℕ) (n : ℕ) where
         now_kept (counted a size st) _ (count_kept a size st h) (λ now l. l))
     core_kept inside (calls x a b es c d) st m h =
         let size = nodes_in (core_in integers n (call_of x a (line a))) in
-        some_kept (as_called a (known x st.names) es) _
+        some_kept (as_called a (thing_of x st) es) _
         (λ es. some_kept (read_arguments integers (line a) st es n) _
         (λ es. then_kept (read_evaluated integers line n st a (evaluates es (line a))) _ (evaluated_kept a (evaluates es (line a)) st h)
         (λ r k. now_kept (counted a size r.0) _ (count_kept a size r.0 k) (λ now l. l))))
@@ -319,8 +332,9 @@ module _ (integers : Integers) (line : ℕ → ℕ) (n : ℕ) where
     items_kept inside no_items st m h = h
     items_kept inside (tree.label x a b is) st m h = now_kept (new_label x a st) _ (label_kept x a st h)
         (λ now k. then_kept (read_items integers line n inside now is) _ (items_kept inside is now m.1.1 k) (λ r l. l))
-    items_kept inside (tree.declaration a xs b is) st m h =
-        let both = split (spell_declarators xs) (token semicolon b ∷ spell_items is) m.1 in
+    items_kept inside (tree.declaration t xs b is) st m h =
+        let behind = split (spell_type t) (spell_declarators xs ++ token semicolon b ∷ spell_items is) m in
+        let both = split (spell_declarators xs) (token semicolon b ∷ spell_items is) behind.1 in
         then_kept (read_declarators integers line n st xs) _ (declarators_kept xs st both.0 h)
         (λ r k. then_kept (read_items integers line n inside r.0 is) _ (items_kept inside is r.0 both.1.1 k) (λ q l. l))
     items_kept inside (item c is) st m h =
@@ -329,39 +343,41 @@ module _ (integers : Integers) (line : ℕ → ℕ) (n : ℕ) where
         (λ r k. then_kept (read_items integers line n inside r.0 is) _ (items_kept inside is r.0 both.1 k) (λ q l. l))
 
 module _ (integers : Integers) (line : ℕ → ℕ) where
-  parameter_kept : (x : List ℕ) (at : ℕ) (st : State) → IsName x → Kept st → Walks integers line 0 (read_parameter integers line st x at)
-  parameter_kept x at st m h = now_kept integers line 0 (with_variable x at st) _ (variable_kept x at st m h)
-      (λ now k. let size = length (taken_any integers st.variables (line at)) in
+  parameter_kept : (p : Parameter) (st : State) → AllNamed (spell_parameter p) → Kept st
+      → Walks integers line 0 (read_parameter integers line st p)
+  parameter_kept (number_parameter t x at) st m h =
+      now_kept integers line 0 (with_variable x at st) _ (variable_kept x at st (split (spell_type t) (token (a_name x) at ∷ []) m).1.0 h)
+      (λ now k. let size = length (taken_any integers (declared_number now) (line at)) in
       now_kept integers line 0 (counted at size now) _ (count_kept at size now k) (λ more l. l))
+  parameter_kept (pointer_parameter t a x at) st m h =
+      now_kept integers line 0 (fresh_array x at st) _ (array_kept x at st h) (λ now k. k)
+  parameter_kept (array_parameter t x at bs) st m h =
+      now_kept integers line 0 (fresh_array x at st) _ (array_kept x at st h)
+      (λ now k. some_kept integers line 0 (read_bounds now bs) _ (λ extents. k))
 
   more_parameters_kept : (ps : MoreParameters) (st : State) → AllNamed (spell_more_parameters ps) → Kept st
       → Walks integers line 0 (read_more_parameters integers line st ps)
   more_parameters_kept last_parameter st m h = h
-  more_parameters_kept (next_parameter a b x at ps) st m h =
-      then_kept integers line 0 (read_parameter integers line st x at) _ (parameter_kept x at st m.1.1.0 h)
-      (λ r k. then_kept integers line 0 (read_more_parameters integers line r.0 ps) _ (more_parameters_kept ps r.0 m.1.1.1 k) (λ q l. l))
+  more_parameters_kept (next_parameter a p ps) st m h =
+      let both = split (spell_parameter p) (spell_more_parameters ps) m.1 in
+      then_kept integers line 0 (read_parameter integers line st p) _ (parameter_kept p st both.0 h)
+      (λ r k. then_kept integers line 0 (read_more_parameters integers line r.0 ps) _ (more_parameters_kept ps r.0 both.1 k) (λ q l. l))
 
   parameters_kept : (ps : Parameters) (st : State) → AllNamed (spell_parameters ps) → Kept st
       → Walks integers line 0 (read_parameters integers line st ps)
   parameters_kept no_parameters st m h = h
   parameters_kept (void_parameters a) st m h = h
-  parameters_kept (int_parameters a x at ps) st m h =
-      then_kept integers line 0 (read_parameter integers line st x at) _ (parameter_kept x at st m.1.0 h)
-      (λ r k. then_kept integers line 0 (read_more_parameters integers line r.0 ps) _ (more_parameters_kept ps r.0 m.1.1 k) (λ q l. l))
+  parameters_kept (some_parameters p ps) st m h =
+      let both = split (spell_parameter p) (spell_more_parameters ps) m in
+      then_kept integers line 0 (read_parameter integers line st p) _ (parameter_kept p st both.0 h)
+      (λ r k. then_kept integers line 0 (read_more_parameters integers line r.0 ps) _ (more_parameters_kept ps r.0 both.1 k) (λ q l. l))
 
 -- ---- functions
--- the variables among names, in order of declaration
-variables_named : (ns : List Named) → NamesKept ns → All IsName (reverse (variables_of ns))
+-- the variables in order of declaration
+variables_named : (xs : List (List ℕ)) → NamesKept xs → All IsName (reverse xs)
 variables_named [] h = All-nil IsName
-variables_named (m ∷ ms) h = by (variables_named ms h.1) m.thing where
-  by : All IsName (reverse (variables_of ms)) → (t : Thing)
-      → All IsName (reverse (elim t as (λ z. List (List ℕ)) [
-        | variable i ↦ m.name ∷ variables_of ms
-        | array size ↦ variables_of ms
-      ]))
-  by k (variable i) = subst (All IsName) (sym (reverse_onto (variables_of ms) m.name []))
-      (All-push IsName (reverse (variables_of ms)) m.name k h.0)
-  by k (array size) = k
+variables_named (x ∷ xs) h =
+    subst (All IsName) (sym (reverse_onto xs x [])) (All-push IsName (reverse xs) x (variables_named xs h.1) h.0)
 
 -- the variables of what is read are names
 abbrev pub AreNamed : List (List ℕ) × Statements → Type 0
@@ -369,7 +385,7 @@ AreNamed r = All IsName r.0
 
 function_named : (integers : Integers) (line : ℕ → ℕ) (st : State) (body : Statements) → Kept st
     → OnValue AreNamed (function_of integers line st body)
-function_named integers line st body h = by (reverse (variables_of st.names)) (variables_named st.names h) where
+function_named integers line st body h = by (reverse st.variables) (variables_named st.variables h) where
   by : (xs : List (List ℕ)) → All IsName xs → OnValue AreNamed (elim xs as (λ z. Result (List (List ℕ) × Statements) FunctionFault)
       [ [] ↦ Err NoVariables | x ∷ xs ↦ Ok (x ∷ xs, body) ])
   by [] k = tt

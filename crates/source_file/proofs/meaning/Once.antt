@@ -1,5 +1,5 @@
 -- Tokens mean one thing at most.
-use Rattle.std.proofs.Common.{◌≡◌, ◌∙◌, inl, inr, ℕ, List, [], Option, Some, None, Result, Err, refl, sym, ap, subst}
+use Rattle.std.proofs.Common.{◌≡◌, ◌∙◌, inl, inr, ℕ, List, Option, Some, None, Result, Err, refl, sym, ap, subst}
 use Rattle.lang_tokens.specs.declared.token.Token.{Token}
 use Rattle.lang_tokens.specs.Lines.{line_at}
 use Rattle.source_items.specs.declared.item.Item.{Item}
@@ -13,15 +13,20 @@ use Rattle.source_grammar.specs.Verdicts.{scan}
 use Rattle.source_grammar.proofs.faults.Exact.{exact_by}
 use Rattle.source_grammar.proofs.grammar.Once.{reads_once}
 use Rattle.source_meaning.specs.Walk.{walk}
-use Rattle.source_tokens.specs.View.{marks_of}
+use Rattle.source_tokens.specs.declared.definition.Definition.{Definition}
+use Rattle.source_tokens.specs.View.{marks_of, tokens_of}
+use Rattle.source_constants.specs.Directives.{code_of}
+use Rattle.source_constants.specs.Definitions.{definitions_of}
 use Rattle.source_file.specs.declared.functions.Defined.{Defined}
 use Rattle.source_file.specs.declared.fault.SourceFault.{SourceFault}
 use Rattle.source_file.specs.declared.fault.SourceFault.TheVariants as fault
 use Rattle.source_file.specs.Functions.{functions_of}
-use Rattle.source_file.specs.Choice.{repeated, chosen}
-use Rattle.source_file.specs.Meaning.{Answer, place_of, item_of, walked, FunctionMeans, ChosenMeans, FunctionsMean, Means, named_in}
-use Rattle.source_file.specs.Meaning.{NamesAre}
+use Rattle.source_file.specs.Choice.{chosen}
+use Rattle.source_file.specs.Meaning.{Answer, place_of, item_of, walked, FunctionMeans, first_outside, ItemMeans, ChosenMeans}
+use Rattle.source_file.specs.Meaning.{FunctionsMean}
+use Rattle.source_file.specs.Meaning.{twice, Means, named_in, NamesAre}
 use Rattle.base_integers.specs.declared.integers.Integers.{Integers}
+use Rattle.base_integers.specs.declared.integers.Integers.TheVariants.{Mathematical}
 
 one_scan : (ts : List g.Token) (s t : grammar.Scan) → grammar.Finds s ts → grammar.Finds t ts → s ≡ t
 one_scan ts s t a b = sym (exact_by (scan start ts) s ts refl a) ∙ exact_by (scan start ts) t ts refl b
@@ -56,17 +61,21 @@ function_once integers text ts r q a b =
     let same : y.0 ≡ x.0 = one_scan ts y.0 x.0 y.1 x.1 in
     one_answer integers text ts x.0 r q x.2 (subst (λ (s : grammar.Scan). Answers integers text ts s q) same y.2)
 
-chosen_once : (integers : Integers) (text : List ℕ) (ts : List Token) (o : Option Defined) (r q : Answer)
-    → ChosenMeans integers text ts o r → ChosenMeans integers text ts o q
-    → r ≡ q
-chosen_once integers text ts None r q a b = a ∙ sym b
-chosen_once integers text ts (Some d) r q a b = function_once integers text (item_of text ts d) r q a b
+module _ (definitions : List Definition) (text : List ℕ) (integers : Integers) where
+  item_once : (ts : List Token) (o : Option SourceFault) (r q : Answer) → ItemMeans definitions text integers ts o r
+      → ItemMeans definitions text integers ts o q → r ≡ q
+  item_once ts (Some e) r q a b = a ∙ sym b
+  item_once ts None r q a b = function_once integers text (tokens_of definitions text ts) r q a b
 
-functions_once : (integers : Integers) (text : List ℕ) (asked : Option (List ℕ)) (ts : List Token) (ds : List Defined) (o : Option ℕ)
-    (r q : Answer)
-    → FunctionsMean integers text asked ts ds o r → FunctionsMean integers text asked ts ds o q → r ≡ q
-functions_once integers text asked ts ds (Some at) r q a b = a ∙ sym b
-functions_once integers text asked ts ds None r q a b = chosen_once integers text ts (chosen asked ds) r q a b
+  chosen_once : (code : List Token) (o : Option Defined) (r q : Answer) → ChosenMeans definitions text integers code o r
+      → ChosenMeans definitions text integers code o q → r ≡ q
+  chosen_once code None r q a b = a ∙ sym b
+  chosen_once code (Some d) r q a b = item_once (item_of code d) (first_outside definitions text (item_of code d)) r q a b
+
+  functions_once : (asked : Option (List ℕ)) (code : List Token) (ds : List Defined) (o : Option ℕ) (r q : Answer)
+      → FunctionsMean definitions text integers asked code ds o r → FunctionsMean definitions text integers asked code ds o q → r ≡ q
+  functions_once asked code ds (Some at) r q a b = a ∙ sym b
+  functions_once asked code ds None r q a b = chosen_once code (chosen asked ds) r q a b
 
 items_same : (items others : List Item) → file.divided items ≡ file.divided others → items ≡ others
 items_same items others e = cc
@@ -82,28 +91,34 @@ pub means_once : (integers : Integers) (text : List ℕ) (asked : Option (List �
     → Means integers text asked ts r → Means integers text asked ts q
     → r ≡ q
 means_once integers text asked ts r q (inl (i, f, e)) (inl (j, h, k)) =
-    let same = index_same i j (one_outcome (marks_of ts) (file.unexpected i) (file.unexpected j) f h) in
-    e ∙ ap (λ (n : ℕ). let a : Answer = Err (fault.Unexpected (place_of text ts n)) in a) same ∙ sym k
+    let same = index_same i j (one_outcome (marks_of (code_of ts)) (file.unexpected i) (file.unexpected j) f h) in
+    e ∙ ap (λ (n : ℕ). let a : Answer = Err (fault.Unexpected (place_of text (code_of ts) n)) in a) same ∙ sym k
 means_once integers text asked ts r q (inl (i, f, e)) (inr (items, h, b)) =
-    unlike i items (one_outcome (marks_of ts) (file.unexpected i) (file.divided items) f h)
+    unlike i items (one_outcome (marks_of (code_of ts)) (file.unexpected i) (file.divided items) f h)
 means_once integers text asked ts r q (inr (items, h, b)) (inl (i, f, e)) =
-    unlike i items (one_outcome (marks_of ts) (file.unexpected i) (file.divided items) f h)
+    unlike i items (one_outcome (marks_of (code_of ts)) (file.unexpected i) (file.divided items) f h)
 means_once integers text asked ts r q (inr (items, h, b)) (inr (others, k, c)) =
-    let same = items_same others items (one_outcome (marks_of ts) (file.divided others) (file.divided items) k h) in
-    functions_once integers text asked ts (functions_of text ts items) (repeated [] (functions_of text ts items)) r q b
-    (subst (λ (xs : List Item). FunctionsMean integers text asked ts (functions_of text ts xs)
-    (repeated [] (functions_of text ts xs)) q) same c)
+    let code = code_of ts in
+    let same = items_same others items (one_outcome (marks_of code) (file.divided others) (file.divided items) k h) in
+    functions_once (definitions_of integers text ts items) text integers asked code (functions_of text code items)
+    (twice (functions_of text code items) (definitions_of integers text ts items)) r q b
+    (subst (λ (xs : List Item). FunctionsMean (definitions_of integers text ts xs) text integers asked code (functions_of text code xs)
+    (twice (functions_of text code xs) (definitions_of integers text ts xs)) q) same c)
 
 -- what its functions are
 pub names_once : (text : List ℕ) (ts : List Token) (r q : Result (List (List ℕ)) SourceFault) → NamesAre text ts r → NamesAre text ts q
     → r ≡ q
 names_once text ts r q (inl (i, f, e)) (inl (j, h, k)) =
-    let same = index_same i j (one_outcome (marks_of ts) (file.unexpected i) (file.unexpected j) f h) in
-    e ∙ ap (λ (n : ℕ). let a : Result (List (List ℕ)) SourceFault = Err (fault.Unexpected (place_of text ts n)) in a) same ∙ sym k
+    let same = index_same i j (one_outcome (marks_of (code_of ts)) (file.unexpected i) (file.unexpected j) f h) in
+    e ∙ ap (λ (n : ℕ). let a : Result (List (List ℕ)) SourceFault = Err (fault.Unexpected (place_of text (code_of ts) n)) in a) same ∙ sym k
 names_once text ts r q (inl (i, f, e)) (inr (items, h, b)) =
-    unlike i items (one_outcome (marks_of ts) (file.unexpected i) (file.divided items) f h)
+    unlike i items (one_outcome (marks_of (code_of ts)) (file.unexpected i) (file.divided items) f h)
 names_once text ts r q (inr (items, h, b)) (inl (i, f, e)) =
-    unlike i items (one_outcome (marks_of ts) (file.unexpected i) (file.divided items) f h)
+    unlike i items (one_outcome (marks_of (code_of ts)) (file.unexpected i) (file.divided items) f h)
 names_once text ts r q (inr (items, h, b)) (inr (others, k, c)) =
-    let same = items_same items others (one_outcome (marks_of ts) (file.divided items) (file.divided others) h k) in
-    b ∙ ap (λ (xs : List Item). named_in (functions_of text ts xs) (repeated [] (functions_of text ts xs))) same ∙ sym c
+    let code = code_of ts in
+    let same = items_same items others (one_outcome (marks_of code) (file.divided items) (file.divided others) h k) in
+    b
+    ∙ ap (λ (xs : List Item). named_in (functions_of text code xs)
+    (twice (functions_of text code xs) (definitions_of Mathematical text ts xs))) same
+    ∙ sym c

@@ -1,5 +1,5 @@
 -- Names and statements that tokens mean are those of a function as it is walked.
-use Rattle.std.proofs.Common.{◌≡◌, inl, inr, ℕ, List, [], Option, Some, None, Result, Err, sym, ap}
+use Rattle.std.proofs.Common.{◌≡◌, inl, inr, ℕ, List, Option, Some, None, Result, Err, sym, ap}
 use Rattle.lang_tokens.specs.declared.token.Token.{Token}
 use Rattle.lang_tokens.specs.Lines.{line_at}
 use Rattle.source_grammar.specs.Tokens as g
@@ -7,12 +7,17 @@ use Rattle.source_grammar.specs.Grammar.{Function, Reads}
 use Rattle.source_tree.specs.Statements.{Statements}
 use Rattle.source_meaning.specs.Walk.{walk}
 use Rattle.source_meaning.specs.declared.fault.FunctionFault.{FunctionFault}
+use Rattle.source_tokens.specs.declared.definition.Definition.{Definition}
+use Rattle.source_tokens.specs.View.{tokens_of}
+use Rattle.source_constants.specs.Directives.{code_of}
+use Rattle.source_constants.specs.Definitions.{definitions_of}
 use Rattle.source_file.specs.declared.functions.Defined.{Defined}
 use Rattle.source_file.specs.declared.fault.SourceFault.{SourceFault}
 use Rattle.source_file.specs.declared.fault.SourceFault.TheVariants as fault
 use Rattle.source_file.specs.Functions.{functions_of}
-use Rattle.source_file.specs.Choice.{repeated, chosen}
-use Rattle.source_file.specs.Meaning.{Answer, item_of, walked, FunctionMeans, ChosenMeans, FunctionsMean, Means}
+use Rattle.source_file.specs.Choice.{chosen}
+use Rattle.source_file.specs.Meaning.{Answer, item_of, walked, FunctionMeans, first_outside, ItemMeans, ChosenMeans, FunctionsMean, twice}
+use Rattle.source_file.specs.Meaning.{Means}
 use Rattle.base_integers.specs.declared.integers.Integers.{Integers}
 
 -- an answer, named so that equations between answers have their type
@@ -44,22 +49,33 @@ module _ (integers : Integers) (text : List ℕ) (p : List (List ℕ) × Stateme
   function_walked ts (inr (inl (a, f, e))) = absurd (clash p (fault.Nesting a) e)
   function_walked ts (inr (inr (f, reads, fine, e))) = (f, reads, walked_as p (walk integers (line_at text) f) e)
 
-  chosen_walked : (ts : List Token) (o : Option Defined) → ChosenMeans integers text ts o (Result.Ok p)
-      → (d : Defined) × AreWalked (item_of text ts d)
-  chosen_walked ts None e = absurd (clash p fault.WhichFunction e)
-  chosen_walked ts (Some d) m = (d, function_walked (item_of text ts d) m)
+  module _ (definitions : List Definition) where
+    item_walked : (ts : List Token) (o : Option SourceFault) → ItemMeans definitions text integers ts o (Result.Ok p)
+        → AreWalked (tokens_of definitions text ts)
+    item_walked ts (Some e) m = absurd (clash p e m)
+    item_walked ts None m = function_walked (tokens_of definitions text ts) m
 
-  functions_walked : (asked : Option (List ℕ)) (ts : List Token) (ds : List Defined) (o : Option ℕ)
-      → FunctionsMean integers text asked ts ds o (Result.Ok p) → (d : Defined) × AreWalked (item_of text ts d)
-  functions_walked asked ts ds (Some at) e = absurd (clash p (fault.NameTwice at) e)
-  functions_walked asked ts ds None m = chosen_walked ts (chosen asked ds) m
+    chosen_walked : (code : List Token) (o : Option Defined) → ChosenMeans definitions text integers code o (Result.Ok p)
+        → (d : Defined) × AreWalked (tokens_of definitions text (item_of code d))
+    chosen_walked code None e = absurd (clash p fault.WhichFunction e)
+    chosen_walked code (Some d) m = (d, item_walked (item_of code d) (first_outside definitions text (item_of code d)) m)
+
+    functions_walked : (asked : Option (List ℕ)) (code : List Token) (ds : List Defined) (o : Option ℕ)
+        → FunctionsMean definitions text integers asked code ds o (Result.Ok p)
+        → (d : Defined) × AreWalked (tokens_of definitions text (item_of code d))
+    functions_walked asked code ds (Some at) e = absurd (clash p (fault.NameTwice at) e)
+    functions_walked asked code ds None m = chosen_walked code (chosen asked ds) m
 
   -- what tokens mean without a fault is what a function is as it is walked, whose tokens are some of these
   pub means_walked : (asked : Option (List ℕ)) (ts : List Token) → Means integers text asked ts (Result.Ok p)
-      → (d : Defined) × AreWalked (item_of text ts d)
+      → (definitions : List Definition) × (d : Defined) × AreWalked (tokens_of definitions text (item_of (code_of ts) d))
   means_walked asked ts (inl (index, f, e)) = absurd (clash p _ e)
   means_walked asked ts (inr (items, f, m)) =
-      functions_walked asked ts (functions_of text ts items) (repeated [] (functions_of text ts items)) m
+      let code = code_of ts in
+      let definitions = definitions_of integers text ts items in
+      let ds = functions_of text code items in
+      let found = functions_walked definitions asked code ds (twice ds definitions) m in
+      (definitions, found.0, found.1)
 
 -- what tokens mean without a fault is what a function is as it is walked
 pub read_by_walk : (integers : Integers) (text : List ℕ) (asked : Option (List ℕ)) (ts : List Token) (names : List (List ℕ))
@@ -68,4 +84,4 @@ pub read_by_walk : (integers : Integers) (text : List ℕ) (asked : Option (List
     → (line : ℕ → ℕ) × (f : Function) × (walk integers line f ≡ Result.Ok (names, statements))
 read_by_walk integers text asked ts names statements m =
     let w = means_walked integers text (names, statements) asked ts m in
-    (line_at text, w.1.0, w.1.2)
+    (line_at text, w.2.0, w.2.2)

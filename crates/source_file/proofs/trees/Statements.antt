@@ -1,7 +1,8 @@
 -- The tokens of statements read one by one, where only declarations add to what is read.
-use Rattle.std.proofs.Common.{◌≡◌, ◌∙◌, ◌++◌, ◌+◌, ℕ, List, [], ◌∷◌, refl, sym, ap, append_assoc}
-use Rattle.source_grammar.specs.Tokens.{Kind, a_name, colon, left_paren, right_paren, left_brace, right_brace, left_bracket, right_bracket}
-use Rattle.source_grammar.specs.Tokens.{comma, semicolon, change_sign, step_sign, int_word, if_word, else_word, while_word, do_word}
+use Rattle.std.proofs.Common.{◌≡◌, ◌∙◌, ◌++◌, ℕ, List, [], ◌∷◌, refl, sym, ap, append_assoc}
+use Rattle.source_grammar.specs.Tokens.{Kind, a_name, colon, left_paren, right_paren, left_brace, right_brace}
+use Rattle.source_grammar.specs.Tokens.{comma, semicolon, change_sign, step_sign, int_word, const_word, if_word, else_word, while_word}
+use Rattle.source_grammar.specs.Tokens.{do_word}
 use Rattle.source_grammar.specs.Tokens.{for_word, jump_word, return_word, demand_word, Token, token}
 use Rattle.source_grammar.specs.Grammar.{Expr, spell_expr, spell_arguments, Optional, absent, present, spell_optional}
 use Rattle.source_grammar.specs.Grammar.{Index, no_index, index, spell_index, Place, place, spell_place, Effect, assigns, steps}
@@ -9,15 +10,17 @@ use Rattle.source_grammar.specs.Grammar.{spell_effect}
 use Rattle.source_grammar.specs.Grammar.{Update, update, step_before, spell_update, MoreUpdates, last_update, next_update}
 use Rattle.source_grammar.specs.Grammar.{spell_more_updates, Updates, no_updates, some_updates, spell_updates, Declarators}
 use Rattle.source_grammar.specs.Grammar.{spell_declarators}
+use Rattle.source_grammar.specs.Grammar.{IntType, plain_int, const_int, spell_type}
 use Rattle.source_grammar.specs.Grammar.{ForFirst, declared_first, updated_first, spell_first, Core, Sub, Items, empty, block, if_alone}
 use Rattle.source_grammar.specs.Grammar.{if_else, repeat, repeat_after, repeat_for, jumps, returns, demands, calls, updates, labelled}
 use Rattle.source_grammar.specs.Grammar.{plain}
 use Rattle.source_grammar.specs.Grammar.{no_items, label, declaration, item, spell_core, spell_sub, spell_items}
 use Rattle.source_meaning.specs.Walk.{declared_in, declared_before, declared_core, declared_sub, declared_items}
-use Rattle.source_file.proofs.trees.Expressions.{IsPlain, IsReader, expr_read, arguments_read}
+use Rattle.source_file.proofs.trees.Expressions.{IsPlain, IsReader, expr_read, arguments_read, subscripts_read}
 
--- On the level of statements `,` and `;` change nothing, nor do braces with what they hold; a declaration adds its variables.
-pub record IsWalker {S R : Type 0} (run : S → List Token → R) (inside : S → S) (Calm Level : S → Type 0) (add : ℕ → R → R) : Type 0 where
+-- On the level of statements `,` and `;` change nothing; a declaration adds its variables.
+pub record IsWalker {S R : Type 0} (run : S → List Token → R) (inside : S → S) (Calm Level : S → Type 0)
+    (add : List (List ℕ) → R → R) : Type 0 where
   -- expressions change nothing
   pub reads : IsReader run inside Calm
   -- where a statement may stand an expression may
@@ -28,19 +31,15 @@ pub record IsWalker {S R : Type 0} (run : S → List Token → R) (inside : S �
   pub at_comma : (s : S) → Level s → (a : ℕ) (ts : List Token) → run s (token comma a ∷ ts) ≡ run s ts
   -- nor does a semicolon
   pub at_semicolon : (s : S) → Level s → (a : ℕ) (ts : List Token) → run s (token semicolon a ∷ ts) ≡ run s ts
-  -- a brace opens
-  pub opens : (s : S) → Level s → (a : ℕ) (ts : List Token) → run s (token left_brace a ∷ ts) ≡ run (inside s) ts
-  -- and closes
-  pub closes : (s : S) → Level s → (a : ℕ) (ts : List Token) → run (inside s) (token right_brace a ∷ ts) ≡ run s ts
   -- a declaration adds its variables
   pub declares : (s : S) → Level s → (a : ℕ) (xs : Declarators) (b : ℕ) (ts : List Token)
       → run s (token int_word a ∷ (spell_declarators xs ++ token semicolon b ∷ ts)) ≡ add (declared_in xs) (run s ts)
   -- nothing is added
-  pub none : (r : R) → add 0 r ≡ r
+  pub none : (r : R) → add [] r ≡ r
   -- what is added together is added one behind the other
-  pub more : (m n : ℕ) (r : R) → add (m + n) r ≡ add m (add n r)
+  pub more : (xs ys : List (List ℕ)) (r : R) → add (xs ++ ys) r ≡ add xs (add ys r)
 
-module _ {S R : Type 0} (run : S → List Token → R) (inside : S → S) (Calm Level : S → Type 0) (add : ℕ → R → R)
+module _ {S R : Type 0} (run : S → List Token → R) (inside : S → S) (Calm Level : S → Type 0) (add : List (List ℕ) → R → R)
     (w : IsWalker run inside Calm Level add) where
   abbrev expr : (e : Expr) (s : S) → Level s → (ts : List Token) → run s (spell_expr e ++ ts) ≡ run s ts
   expr e s h ts = expr_read run inside Calm w.reads e s (w.calm s h) ts
@@ -63,10 +62,7 @@ module _ {S R : Type 0} (run : S → List Token → R) (inside : S → S) (Calm 
 
   index_read : (i : Index) (s : S) → Level s → (ts : List Token) → run s (spell_index i ++ ts) ≡ run s ts
   index_read no_index s h ts = refl
-  index_read (index a e b) s h ts =
-      w.reads.opens s (w.calm s h) left_bracket tt a _
-      ∙ ap (run (inside s)) (append_assoc (spell_expr e) (token right_bracket b ∷ []) ts)
-      ∙ expr e (inside s) (w.level_inside s h) (token right_bracket b ∷ ts) ∙ w.reads.closes s (w.calm s h) right_bracket tt b ts
+  index_read (index is) s h ts = subscripts_read run inside Calm w.reads is s (w.calm s h) ts
 
   place_read : (p : Place) (s : S) → Level s → (ts : List Token) → run s (spell_place p ++ ts) ≡ run s ts
   place_read (place x a i) s h ts = plain_read s h (a_name x) tt a _ ∙ index_read i s h ts
@@ -92,9 +88,16 @@ module _ {S R : Type 0} (run : S → List Token → R) (inside : S → S) (Calm 
       ap (run s) (append_assoc (spell_update u) (spell_more_updates us) ts)
       ∙ update_read u s h (spell_more_updates us ++ ts) ∙ more_updates_read us s h ts
 
+  -- what stands before the names of a declaration
+  declaration_read : (t : IntType) (xs : Declarators) (b : ℕ) (s : S) → Level s → (ts : List Token)
+      → run s (spell_type t ++ (spell_declarators xs ++ token semicolon b ∷ ts)) ≡ add (declared_in xs) (run s ts)
+  declaration_read (plain_int a) xs b s h ts = w.declares s h a xs b ts
+  declaration_read (const_int a c) xs b s h ts = plain_read s h const_word tt a _ ∙ w.declares s h c xs b ts
+
   first_read : (f : ForFirst) (s : S) → Level s → (c : ℕ) (ts : List Token)
       → run s (spell_first f ++ token semicolon c ∷ ts) ≡ add (declared_before f) (run s ts)
-  first_read (declared_first a xs) s h c ts = w.declares s h a xs c ts
+  first_read (declared_first t xs) s h c ts =
+      ap (run s) (append_assoc (spell_type t) (spell_declarators xs) (token semicolon c ∷ ts)) ∙ declaration_read t xs c s h ts
   first_read (updated_first us) s h c ts =
       updates_read us s h (token semicolon c ∷ ts) ∙ w.at_semicolon s h c ts ∙ sym (w.none (run s ts))
 
@@ -109,7 +112,7 @@ module _ {S R : Type 0} (run : S → List Token → R) (inside : S → S) (Calm 
       ∙ updates_read us (inside s) (w.level_inside s h) (token right_paren i ∷ (xs ++ ts))
       ∙ w.reads.closes s (w.calm s h) right_paren tt i (xs ++ ts)
 
-  abbrev same : (s : S) (ts : List Token) → run s ts ≡ add 0 (run s ts)
+  abbrev same : (s : S) (ts : List Token) → run s ts ≡ add [] (run s ts)
   same s ts = sym (w.none (run s ts))
 
   mutual
@@ -117,8 +120,9 @@ module _ {S R : Type 0} (run : S → List Token → R) (inside : S → S) (Calm 
     pub core_read : (c : Core) (s : S) → Level s → (ts : List Token) → run s (spell_core c ++ ts) ≡ add (declared_core c) (run s ts)
     core_read (empty a) s h ts = w.at_semicolon s h a ts ∙ same s ts
     core_read (block a is b) s h ts =
-        w.opens s h a _ ∙ ap (run (inside s)) (append_assoc (spell_items is) (token right_brace b ∷ []) ts)
-        ∙ items_read is (inside s) (w.level_inside s h) (token right_brace b ∷ ts) ∙ ap (add (declared_items is)) (w.closes s h b ts)
+        w.reads.opens s (w.calm s h) left_brace tt a _ ∙ ap (run (inside s)) (append_assoc (spell_items is) (token right_brace b ∷ []) ts)
+        ∙ items_read is (inside s) (w.level_inside s h) (token right_brace b ∷ ts)
+        ∙ ap (add (declared_items is)) (w.reads.closes s (w.calm s h) right_brace tt b ts)
     core_read (if_alone a b e c x) s h ts = test_read s h if_word tt a b e c (spell_sub x) ts ∙ sub_read x s h ts
     core_read (if_else a b e c x d y) s h ts =
         test_read s h if_word tt a b e c (spell_sub x ++ token else_word d ∷ spell_sub y) ts
@@ -165,9 +169,10 @@ module _ {S R : Type 0} (run : S → List Token → R) (inside : S → S) (Calm 
         → run s (spell_items is ++ ts) ≡ add (declared_items is) (run s ts)
     items_read no_items s h ts = same s ts
     items_read (label x a b is) s h ts = plain_read s h (a_name x) tt a _ ∙ plain_read s h colon tt b _ ∙ items_read is s h ts
-    items_read (declaration a xs b is) s h ts =
-        ap (λ (y : List Token). run s (token int_word a ∷ y)) (append_assoc (spell_declarators xs) (token semicolon b ∷ spell_items is) ts)
-        ∙ w.declares s h a xs b (spell_items is ++ ts) ∙ ap (add (declared_in xs)) (items_read is s h ts)
+    items_read (declaration t xs b is) s h ts =
+        ap (run s) (append_assoc (spell_type t) (spell_declarators xs ++ token semicolon b ∷ spell_items is) ts)
+        ∙ ap (λ (y : List Token). run s (spell_type t ++ y)) (append_assoc (spell_declarators xs) (token semicolon b ∷ spell_items is) ts)
+        ∙ declaration_read t xs b s h (spell_items is ++ ts) ∙ ap (add (declared_in xs)) (items_read is s h ts)
         ∙ sym (w.more (declared_in xs) (declared_items is) (run s ts))
     items_read (item c is) s h ts =
         ap (run s) (append_assoc (spell_core c) (spell_items is) ts) ∙ core_read c s h (spell_items is ++ ts)

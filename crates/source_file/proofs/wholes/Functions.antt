@@ -1,8 +1,8 @@
 -- The tokens of a file's functions.
-use Rattle.std.proofs.Common.{◌≡◌, ◌∙◌, ◌≤◌, ◌-◌, ℕ, Bool, true, false, List, [], ◌∷◌, Option, Some, None, length}
+use Rattle.std.proofs.Common.{◌≡◌, ◌∙◌, ◌≤◌, ◌-◌, ℕ, ℤ, Bool, true, false, List, [], ◌∷◌, Option, Some, None, length}
 use Rattle.std.proofs.Common.{map, take, drop, refl, sym, ap, ap₂, subst, codes, cond}
 use Rattle.std.specs.Prelude.{slice_range}
-use Rattle.std.specs.List.{slice_get}
+use Rattle.std.specs.List.{All, slice_get}
 use Rattle.std.specs.Str.{bytes_eq}
 use Rattle.std.proofs.lemmas.List.{take-map, drop-map, length-map}
 use Rattle.lang_tokens.specs.declared.word.Word.{Word}
@@ -15,14 +15,17 @@ use Rattle.source_items.specs.declared.mark.Mark.{Mark}
 use Rattle.source_items.specs.declared.item.Item.{Item}
 use Rattle.source_items.specs.Divisions.{IsDivided}
 use Rattle.source_grammar.specs.Faults.{Finds, short}
+use Rattle.source_tokens.specs.declared.definition.Definition.{Definition}
+use Rattle.source_tokens.specs.Constants.{constant_at}
 use Rattle.source_tokens.specs.View.{sign_kind, word_kind, kind_of, tokens_of, sign_mark, word_mark, mark_of, marks_of, bytes_of}
+use Rattle.source_constants.specs.Items.{IsItemOf}
 use Rattle.source_file.specs.declared.functions.Defined.{Defined}
 use Rattle.source_file.specs.Functions.{function_at, if_main, named_by, defined_by, functions_of}
 use Rattle.source_file.specs.Choice.{named, only, or_else, chosen}
 use Rattle.source_file.specs.Meaning.{item_of}
 use Rattle.source_file.proofs.wholes.Turns.{Turn, kind_turn, mark_turn, turns, twice}
 use Rattle.source_file.proofs.wholes.Spelled.{never_short}
-use Rattle.source_file.proofs.wholes.Parts.{IsBody, AllBodies, divided_bodies}
+use Rattle.source_file.proofs.wholes.Parts.{IsBody, AllBodies, divided_among, divided_bodies}
 
 -- ---- tokens and marks open and close the same
 
@@ -34,17 +37,22 @@ word_turn : (w : Word) → kind_turn (word_kind w) ≡ mark_turn (word_mark w)
 word_turn Main = refl
 word_turn w = refl
 
-token_turn : (bytes : List ℕ) (k : lex_kind.Kind) (at len : ℕ)
-    → kind_turn (kind_of bytes k) ≡ mark_turn (mark_of (record { kind = k; at = at; len = len }))
-token_turn bytes (lex_kind.TheVariants.Word w) at len = word_turn w
-token_turn bytes lex_kind.TheVariants.Name at len = refl
-token_turn bytes (lex_kind.TheVariants.Number n) at len = refl
-token_turn bytes (lex_kind.TheVariants.Sign s) at len = sign_turn s
-token_turn bytes lex_kind.TheVariants.End at len = refl
+token_turn : (bytes : List ℕ) (v : Option ℤ) (k : lex_kind.Kind) (at len : ℕ)
+    → kind_turn (kind_of bytes v k) ≡ mark_turn (mark_of (record { kind = k; at = at; len = len }))
+token_turn bytes v (lex_kind.TheVariants.Word w) at len = word_turn w
+token_turn bytes v lex_kind.TheVariants.Name at len = refl
+token_turn bytes v (lex_kind.TheVariants.Number n) at len = refl
+token_turn bytes v (lex_kind.TheVariants.Sign s) at len = sign_turn s
+token_turn bytes v (lex_kind.TheVariants.Foreign sort) at len = refl
+token_turn bytes v (lex_kind.TheVariants.Aside aside) at len = refl
+token_turn bytes v lex_kind.TheVariants.End at len = refl
 
-turns_are : (text : List ℕ) (ts : List lex_token.Token) → turns (tokens_of text ts) ≡ map mark_turn (marks_of ts)
-turns_are text [] = refl
-turns_are text (t ∷ ts) = ap₂ (λ (x : Turn) (y : List Turn). x ∷ y) (token_turn (bytes_of text t) t.kind t.at t.len) (turns_are text ts)
+turns_are : (definitions : List Definition) (text : List ℕ) (ts : List lex_token.Token)
+    → turns (tokens_of definitions text ts) ≡ map mark_turn (marks_of ts)
+turns_are definitions text [] = refl
+turns_are definitions text (t ∷ ts) =
+    ap₂ (λ (x : Turn) (y : List Turn). x ∷ y)
+    (token_turn (bytes_of text t) (constant_at definitions (bytes_of text t) t.at) t.kind t.at t.len) (turns_are definitions text ts)
 
 range_marks : (ts : List lex_token.Token) (a b : ℕ) → slice_range (marks_of ts) a b ≡ marks_of (slice_range ts a b)
 range_marks ts a b =
@@ -91,6 +99,8 @@ from_kind text item (lex_kind.TheVariants.Word w) at len index d n e =
     from_word text item (record { kind = lex_kind.TheVariants.Word w; at = at; len = len }) index d w n e
 from_kind text item (lex_kind.TheVariants.Number m) at len index d n e = no_function d e
 from_kind text item (lex_kind.TheVariants.Sign s) at len index d n e = no_function d e
+from_kind text item (lex_kind.TheVariants.Foreign sort) at len index d n e = no_function d e
+from_kind text item (lex_kind.TheVariants.Aside aside) at len index d n e = no_function d e
 from_kind text item lex_kind.TheVariants.End at len index d n e = no_function d e
 
 from_token : (text : List ℕ) (item : Item) (o : Option lex_token.Token) (index : ℕ) (d : Defined) → item.name ≡ Some index
@@ -147,12 +157,19 @@ chosen_whole ts None ds d h e = on (named (codes "main") ds) refl e where
   on (Some c) i e = subst (IsWhole ts) (some_function c d e) (found_whole ts (codes "main") ds c h i)
 
 -- a whole function never ends too early
-pub whole_never_short : (text : List ℕ) (ts : List lex_token.Token) (d : Defined) → IsWhole ts d → Finds short (item_of text ts d) → ⊥
-whole_never_short text ts d h f =
-    never_short (item_of text ts d)
-    (ap twice (turns_are text (slice_range ts d.first d.end)
-    ∙ ap (λ (x : List Mark). map mark_turn x) (sym (range_marks ts d.first d.end))) ∙ h.closed) f
+pub whole_never_short : (definitions : List Definition) (text : List ℕ) (ts : List lex_token.Token) (d : Defined) → IsWhole ts d
+    → Finds short (tokens_of definitions text (item_of ts d)) → ⊥
+whole_never_short definitions text ts d h f =
+    never_short (tokens_of definitions text (item_of ts d))
+    (ap twice (turns_are definitions text (item_of ts d) ∙ ap (λ (x : List Mark). map mark_turn x) (sym (range_marks ts d.first d.end)))
+    ∙ h.closed) f
 
 -- its tokens are there
 pub whole_within : (ts : List lex_token.Token) (d : Defined) → IsWhole ts d → d.end ≤ length ts
 whole_within ts d h = subst (λ n. d.end ≤ n) (length-map ts mark_of) h.within
+
+-- the items of a file are among its tokens
+pub items_among : (ts : List lex_token.Token) (items : List Item) → IsDivided (marks_of ts) items → All (IsItemOf ts) items
+items_among ts items d =
+    divided_among (marks_of ts) items (IsItemOf ts)
+    (λ item order within. record { order = order; within = subst (λ n. item.end ≤ n) (length-map ts mark_of) within }) d

@@ -3,6 +3,8 @@ use Rattle.std.proofs.Common.{◌≡◌, ◌∙◌, ◌++◌, ◌+◌, ◌-◌, 
 use Rattle.std.proofs.Common.{take}
 use Rattle.std.proofs.Common.{refl, sym, ap, ap₂, subst, append_assoc, length-append, arith, if◌then◌else◌}
 use Rattle.std.specs.Prelude.{slice_range}
+use Rattle.std.specs.List.{All}
+use Rattle.std.proofs.lemmas.List.Elements.{All-nil, All-cons}
 use Rattle.std.proofs.Math.Seq.{drop-append_seam, take-append_seam}
 use Rattle.source_items.specs.declared.mark.Bracket.{Bracket}
 use Rattle.source_items.specs.declared.mark.Bracket.TheVariants.{Round, Curly}
@@ -166,3 +168,22 @@ pub divided_bodies : (marks : List Mark) (items : List Item) → IsDivided marks
 divided_bodies marks items d =
     let all = joined d.elements nil d.parts d.makes tt d.holds.matches in
     subst (AllBodies marks) (sym d.are) (placed_bodies marks d.parts 0 [] refl (sym d.holds.spells ∙ all.spells) all.match)
+
+-- what is true of each item among so many tokens is true of items one behind the other
+placed_among : (n : ℕ) (P : Item → Type 0) → ((item : Item) → item.first ≤ item.end → item.end ≤ n → P item) → (parts : List Elements)
+    (at : ℕ) → at + length (flat parts) ≤ n → All P (placed at parts)
+placed_among n P p [] at h = All-nil P
+placed_among n P p (es ∷ rest) at h =
+    let here = all_spelled es in
+    let all : length (flat (es ∷ rest)) ≡ length here + length (flat rest) = length-append here (flat rest) in
+    All-cons P (record { first = at; end = at + length here; name = name_behind at es }) (placed (at + length here) rest)
+    (p (record { first = at; end = at + length here; name = name_behind at es }) (omega arith) (omega (arith, all, h)))
+    (placed_among n P p rest (at + length here) (omega (arith, all, h)))
+
+-- the items of a file are among its tokens
+pub divided_among : (marks : List Mark) (items : List Item) (P : Item → Type 0)
+    → ((item : Item) → item.first ≤ item.end → item.end ≤ length marks → P item) → IsDivided marks items → All P items
+divided_among marks items P p d =
+    let all = joined d.elements nil d.parts d.makes tt d.holds.matches in
+    let size : length marks ≡ length (flat d.parts) = ap (λ (x : List Mark). length x) (sym d.holds.spells ∙ all.spells) in
+    subst (All P) (sym d.are) (placed_among (length marks) P p d.parts 0 (omega (arith, size)))

@@ -1,18 +1,20 @@
 -- The brackets of a function end with it.
 use Rattle.std.proofs.Common.{◌≡◌, ◌∙◌, ◌++◌, ℕ, suc, List, [], ◌∷◌, Option, Some, refl, sym, ap, subst, append_assoc}
 use Rattle.std.proofs.lemmas.List.{append-nil}
-use Rattle.source_grammar.specs.Tokens.{Kind, left_paren, right_paren, left_brace, right_brace, left_bracket}
-use Rattle.source_grammar.specs.Tokens.{right_bracket, semicolon, Token, token}
-use Rattle.source_grammar.specs.Grammar.{bare, given, sized, Declarator, declarator, spell_declarator, MoreDeclarators}
-use Rattle.source_grammar.specs.Grammar.{last_declarator, next_declarator, spell_more_declarators, Declarators, spell_declarators}
-use Rattle.source_grammar.specs.Grammar.{spell_expr}
+use Rattle.source_grammar.specs.Tokens.{replaces, Kind, left_paren, right_paren, left_brace, right_brace, left_bracket, right_bracket}
+use Rattle.source_grammar.specs.Tokens.{semicolon, change_sign, Token, token}
+use Rattle.source_grammar.specs.Grammar.{spell_sizes, spell_values, bare, given, sized, filled, Declarator, declarator, spell_declarator}
+use Rattle.source_grammar.specs.Grammar.{MoreDeclarators, last_declarator, next_declarator, spell_more_declarators, Declarators}
+use Rattle.source_grammar.specs.Grammar.{spell_declarators, IntType, plain_int, const_int, spell_type}
 use Rattle.source_grammar.specs.Grammar.{Specifiers, gives_int, gives_void, storage, spell_specifiers, FunctionName, called, called_main}
-use Rattle.source_grammar.specs.Grammar.{spell_function_name, MoreParameters, last_parameter, next_parameter, spell_more_parameters}
-use Rattle.source_grammar.specs.Grammar.{Parameters, no_parameters, void_parameters, int_parameters, spell_parameters, Items, spell_items}
-use Rattle.source_grammar.specs.Grammar.{Function, function, spell, Reads, Begins}
+use Rattle.source_grammar.specs.Grammar.{spell_function_name, Bounds, sized_bounds, open_bound, open_bounds, spell_bounds, Parameter}
+use Rattle.source_grammar.specs.Grammar.{number_parameter, pointer_parameter, array_parameter, spell_parameter, MoreParameters}
+use Rattle.source_grammar.specs.Grammar.{last_parameter, next_parameter, spell_more_parameters, Parameters, no_parameters}
+use Rattle.source_grammar.specs.Grammar.{void_parameters, some_parameters, spell_parameters, spell_items, Function, function, spell}
 use Rattle.source_grammar.specs.Grammar as tree
+use Rattle.source_grammar.specs.Grammar.{Reads}
 use Rattle.source_grammar.specs.Faults.{Finds, short}
-use Rattle.source_file.proofs.trees.Expressions.{IsPlain, IsOpening, IsClosing, IsReader, expr_read}
+use Rattle.source_file.proofs.trees.Expressions.{IsPlain, IsOpening, IsClosing, IsReader, expr_read, sizes_read, braced_read}
 use Rattle.source_file.proofs.trees.Statements.{IsWalker, items_read}
 use Rattle.source_file.proofs.wholes.Turns.{Turn, opening, closing, staying, kind_turn, turns, after, again, twice, turns_append}
 use Rattle.source_file.proofs.wholes.Turns.{twice_append}
@@ -33,11 +35,13 @@ plain_turn k h = refl
 opening_turn : (k : Kind) → IsOpening k → kind_turn k ≡ opening
 opening_turn left_paren h = refl
 opening_turn left_bracket h = refl
+opening_turn left_brace h = refl
 opening_turn k h = absurd h
 
 closing_turn : (k : Kind) → IsClosing k → kind_turn k ≡ closing
 closing_turn right_paren h = refl
 closing_turn right_bracket h = refl
+closing_turn right_brace h = refl
 closing_turn k h = absurd h
 
 abbrev Any : ℕ → Type 0
@@ -55,7 +59,11 @@ reader = record {
 declarator_run : (x : Declarator) (d : ℕ) (ts : List Token) → run d (spell_declarator x ++ ts) ≡ run d ts
 declarator_run (declarator x a bare) d ts = refl
 declarator_run (declarator x a (given b e)) d ts = expr_read run suc Any reader e d tt ts
-declarator_run (declarator x a (sized b n c f)) d ts = refl
+declarator_run (declarator x a (sized zs)) d ts = sizes_read run suc Any reader zs d tt ts
+declarator_run (declarator x a (filled zs b c vs f)) d ts =
+    let rest = token (change_sign replaces) b ∷ token left_brace c ∷ (spell_values vs ++ token right_brace f ∷ []) in
+    ap (run d) (append_assoc (spell_sizes zs) rest ts) ∙ sizes_read run suc Any reader zs d tt (rest ++ ts)
+    ∙ braced_read run suc Any reader c vs f d tt ts
 
 more_run : (xs : MoreDeclarators) (d : ℕ) (ts : List Token) → run d (spell_more_declarators xs ++ ts) ≡ run d ts
 more_run last_declarator d ts = refl
@@ -68,8 +76,8 @@ declarators_run (tree.declares x xs) d ts =
     ap (run d) (append_assoc (spell_declarator x) (spell_more_declarators xs) ts)
     ∙ declarator_run x d (spell_more_declarators xs ++ ts) ∙ more_run xs d ts
 
-abbrev kept : ℕ → Option (List Turn) → Option (List Turn)
-kept n o = o
+abbrev kept : List (List ℕ) → Option (List Turn) → Option (List Turn)
+kept xs o = o
 
 walker : IsWalker run suc Any Any kept
 walker = record {
@@ -78,11 +86,9 @@ walker = record {
   level_inside = λ d h. tt;
   at_comma = λ d h a ts. refl;
   at_semicolon = λ d h a ts. refl;
-  opens = λ d h a ts. refl;
-  closes = λ d h a ts. refl;
   declares = λ d h a xs b ts. declarators_run xs d (token semicolon b ∷ ts);
   none = λ r. refl;
-  more = λ m n r. refl;
+  more = λ xs ys r. refl;
 }
 
 specifiers_run : (ss : Specifiers) (ts : List Token) → after 0 (turns (spell_specifiers ss ++ ts)) ≡ after 0 (turns ts)
@@ -94,14 +100,32 @@ name_run : (n : FunctionName) (ts : List Token) → after 0 (turns (spell_functi
 name_run (called x a) ts = refl
 name_run (called_main a) ts = refl
 
-after_run : (ps : MoreParameters) (ts : List Token) → after 1 (turns (spell_more_parameters ps ++ ts)) ≡ after 1 (turns ts)
-after_run last_parameter ts = refl
-after_run (next_parameter a b x c ps) ts = after_run ps ts
+type_run : (t : IntType) (d : ℕ) (ts : List Token) → run d (spell_type t ++ ts) ≡ run d ts
+type_run (plain_int a) d ts = refl
+type_run (const_int a b) d ts = refl
 
-parameters_run : (ps : Parameters) (ts : List Token) → after 1 (turns (spell_parameters ps ++ ts)) ≡ after 1 (turns ts)
-parameters_run no_parameters ts = refl
-parameters_run (void_parameters a) ts = refl
-parameters_run (int_parameters a x b ps) ts = after_run ps ts
+bounds_run : (bs : Bounds) (d : ℕ) (ts : List Token) → run d (spell_bounds bs ++ ts) ≡ run d ts
+bounds_run (sized_bounds zs) d ts = sizes_read run suc Any reader zs d tt ts
+bounds_run (open_bound a b) d ts = refl
+bounds_run (open_bounds a b zs) d ts = sizes_read run suc Any reader zs d tt ts
+
+parameter_run : (p : Parameter) (d : ℕ) (ts : List Token) → run d (spell_parameter p ++ ts) ≡ run d ts
+parameter_run (number_parameter t x a) d ts = ap (run d) (append_assoc (spell_type t) _ ts) ∙ type_run t d _
+parameter_run (pointer_parameter t a x b) d ts = ap (run d) (append_assoc (spell_type t) _ ts) ∙ type_run t d _
+parameter_run (array_parameter t x a bs) d ts = ap (run d) (append_assoc (spell_type t) _ ts) ∙ type_run t d _ ∙ bounds_run bs d ts
+
+after_run : (ps : MoreParameters) (d : ℕ) (ts : List Token) → run d (spell_more_parameters ps ++ ts) ≡ run d ts
+after_run last_parameter d ts = refl
+after_run (next_parameter a p ps) d ts =
+    ap (run d) (append_assoc (spell_parameter p) (spell_more_parameters ps) ts)
+    ∙ parameter_run p d (spell_more_parameters ps ++ ts) ∙ after_run ps d ts
+
+parameters_run : (ps : Parameters) (d : ℕ) (ts : List Token) → run d (spell_parameters ps ++ ts) ≡ run d ts
+parameters_run no_parameters d ts = refl
+parameters_run (void_parameters a) d ts = refl
+parameters_run (some_parameters p ps) d ts =
+    ap (run d) (append_assoc (spell_parameter p) (spell_more_parameters ps) ts)
+    ∙ parameter_run p d (spell_more_parameters ps ++ ts) ∙ after_run ps d ts
 
 -- the parameters and the body are all
 pub function_twice : (f : Function) → twice (turns (spell f)) ≡ Some []
@@ -109,7 +133,7 @@ function_twice (function ss n a ps b c is d) =
     let body : List Token = token left_brace c ∷ (spell_items is ++ token right_brace d ∷ []) in
     ap again (specifiers_run ss (spell_function_name n ++ token left_paren a ∷ (spell_parameters ps ++ token right_paren b ∷ body))
     ∙ name_run n (token left_paren a ∷ (spell_parameters ps ++ token right_paren b ∷ body))
-    ∙ parameters_run ps (token right_paren b ∷ body))
+    ∙ parameters_run ps 0 (token right_paren b ∷ body))
     ∙ items_read run suc Any Any kept walker is 0 tt (token right_brace d ∷ [])
 
 none_left : (ts : List Token) → turns ts ≡ [] → ts ≡ []

@@ -1,36 +1,30 @@
--- What the tokens of statements count.
-use Rattle.std.proofs.Common.{◌≡◌, ◌∙◌, ◌++◌, ◌+◌, ℕ, suc, Bool, true, false, List, ◌∷◌, refl, sym, ap, ap₂, append_assoc, arith}
-use Rattle.source_grammar.specs.Tokens.{replaces, Kind, a_name, a_number, left_paren, right_paren, left_brace, right_brace, left_bracket}
+-- What the tokens of statements declare.
+use Rattle.std.proofs.Common.{◌≡◌, ◌∙◌, ◌++◌, ◌&&◌, not, ℕ, suc, Bool, false, List, [], ◌∷◌, refl, sym, ap, ap₂, append_assoc}
+use Rattle.std.proofs.Common.{if◌then◌else◌}
+use Rattle.source_grammar.specs.Tokens.{replaces, Name, Kind, a_name, left_paren, right_paren, left_brace, right_brace, left_bracket}
 use Rattle.source_grammar.specs.Tokens.{right_bracket, comma, semicolon, change_sign, int_word, Token, token}
-use Rattle.source_grammar.specs.Grammar.{Initialiser, bare, given, sized, Declarator, declarator, spell_declarator, MoreDeclarators}
-use Rattle.source_grammar.specs.Grammar.{last_declarator, next_declarator, spell_more_declarators, Declarators, spell_declarators}
-use Rattle.source_grammar.specs.Grammar.{spell_expr}
+use Rattle.source_grammar.specs.Grammar.{Sizes, last_size, next_size, spell_sizes, bare, given, sized, filled, Declarator, declarator}
+use Rattle.source_grammar.specs.Grammar.{spell_declarator, MoreDeclarators, last_declarator, next_declarator, spell_more_declarators}
+use Rattle.source_grammar.specs.Grammar.{Declarators, spell_declarators, spell_expr, spell_values}
 use Rattle.source_grammar.specs.Grammar as tree
 use Rattle.source_meaning.specs.Walk.{declared_one, declared_more, declared_in}
 use Rattle.source_file.specs.declared.width.Place.{Place}
-use Rattle.source_file.specs.declared.width.Place.TheVariants.{Heading, Elsewhere, Declaring, Named, Behind}
-use Rattle.source_file.specs.Width.{behind, elsewhere, next, declares, one_if, count}
-use Rattle.source_file.proofs.trees.Expressions.{IsPlain, IsOpening, IsClosing, IsReader, expr_read}
+use Rattle.source_file.specs.declared.width.Place.TheVariants.{Heading, Elsewhere, Declaring, Behind}
+use Rattle.source_file.specs.Width.{begins_bracket, behind, elsewhere, next, names, text_of, declared_from}
+use Rattle.source_file.proofs.trees.Expressions.{IsPlain, IsOpening, IsClosing, IsReader, expr_read, sizes_read, braced_read}
 use Rattle.source_file.proofs.trees.Statements.{IsWalker}
 
-nothing : (n : ℕ) → 0 + n ≡ n
-nothing n = omega arith
-
--- a token that counts nothing
-pub quiet : (p q : Place) (k : Kind) (a : ℕ) (ts : List Token) → declares p k ≡ false → next p k ≡ q → count p (token k a ∷ ts) ≡ count q ts
-quiet p q k a ts e f = ap₂ (λ (b : Bool) (x : Place). one_if b + count x ts) e f ∙ nothing (count q ts)
-
--- a token that counts one
-pub loud : (p q : Place) (k : Kind) (a : ℕ) (ts : List Token) → declares p k ≡ true → next p k ≡ q
-    → count p (token k a ∷ ts) ≡ 1 + count q ts
-loud p q k a ts e f = ap₂ (λ (b : Bool) (x : Place). one_if b + count x ts) e f
+-- a token that declares nothing
+pub quiet : (p q : Place) (k : Kind) (a : ℕ) (ts : List Token) → names p k ≡ false → next p k ≡ q
+    → declared_from p (token k a ∷ ts) ≡ declared_from q ts
+quiet p q k a ts e f =
+    ap₂ (λ (b : Bool) (x : Place). (if b && not (begins_bracket ts) then text_of k ∷ [] else []) ++ declared_from x ts) e f
 
 -- in a bracket more
 abbrev pub inside : Place → Place
 inside Heading = Heading
 inside Elsewhere = Elsewhere
 inside Declaring = Declaring
-inside Named = Named
 inside (Behind d) = Behind (suc d)
 
 -- where an expression may stand
@@ -38,7 +32,6 @@ abbrev pub Calm : Place → Type 0
 Calm Heading = ⊥
 Calm Elsewhere = Unit {0}
 Calm Declaring = ⊥
-Calm Named = ⊥
 Calm (Behind d) = Unit {0}
 
 -- where a statement may stand
@@ -46,7 +39,6 @@ abbrev pub Level : Place → Type 0
 Level Heading = ⊥
 Level Elsewhere = Unit {0}
 Level Declaring = ⊥
-Level Named = ⊥
 Level (Behind d) = ⊥
 
 elsewhere_plain : (k : Kind) → IsPlain k → elsewhere k ≡ Elsewhere
@@ -58,6 +50,8 @@ behind_plain left_paren d h = absurd h
 behind_plain left_bracket d h = absurd h
 behind_plain right_paren d h = absurd h
 behind_plain right_bracket d h = absurd h
+behind_plain left_brace d h = absurd h
+behind_plain right_brace d h = absurd h
 behind_plain comma d h = absurd h
 behind_plain semicolon d h = absurd h
 behind_plain k d h = refl
@@ -66,15 +60,14 @@ calm_inside : (s : Place) → Calm s → Calm (inside s)
 calm_inside Heading h = absurd h
 calm_inside Elsewhere h = tt
 calm_inside Declaring h = absurd h
-calm_inside Named h = absurd h
 calm_inside (Behind d) h = tt
 
-plain_counts : (s : Place) → Calm s → (k : Kind) → IsPlain k → (a : ℕ) (ts : List Token) → count s (token k a ∷ ts) ≡ count s ts
-plain_counts Heading h k p a ts = absurd h
-plain_counts Elsewhere h k p a ts = quiet Elsewhere Elsewhere k a ts refl (elsewhere_plain k p)
-plain_counts Declaring h k p a ts = absurd h
-plain_counts Named h k p a ts = absurd h
-plain_counts (Behind d) h k p a ts = quiet (Behind d) (Behind d) k a ts refl (behind_plain k d p)
+plain_declare : (s : Place) → Calm s → (k : Kind) → IsPlain k → (a : ℕ) (ts : List Token)
+    → declared_from s (token k a ∷ ts) ≡ declared_from s ts
+plain_declare Heading h k p a ts = absurd h
+plain_declare Elsewhere h k p a ts = quiet Elsewhere Elsewhere k a ts refl (elsewhere_plain k p)
+plain_declare Declaring h k p a ts = absurd h
+plain_declare (Behind d) h k p a ts = quiet (Behind d) (Behind d) k a ts refl (behind_plain k d p)
 
 elsewhere_opens : (k : Kind) → IsOpening k → elsewhere k ≡ Elsewhere
 elsewhere_opens int_word h = absurd h
@@ -83,15 +76,15 @@ elsewhere_opens k h = refl
 behind_opens : (k : Kind) (d : ℕ) → IsOpening k → behind k d ≡ Behind (suc d)
 behind_opens left_paren d h = refl
 behind_opens left_bracket d h = refl
+behind_opens left_brace d h = refl
 behind_opens k d h = absurd h
 
-opens_counts : (s : Place) → Calm s → (k : Kind) → IsOpening k → (a : ℕ) (ts : List Token)
-    → count s (token k a ∷ ts) ≡ count (inside s) ts
-opens_counts Heading h k p a ts = absurd h
-opens_counts Elsewhere h k p a ts = quiet Elsewhere Elsewhere k a ts refl (elsewhere_opens k p)
-opens_counts Declaring h k p a ts = absurd h
-opens_counts Named h k p a ts = absurd h
-opens_counts (Behind d) h k p a ts = quiet (Behind d) (Behind (suc d)) k a ts refl (behind_opens k d p)
+opens_declare : (s : Place) → Calm s → (k : Kind) → IsOpening k → (a : ℕ) (ts : List Token)
+    → declared_from s (token k a ∷ ts) ≡ declared_from (inside s) ts
+opens_declare Heading h k p a ts = absurd h
+opens_declare Elsewhere h k p a ts = quiet Elsewhere Elsewhere k a ts refl (elsewhere_opens k p)
+opens_declare Declaring h k p a ts = absurd h
+opens_declare (Behind d) h k p a ts = quiet (Behind d) (Behind (suc d)) k a ts refl (behind_opens k d p)
 
 elsewhere_closes : (k : Kind) → IsClosing k → elsewhere k ≡ Elsewhere
 elsewhere_closes int_word h = absurd h
@@ -100,93 +93,93 @@ elsewhere_closes k h = refl
 behind_closes : (k : Kind) (d : ℕ) → IsClosing k → behind k (suc d) ≡ Behind d
 behind_closes right_paren d h = refl
 behind_closes right_bracket d h = refl
+behind_closes right_brace d h = refl
 behind_closes k d h = absurd h
 
-closes_counts : (s : Place) → Calm s → (k : Kind) → IsClosing k → (a : ℕ) (ts : List Token)
-    → count (inside s) (token k a ∷ ts) ≡ count s ts
-closes_counts Heading h k p a ts = absurd h
-closes_counts Elsewhere h k p a ts = quiet Elsewhere Elsewhere k a ts refl (elsewhere_closes k p)
-closes_counts Declaring h k p a ts = absurd h
-closes_counts Named h k p a ts = absurd h
-closes_counts (Behind d) h k p a ts = quiet (Behind (suc d)) (Behind d) k a ts refl (behind_closes k d p)
+closes_declare : (s : Place) → Calm s → (k : Kind) → IsClosing k → (a : ℕ) (ts : List Token)
+    → declared_from (inside s) (token k a ∷ ts) ≡ declared_from s ts
+closes_declare Heading h k p a ts = absurd h
+closes_declare Elsewhere h k p a ts = quiet Elsewhere Elsewhere k a ts refl (elsewhere_closes k p)
+closes_declare Declaring h k p a ts = absurd h
+closes_declare (Behind d) h k p a ts = quiet (Behind (suc d)) (Behind d) k a ts refl (behind_closes k d p)
 
-comma_counts : (s : Place) → Calm s → (a : ℕ) (ts : List Token) → count (inside s) (token comma a ∷ ts) ≡ count (inside s) ts
-comma_counts Heading h a ts = absurd h
-comma_counts Elsewhere h a ts = quiet Elsewhere Elsewhere comma a ts refl refl
-comma_counts Declaring h a ts = absurd h
-comma_counts Named h a ts = absurd h
-comma_counts (Behind d) h a ts = quiet (Behind (suc d)) (Behind (suc d)) comma a ts refl refl
+comma_declares : (s : Place) → Calm s → (a : ℕ) (ts : List Token)
+    → declared_from (inside s) (token comma a ∷ ts) ≡ declared_from (inside s) ts
+comma_declares Heading h a ts = absurd h
+comma_declares Elsewhere h a ts = quiet Elsewhere Elsewhere comma a ts refl refl
+comma_declares Declaring h a ts = absurd h
+comma_declares (Behind d) h a ts = quiet (Behind (suc d)) (Behind (suc d)) comma a ts refl refl
 
--- expressions count nothing
-pub reader : IsReader count inside Calm
+-- expressions declare nothing
+pub reader : IsReader declared_from inside Calm
 reader = record {
   calm_inside = calm_inside;
-  plain = plain_counts;
-  opens = opens_counts;
-  closes = closes_counts;
-  at_comma = comma_counts;
+  plain = plain_declare;
+  opens = opens_declare;
+  closes = closes_declare;
+  at_comma = comma_declares;
 }
 
+-- a name before tokens that make it a variable
+pub bare_declares : (x : Name) (a : ℕ) (ts : List Token) → begins_bracket ts ≡ false
+    → declared_from Declaring (token (a_name x) a ∷ ts) ≡ x.text ∷ declared_from (Behind 0) ts
+bare_declares x a ts e = ap (λ (b : Bool). (if not b then x.text ∷ [] else []) ++ declared_from (Behind 0) ts) e
+
+-- a name before the sizes of an array declares nothing
+pub sized_declares : (x : Name) (a : ℕ) (zs : Sizes) (ts : List Token)
+    → declared_from Declaring (token (a_name x) a ∷ (spell_sizes zs ++ ts)) ≡ declared_from (Behind 0) ts
+sized_declares x a (last_size b z c) ts = sizes_read declared_from inside Calm reader (last_size b z c) (Behind 0) tt ts
+sized_declares x a (next_size b z c zs) ts = sizes_read declared_from inside Calm reader (next_size b z c zs) (Behind 0) tt ts
+
 -- a declarator before tokens that tell that a name before them is a variable
-declarator_counts : (x : Declarator) (ts : List Token) → count Named ts ≡ 1 + count (Behind 0) ts
-    → count Declaring (spell_declarator x ++ ts) ≡ declared_one x + count (Behind 0) ts
-declarator_counts (declarator x a bare) ts h = quiet Declaring Named (a_name x) a ts refl refl ∙ h
-declarator_counts (declarator x a (given b e)) ts h =
-    quiet Declaring Named (a_name x) a (token (change_sign replaces) b ∷ (spell_expr e ++ ts)) refl refl
-    ∙ loud Named (Behind 0) (change_sign replaces) b (spell_expr e ++ ts) refl refl
-    ∙ ap (λ (n : ℕ). 1 + n) (expr_read count inside Calm reader e (Behind 0) tt ts)
-declarator_counts (declarator x a (sized b n c d)) ts h =
-    quiet Declaring Named (a_name x) a (token left_bracket b ∷ token (a_number n) c ∷ token right_bracket d ∷ ts) refl refl
-    ∙ quiet Named (Behind 1) left_bracket b (token (a_number n) c ∷ token right_bracket d ∷ ts) refl refl
-    ∙ quiet (Behind 1) (Behind 1) (a_number n) c (token right_bracket d ∷ ts) refl refl
-    ∙ quiet (Behind 1) (Behind 0) right_bracket d ts refl refl
-    ∙ sym (nothing (count (Behind 0) ts))
+declarator_declares : (x : Declarator) (ts : List Token) → begins_bracket ts ≡ false
+    → declared_from Declaring (spell_declarator x ++ ts) ≡ declared_one x ++ declared_from (Behind 0) ts
+declarator_declares (declarator x a bare) ts h = bare_declares x a ts h
+declarator_declares (declarator x a (given b e)) ts h =
+    ap (λ (l : List (List ℕ)). x.text ∷ l) (expr_read declared_from inside Calm reader e (Behind 0) tt ts)
+declarator_declares (declarator x a (sized zs)) ts h = sized_declares x a zs ts
+declarator_declares (declarator x a (filled zs b c vs d)) ts h =
+    let rest = token (change_sign replaces) b ∷ token left_brace c ∷ (spell_values vs ++ token right_brace d ∷ []) in
+    ap (λ (l : List Token). declared_from Declaring (token (a_name x) a ∷ l)) (append_assoc (spell_sizes zs) rest ts)
+    ∙ sized_declares x a zs (rest ++ ts) ∙ braced_read declared_from inside Calm reader c vs d (Behind 0) tt ts
 
--- a comma or a semicolon tells so
-more_tells : (xs : MoreDeclarators) (b : ℕ) (ts : List Token)
-    → count Named (spell_more_declarators xs ++ token semicolon b ∷ ts)
-    ≡ 1 + count (Behind 0) (spell_more_declarators xs ++ token semicolon b ∷ ts)
-more_tells last_declarator b ts =
-    loud Named Elsewhere semicolon b ts refl refl
-    ∙ ap (λ (n : ℕ). 1 + n) (sym (quiet (Behind 0) Elsewhere semicolon b ts refl refl))
-more_tells (next_declarator a x xs) b ts =
-    loud Named Declaring comma a _ refl refl
-    ∙ ap (λ (n : ℕ). 1 + n) (sym (quiet (Behind 0) Declaring comma a _ refl refl))
+-- behind a declarator no `[` stands
+more_bare : (xs : MoreDeclarators) (b : ℕ) (ts : List Token) → begins_bracket (spell_more_declarators xs ++ token semicolon b ∷ ts) ≡ false
+more_bare last_declarator b ts = refl
+more_bare (next_declarator a x xs) b ts = refl
 
-more_counts : (xs : MoreDeclarators) (b : ℕ) (ts : List Token)
-    → count (Behind 0) (spell_more_declarators xs ++ token semicolon b ∷ ts) ≡ declared_more xs + count Elsewhere ts
-more_counts last_declarator b ts = quiet (Behind 0) Elsewhere semicolon b ts refl refl ∙ sym (nothing (count Elsewhere ts))
-more_counts (next_declarator a x xs) b ts =
-    quiet (Behind 0) Declaring comma a ((spell_declarator x ++ spell_more_declarators xs) ++ token semicolon b ∷ ts) refl refl
-    ∙ ap (count Declaring) (append_assoc (spell_declarator x) (spell_more_declarators xs) (token semicolon b ∷ ts))
-    ∙ declarator_counts x (spell_more_declarators xs ++ token semicolon b ∷ ts) (more_tells xs b ts)
-    ∙ ap (λ (n : ℕ). declared_one x + n) (more_counts xs b ts)
-    ∙ (let sum : declared_one x + (declared_more xs + count Elsewhere ts) ≡ (declared_one x + declared_more xs) + count Elsewhere ts
-    = omega arith in sum)
+-- a declarator and those behind it
+one_declares : (x : Declarator) (xs : MoreDeclarators) (b : ℕ) (ts : List Token)
+    → declared_from (Behind 0) (spell_more_declarators xs ++ token semicolon b ∷ ts) ≡ declared_more xs ++ declared_from Elsewhere ts
+    → declared_from Declaring ((spell_declarator x ++ spell_more_declarators xs) ++ token semicolon b ∷ ts)
+    ≡ (declared_one x ++ declared_more xs) ++ declared_from Elsewhere ts
+one_declares x xs b ts more =
+    ap (declared_from Declaring) (append_assoc (spell_declarator x) (spell_more_declarators xs) (token semicolon b ∷ ts))
+    ∙ declarator_declares x (spell_more_declarators xs ++ token semicolon b ∷ ts) (more_bare xs b ts)
+    ∙ ap (λ (l : List (List ℕ)). declared_one x ++ l) more
+    ∙ sym (append_assoc (declared_one x) (declared_more xs) (declared_from Elsewhere ts))
 
--- a declaration counts its variables
-declaration_counts : (a : ℕ) (xs : Declarators) (b : ℕ) (ts : List Token)
-    → count Elsewhere (token int_word a ∷ (spell_declarators xs ++ token semicolon b ∷ ts)) ≡ declared_in xs + count Elsewhere ts
-declaration_counts a (tree.declares x xs) b ts =
-    quiet Elsewhere Declaring int_word a ((spell_declarator x ++ spell_more_declarators xs) ++ token semicolon b ∷ ts) refl refl
-    ∙ ap (count Declaring) (append_assoc (spell_declarator x) (spell_more_declarators xs) (token semicolon b ∷ ts))
-    ∙ declarator_counts x (spell_more_declarators xs ++ token semicolon b ∷ ts) (more_tells xs b ts)
-    ∙ ap (λ (n : ℕ). declared_one x + n) (more_counts xs b ts)
-    ∙ (let sum : declared_one x + (declared_more xs + count Elsewhere ts) ≡ (declared_one x + declared_more xs) + count Elsewhere ts
-    = omega arith in sum)
+more_declares : (xs : MoreDeclarators) (b : ℕ) (ts : List Token)
+    → declared_from (Behind 0) (spell_more_declarators xs ++ token semicolon b ∷ ts) ≡ declared_more xs ++ declared_from Elsewhere ts
+more_declares last_declarator b ts = refl
+more_declares (next_declarator a x xs) b ts = one_declares x xs b ts (more_declares xs b ts)
+
+-- a declaration declares its variables
+declaration_declares : (a : ℕ) (xs : Declarators) (b : ℕ) (ts : List Token)
+    → declared_from Elsewhere (token int_word a ∷ (spell_declarators xs ++ token semicolon b ∷ ts))
+    ≡ declared_in xs ++ declared_from Elsewhere ts
+declaration_declares a (tree.declares x xs) b ts = one_declares x xs b ts (more_declares xs b ts)
 
 level_calm : (s : Place) → Level s → Calm s
 level_calm Heading h = absurd h
 level_calm Elsewhere h = tt
 level_calm Declaring h = absurd h
-level_calm Named h = absurd h
 level_calm (Behind d) h = absurd h
 
 level_inside : (s : Place) → Level s → Level (inside s)
 level_inside Heading h = absurd h
 level_inside Elsewhere h = tt
 level_inside Declaring h = absurd h
-level_inside Named h = absurd h
 level_inside (Behind d) h = absurd h
 
 -- what is true elsewhere is true where a statement may stand
@@ -194,26 +187,19 @@ at_level : (P : Place → Type 0) → P Elsewhere → (s : Place) → Level s �
 at_level P p Heading h = absurd h
 at_level P p Elsewhere h = p
 at_level P p Declaring h = absurd h
-at_level P p Named h = absurd h
 at_level P p (Behind d) h = absurd h
 
--- statements count their declarations
-pub walker : IsWalker count inside Calm Level (λ m n. m + n)
+-- statements declare what their declarations do
+pub walker : IsWalker declared_from inside Calm Level (λ xs r. xs ++ r)
 walker = record {
   reads = reader;
   calm = level_calm;
   level_inside = level_inside;
-  at_comma = at_level (λ s. (a : ℕ) (ts : List Token) → count s (token comma a ∷ ts) ≡ count s ts)
-      (λ a ts. quiet Elsewhere Elsewhere comma a ts refl refl);
-  at_semicolon = at_level (λ s. (a : ℕ) (ts : List Token) → count s (token semicolon a ∷ ts) ≡ count s ts)
-      (λ a ts. quiet Elsewhere Elsewhere semicolon a ts refl refl);
-  opens = at_level (λ s. (a : ℕ) (ts : List Token) → count s (token left_brace a ∷ ts) ≡ count (inside s) ts)
-      (λ a ts. quiet Elsewhere Elsewhere left_brace a ts refl refl);
-  closes = at_level (λ s. (a : ℕ) (ts : List Token) → count (inside s) (token right_brace a ∷ ts) ≡ count s ts)
-      (λ a ts. quiet Elsewhere Elsewhere right_brace a ts refl refl);
+  at_comma = at_level (λ s. (a : ℕ) (ts : List Token) → declared_from s (token comma a ∷ ts) ≡ declared_from s ts) (λ a ts. refl);
+  at_semicolon = at_level (λ s. (a : ℕ) (ts : List Token) → declared_from s (token semicolon a ∷ ts) ≡ declared_from s ts) (λ a ts. refl);
   declares = at_level (λ s. (a : ℕ) (xs : Declarators) (b : ℕ) (ts : List Token)
-      → count s (token int_word a ∷ (spell_declarators xs ++ token semicolon b ∷ ts)) ≡ declared_in xs + count s ts)
-      declaration_counts;
-  none = λ r. nothing r;
-  more = λ m n r. omega arith;
+      → declared_from s (token int_word a ∷ (spell_declarators xs ++ token semicolon b ∷ ts)) ≡ declared_in xs ++ declared_from s ts)
+      declaration_declares;
+  none = λ r. refl;
+  more = λ xs ys r. append_assoc xs ys r;
 }

@@ -3,9 +3,9 @@ use Rattle.std.proofs.Common.{◌≡◌, ◌∙◌, ◌++◌, ◌≤◌, ℕ, su
 use Rattle.std.proofs.lemmas.Bool.{lt-ltb, le-ltb}
 use Rattle.std.proofs.lemmas.List.{append-nil}
 use Rattle.source_grammar.specs.Tokens.{Op, level, infix_sign, question, colon, Token, token}
-use Rattle.source_grammar.specs.Grammar.{Groups, Expr, number, variable, element, call, free, grouped, prefixed, joined, chosen}
-use Rattle.source_grammar.specs.Grammar.{spell_expr}
-use Rattle.source_grammar.proofs.grammar.Taken.{above_zero}
+use Rattle.source_grammar.specs.Grammar.{Groups, Expr, number, variable, element, call, stepped_behind, stepped_before, free, grouped}
+use Rattle.source_grammar.specs.Grammar.{prefixed, joined, chosen, spell_expr}
+use Rattle.source_grammar.proofs.grammar.TakenPieces.{above_zero}
 use Rattle.source_grammar.proofs.grammar.Links.{Links, ended, link, choice, spell_links, extend, extend_all}
 
 -- links and then further ones; behind a `? :` there are none
@@ -20,8 +20,10 @@ first (joined e o a f) = first e
 first (chosen c a e b f) = first c
 first (number n a) = number n a
 first (variable x a) = variable x a
-first (element x i j e k) = element x i j e k
+first (element x i is) = element x i is
 first (call x i j es k) = call x i j es k
+first (stepped_behind x i g j) = stepped_behind x i g j
+first (stepped_before g i x j) = stepped_before g i x j
 first (free i j k) = free i j k
 first (grouped i e j) = grouped i e j
 first (prefixed p i e) = prefixed p i e
@@ -32,8 +34,10 @@ links (joined e o a f) = after (links e) (link o a (first f) (links f))
 links (chosen c a e b f) = after (links c) (choice a e b f)
 links (number n a) = ended
 links (variable x a) = ended
-links (element x i j e k) = ended
+links (element x i is) = ended
 links (call x i j es k) = ended
+links (stepped_behind x i g j) = ended
+links (stepped_before g i x j) = ended
 links (free i j k) = ended
 links (grouped i e j) = ended
 links (prefixed p i e) = ended
@@ -118,8 +122,10 @@ spell_flat l (chosen c a e b f) g =
     (sym (spell_after 1 (links c) (choice a e b f) (links_above 1 c (omega arith) g.1)))
 spell_flat l (number n a) g = refl
 spell_flat l (variable x a) g = refl
-spell_flat l (element x i j e k) g = sym (append-nil (spell_expr (element x i j e k)))
+spell_flat l (element x i is) g = sym (append-nil (spell_expr (element x i is)))
 spell_flat l (call x i j es k) g = sym (append-nil (spell_expr (call x i j es k)))
+spell_flat l (stepped_behind x i s j) g = refl
+spell_flat l (stepped_before s i x j) g = refl
 spell_flat l (free i j k) g = refl
 spell_flat l (grouped i e j) g = sym (append-nil (spell_expr (grouped i e j)))
 spell_flat l (prefixed p i e) g = sym (append-nil (spell_expr (prefixed p i e)))
@@ -130,8 +136,10 @@ first_good l (joined e o a f) g = first_good (level o) e g.1
 first_good l (chosen c a e b f) g = first_good 1 c g.1
 first_good l (number n a) g = tt
 first_good l (variable x a) g = tt
-first_good l (element x i j e k) g = g
+first_good l (element x i is) g = g
 first_good l (call x i j es k) g = g
+first_good l (stepped_behind x i s j) g = tt
+first_good l (stepped_before s i x j) g = tt
 first_good l (free i j k) g = tt
 first_good l (grouped i e j) g = g
 first_good l (prefixed p i e) g = g

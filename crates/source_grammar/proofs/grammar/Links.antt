@@ -1,9 +1,9 @@
 -- An expression with signs and operands put behind it.
 use Rattle.std.proofs.Common.{◌≡◌, ◌∙◌, ◌++◌, ◌≤◌, ℕ, suc, List, [], ◌∷◌, refl, sym, append_assoc, arith}
 use Rattle.source_grammar.specs.Tokens.{Op, level, infix_sign, question, colon, Token, token}
-use Rattle.source_grammar.specs.Grammar.{Groups, Expr, number, variable, element, call, free, grouped, prefixed, joined, chosen}
-use Rattle.source_grammar.specs.Grammar.{spell_expr}
-use Rattle.source_grammar.proofs.grammar.Taken.{below_seven, above_zero}
+use Rattle.source_grammar.specs.Grammar.{Groups, Expr, number, variable, element, call, stepped_behind, stepped_before, free, grouped}
+use Rattle.source_grammar.specs.Grammar.{prefixed, joined, chosen, spell_expr}
+use Rattle.source_grammar.proofs.grammar.TakenPieces.{below_seven, above_zero}
 use Rattle.std.proofs.lemmas.Bool.{ltb-true, ltb-false}
 use Rattle.std.proofs.lemmas.List.{append-nil}
 use Rattle.std.specs.Prelude.{nat_lt, Bool, true, false}
@@ -35,8 +35,10 @@ extend (joined e p b f) o a u = elim (nat_lt (level p) (level o)) [
 ]
 extend (number n b) o a u = joined (number n b) o a u
 extend (variable x b) o a u = joined (variable x b) o a u
-extend (element x i j e k) o a u = joined (element x i j e k) o a u
+extend (element x i is) o a u = joined (element x i is) o a u
 extend (call x i j es k) o a u = joined (call x i j es k) o a u
+extend (stepped_behind x i g j) o a u = joined (stepped_behind x i g j) o a u
+extend (stepped_before g i x j) o a u = joined (stepped_before g i x j) o a u
 extend (free i j k) o a u = joined (free i j k) o a u
 extend (grouped i e j) o a u = joined (grouped i e j) o a u
 extend (prefixed p i e) o a u = joined (prefixed p i e) o a u
@@ -70,8 +72,10 @@ spell_all e (choice a f b g) = refl
 pub any_level : (l : ℕ) (u : Expr) → Groups 7 u → Groups l u
 any_level l (number n a) g = tt
 any_level l (variable x a) g = tt
-any_level l (element x a b e c) g = g
+any_level l (element x a is) g = g
 any_level l (call x a b es c) g = g
+any_level l (stepped_behind x a s b) g = tt
+any_level l (stepped_before s a x b) g = tt
 any_level l (free a b c) g = tt
 any_level l (grouped a e b) g = g
 any_level l (prefixed p a e) g = g
@@ -82,8 +86,10 @@ any_level l (chosen c a e b f) g = absurd (omega (arith, g.0))
 pub lower : (e : Expr) → Groups 1 e → Groups 0 e
 lower (number n a) g = tt
 lower (variable x a) g = tt
-lower (element x a b e c) g = g
+lower (element x a is) g = g
 lower (call x a b es c) g = g
+lower (stepped_behind x a s b) g = tt
+lower (stepped_before s a x b) g = tt
 lower (free a b c) g = tt
 lower (grouped a e b) g = g
 lower (prefixed p a e) g = g
@@ -102,8 +108,10 @@ groups_extend l (joined e p b f) o a u m g h k = groups_pick l (nat_lt (level p)
     (λ t. groups_extend (suc (level p)) f o a u (omega arith) g.2 t k) refl
 groups_extend l (number n b) o a u m g h k = (h, tt, any_level _ u k)
 groups_extend l (variable x b) o a u m g h k = (h, tt, any_level _ u k)
-groups_extend l (element x i j e c) o a u m g h k = (h, g, any_level _ u k)
+groups_extend l (element x i is) o a u m g h k = (h, g, any_level _ u k)
 groups_extend l (call x i j es c) o a u m g h k = (h, g, any_level _ u k)
+groups_extend l (stepped_behind x i s j) o a u m g h k = (h, tt, any_level _ u k)
+groups_extend l (stepped_before s i x j) o a u m g h k = (h, tt, any_level _ u k)
 groups_extend l (free i j c) o a u m g h k = (h, tt, any_level _ u k)
 groups_extend l (grouped i e j) o a u m g h k = (h, g, any_level _ u k)
 groups_extend l (prefixed p i e) o a u m g h k = (h, g, any_level _ u k)

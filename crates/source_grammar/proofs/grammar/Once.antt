@@ -1,20 +1,23 @@
 -- A text has at most one function.
 use Rattle.std.proofs.Common.{◌≡◌, ◌∙◌, ◌++◌, ℕ, List, [], ◌∷◌, refl, sym, ap, ap₂, append_assoc, subst}
-use Rattle.source_grammar.specs.Tokens.{Kind, a_name, left_paren, right_paren, left_brace, right_brace, colon, semicolon, int_word}
-use Rattle.source_grammar.specs.Tokens.{if_word, else_word, while_word, do_word, for_word, return_word, demand_word, Demand, Token, token}
+use Rattle.source_grammar.specs.Tokens.{Kind, a_name, left_paren, right_paren, left_brace, right_brace, colon, semicolon, int_word, if_word}
+use Rattle.source_grammar.specs.Tokens.{else_word, while_word, do_word, for_word, return_word, demand_word, Demand, Token, token, Name}
+use Rattle.source_grammar.specs.Tokens.{const_word}
 use Rattle.source_grammar.specs.Grammar.{Groups, Expr, spell_expr, Arguments, spell_arguments, Optional, spell_optional, no_index, index}
 use Rattle.source_grammar.specs.Grammar.{place, assigns, steps, Update, update, step_before, spell_update, Updates, spell_updates}
 use Rattle.source_grammar.specs.Grammar.{Declarators, spell_declarators, ForFirst, spell_first, Core, empty, block, if_alone, if_else}
 use Rattle.source_grammar.specs.Grammar.{repeat, repeat_after, repeat_for, jumps, returns, demands, calls, updates, Sub, labelled, plain}
 use Rattle.source_grammar.specs.Grammar.{Items, no_items, label, declaration, item, spell_core, spell_sub, spell_items, Ending, shut}
 use Rattle.source_grammar.specs.Grammar.{waiting, ending_core, ending_sub, GoodCore, GoodSub, GoodItems, Specifiers, FunctionName}
-use Rattle.source_grammar.specs.Grammar.{Parameters, Function, function, spell, Good, Reads}
+use Rattle.source_grammar.specs.Grammar.{Parameters, Function, function, spell, Good, Reads, IntType, const_int, last_subscript}
+use Rattle.source_grammar.specs.Grammar.{next_subscript, plain_int, spell_type}
 use Rattle.source_grammar.proofs.machine.Goes.{First}
 use Rattle.source_grammar.proofs.grammar.Follow.{NotElse, core_first}
 use Rattle.source_grammar.proofs.grammar.Sound.{Clear}
 use Rattle.source_grammar.proofs.grammar.Unique.{expr_once, arguments_once, tail_of, head_of, place_of}
-use Rattle.source_grammar.proofs.grammar.OncePieces.{optional_once, update_once, updates_once, declarators_once, first_once}
-use Rattle.source_grammar.proofs.grammar.OncePieces.{specifiers_once, name_once, parameters_once}
+use Rattle.source_grammar.proofs.grammar.OncePieces.{optional_once, update_once, updates_once}
+use Rattle.source_grammar.proofs.grammar.OnceDeclared.{type_once, declarators_once, first_once}
+use Rattle.source_grammar.proofs.grammar.OnceHead.{specifiers_once, name_once, parameters_once}
 
 -- two conditions in parentheses are the same, and so is what follows them
 pub record Cond (a b : ℕ) (e : Expr) (c a2 b2 : ℕ) (f : Expr) (c2 : ℕ) (y z : List Token) : Type 0 where
@@ -71,27 +74,30 @@ not_else (token k a ∷ w) y i h e = let j : k ≡ else_word = cc in let m : Not
 items_first : (is : Items) (w : List Token) → First NotElse w → First NotElse (spell_items is ++ w)
 items_first no_items w h = h
 items_first (label x b c is) w h = refl
-items_first (declaration a xs b is) w h = refl
+items_first (declaration (plain_int a) xs b is) w h = refl
+items_first (declaration (const_int a c) xs b is) w h = refl
 items_first (item c is) w h = rw append_assoc (core_first c _)
 
 -- no change begins with a name and a colon
-label_update : (x : List ℕ) (a b : ℕ) (y z : List Token) (u : Update) → token (a_name x) a ∷ token colon b ∷ y ≡ spell_update u ++ z → ⊥
+label_update : (x : Name) (a b : ℕ) (y z : List Token) (u : Update) → token (a_name x) a ∷ token colon b ∷ y ≡ spell_update u ++ z → ⊥
 label_update x a b y z (update (place v c no_index) (assigns g d e)) q = cc
 label_update x a b y z (update (place v c no_index) (steps g d)) q = cc
-label_update x a b y z (update (place v c (index d e i)) f) q = cc
+label_update x a b y z (update (place v c (index (last_subscript d e i))) f) q = cc
+label_update x a b y z (update (place v c (index (next_subscript d e i is))) f) q = cc
 label_update x a b y z (step_before h i p) q = cc
 
 -- no statement begins with a name and a colon
-label_core : (x : List ℕ) (a b : ℕ) (y z : List Token) (c : Core) → token (a_name x) a ∷ token colon b ∷ y ≡ spell_core c ++ z → ⊥
+label_core : (x : Name) (a b : ℕ) (y z : List Token) (c : Core) → token (a_name x) a ∷ token colon b ∷ y ≡ spell_core c ++ z → ⊥
 label_core x a b y z (updates u d) q = label_update x a b y (token semicolon d ∷ z) u
     (q ∙ append_assoc (spell_update u) (token semicolon d ∷ []) z)
 label_core x a b y z _ q = cc
 
 -- no change begins with a name and `(`
-call_update : (x : List ℕ) (a b : ℕ) (y z : List Token) (u : Update) → token (a_name x) a ∷ token left_paren b ∷ y ≡ spell_update u ++ z → ⊥
+call_update : (x : Name) (a b : ℕ) (y z : List Token) (u : Update) → token (a_name x) a ∷ token left_paren b ∷ y ≡ spell_update u ++ z → ⊥
 call_update x a b y z (update (place v c no_index) (assigns g d e)) q = cc
 call_update x a b y z (update (place v c no_index) (steps g d)) q = cc
-call_update x a b y z (update (place v c (index d e i)) f) q = cc
+call_update x a b y z (update (place v c (index (last_subscript d e i))) f) q = cc
+call_update x a b y z (update (place v c (index (next_subscript d e i is))) f) q = cc
 call_update x a b y z (step_before h i p) q = cc
 
 -- no statement begins with `int`
@@ -99,6 +105,17 @@ int_core : (a : ℕ) (y z : List Token) (c : Core) → token int_word a ∷ y �
 int_core a y z (updates (update (place v b i) f) d) q = cc
 int_core a y z (updates (step_before h i p) d) q = cc
 int_core a y z _ q = cc
+
+-- nor with `const`
+const_core : (a : ℕ) (y z : List Token) (c : Core) → token const_word a ∷ y ≡ spell_core c ++ z → ⊥
+const_core a y z (updates (update (place v b i) f) d) q = cc
+const_core a y z (updates (step_before h i p) d) q = cc
+const_core a y z _ q = cc
+
+-- no statement begins as a declaration
+type_core : (t : IntType) (y z : List Token) (c : Core) → spell_type t ++ y ≡ spell_core c ++ z → ⊥
+type_core (plain_int a) y z c q = int_core a y z c q
+type_core (const_int a b) y z c q = const_core a _ z c q
 
 -- no statement begins with `}`
 brace_core : (a : ℕ) (y z : List Token) (c : Core) → token right_brace a ∷ y ≡ spell_core c ++ z → ⊥
@@ -141,7 +158,7 @@ demands_same : (y : Demand) (a b : ℕ) (f : Expr) (c d : ℕ) (y2 : Demand) (a2
     → demands y a b f c d ≡ demands y2 a2 b2 f2 c2 d2
 demands_same y a b f c d y2 a2 b2 f2 c2 d2 h i j k l = cc
 
-calls_same : (x : List ℕ) (a b : ℕ) (es : Arguments) (c d : ℕ) (x2 : List ℕ) (a2 b2 : ℕ) (es2 : Arguments) (c2 d2 : ℕ)
+calls_same : (x : Name) (a b : ℕ) (es : Arguments) (c d : ℕ) (x2 : Name) (a2 b2 : ℕ) (es2 : Arguments) (c2 d2 : ℕ)
     → token (a_name x) a ≡ token (a_name x2) a2 → token left_paren b ≡ token left_paren b2 → es ≡ es2
     → token right_paren c ≡ token right_paren c2 → token semicolon d ≡ token semicolon d2
     → calls x a b es c d ≡ calls x2 a2 b2 es2 c2 d2
@@ -151,16 +168,16 @@ block_same : (a : ℕ) (is : Items) (b a2 : ℕ) (js : Items) (b2 : ℕ) → tok
     → token right_brace b ≡ token right_brace b2 → block a is b ≡ block a2 js b2
 block_same a is b a2 js b2 h i j = cc
 
-labelled_same : (v : List ℕ) (a b : ℕ) (s : Sub) (v2 : List ℕ) (a2 b2 : ℕ) (t : Sub) → token (a_name v) a ≡ token (a_name v2) a2
+labelled_same : (v : Name) (a b : ℕ) (s : Sub) (v2 : Name) (a2 b2 : ℕ) (t : Sub) → token (a_name v) a ≡ token (a_name v2) a2
     → token colon b ≡ token colon b2 → s ≡ t → labelled v a b s ≡ labelled v2 a2 b2 t
 labelled_same v a b s v2 a2 b2 t h i j = cc
 
-label_same : (v : List ℕ) (a b : ℕ) (s : Items) (v2 : List ℕ) (a2 b2 : ℕ) (t : Items) → token (a_name v) a ≡ token (a_name v2) a2
+label_same : (v : Name) (a b : ℕ) (s : Items) (v2 : Name) (a2 b2 : ℕ) (t : Items) → token (a_name v) a ≡ token (a_name v2) a2
     → token colon b ≡ token colon b2 → s ≡ t → label v a b s ≡ label v2 a2 b2 t
 label_same v a b s v2 a2 b2 t h i j = cc
 
-declaration_same : (a : ℕ) (xs : Declarators) (b : ℕ) (is : Items) (a2 : ℕ) (ys : Declarators) (b2 : ℕ) (js : Items)
-    → token int_word a ≡ token int_word a2 → xs ≡ ys → token semicolon b ≡ token semicolon b2 → is ≡ js
+declaration_same : (a : IntType) (xs : Declarators) (b : ℕ) (is : Items) (a2 : IntType) (ys : Declarators) (b2 : ℕ) (js : Items)
+    → a ≡ a2 → xs ≡ ys → token semicolon b ≡ token semicolon b2 → is ≡ js
     → declaration a xs b is ≡ declaration a2 ys b2 js
 declaration_same a xs b is a2 ys b2 js h i j k = cc
 
@@ -177,6 +194,10 @@ after_test d us i s = token semicolon d ∷ (spell_updates us ++ after_last i s)
 
 abbrev after_first : ℕ → Optional → ℕ → Updates → ℕ → Sub → List Token
 after_first c t d us i s = token semicolon c ∷ (spell_optional t ++ after_test d us i s)
+
+-- a declaration and the statements behind it, from its first name on
+abbrev declared_text : Declarators → ℕ → Items → List Token
+declared_text xs b is = spell_declarators xs ++ token semicolon b ∷ spell_items is
 
 mutual
   -- a statement without labels, before a text that may follow it
@@ -290,8 +311,10 @@ mutual
   items_once no_items no_items a b w x g h e = (refl, e)
   items_once no_items (label v i j js) a b w x g h e = cc
   items_once (label v i j is) no_items a b w x g h e = cc
-  items_once no_items (declaration i xs j js) a b w x g h e = cc
-  items_once (declaration i xs j is) no_items a b w x g h e = cc
+  items_once no_items (declaration (plain_int i) xs j js) a b w x g h e = cc
+  items_once no_items (declaration (const_int i l) xs j js) a b w x g h e = cc
+  items_once (declaration (plain_int i) xs j is) no_items a b w x g h e = cc
+  items_once (declaration (const_int i l) xs j is) no_items a b w x g h e = cc
   items_once no_items (item c js) a b w x g h e = absurd (brace_core a w (spell_items js ++ token right_brace b ∷ x) c
       (e ∙ append_assoc (spell_core c) (spell_items js) (token right_brace b ∷ x)))
   items_once (item c is) no_items a b w x g h e = absurd (brace_core b x (spell_items is ++ token right_brace a ∷ w) c
@@ -300,16 +323,20 @@ mutual
       let k = tail_of _ _ _ _ e in
       let q = items_once is js a b w x g h (tail_of _ _ _ _ k) in
       (label_same v i j is v2 i2 j2 js (head_of _ _ _ _ e) (head_of _ _ _ _ k) q.0, q.1)
-  items_once (label v i j is) (declaration i2 xs j2 js) a b w x g h e = cc
-  items_once (declaration i2 xs j2 is) (label v i j js) a b w x g h e = cc
+  items_once (label v i j is) (declaration (plain_int i2) xs j2 js) a b w x g h e = cc
+  items_once (label v i j is) (declaration (const_int i2 l) xs j2 js) a b w x g h e = cc
+  items_once (declaration (plain_int i2) xs j2 is) (label v i j js) a b w x g h e = cc
+  items_once (declaration (const_int i2 l) xs j2 is) (label v i j js) a b w x g h e = cc
   items_once (declaration i xs j is) (declaration i2 ys j2 js) a b w x g h e =
+      let t = type_once i i2 _ _ (sym (append_assoc (spell_type i) (declared_text xs j is) (token right_brace a ∷ w)) ∙ e
+      ∙ append_assoc (spell_type i2) (declared_text ys j2 js) (token right_brace b ∷ x)) in
       let r = declarators_once xs ys (token semicolon j ∷ (spell_items is ++ token right_brace a ∷ w))
       (token semicolon j2 ∷ (spell_items js ++ token right_brace b ∷ x)) g.0 h.0 tt tt
       (sym (append_assoc (spell_declarators xs) (token semicolon j ∷ spell_items is) (token right_brace a ∷ w))
-      ∙ tail_of _ _ _ _ e ∙ append_assoc (spell_declarators ys) (token semicolon j2 ∷ spell_items js)
+      ∙ t.1 ∙ append_assoc (spell_declarators ys) (token semicolon j2 ∷ spell_items js)
       (token right_brace b ∷ x)) in
       let q = items_once is js a b w x g.1 h.1 (tail_of _ _ _ _ r.1) in
-      (declaration_same i xs j is i2 ys j2 js (head_of _ _ _ _ e) r.0 (head_of _ _ _ _ r.1) q.0, q.1)
+      (declaration_same i xs j is i2 ys j2 js t.0 r.0 (head_of _ _ _ _ r.1) q.0, q.1)
   items_once (label v i j is) (item c js) a b w x g h e = absurd
       (label_core v i j _ (spell_items js ++ token right_brace b ∷ x) c
       (e ∙ append_assoc (spell_core c) (spell_items js) (token right_brace b ∷ x)))
@@ -317,11 +344,13 @@ mutual
       (label_core v i j _ (spell_items is ++ token right_brace a ∷ w) c
       (sym e ∙ append_assoc (spell_core c) (spell_items is) (token right_brace a ∷ w)))
   items_once (declaration i xs j is) (item c js) a b w x g h e =
-      absurd (int_core i _ (spell_items js ++ token right_brace b ∷ x) c
-      (e ∙ append_assoc (spell_core c) (spell_items js) (token right_brace b ∷ x)))
+      absurd (type_core i _ (spell_items js ++ token right_brace b ∷ x) c
+      (sym (append_assoc (spell_type i) (declared_text xs j is) (token right_brace a ∷ w)) ∙ e
+      ∙ append_assoc (spell_core c) (spell_items js) (token right_brace b ∷ x)))
   items_once (item c is) (declaration i xs j js) a b w x g h e =
-      absurd (int_core i _ (spell_items is ++ token right_brace a ∷ w) c
-      (sym e ∙ append_assoc (spell_core c) (spell_items is) (token right_brace a ∷ w)))
+      absurd (type_core i _ (spell_items is ++ token right_brace a ∷ w) c
+      (sym (append_assoc (spell_type i) (declared_text xs j js) (token right_brace b ∷ x)) ∙ sym e
+      ∙ append_assoc (spell_core c) (spell_items is) (token right_brace a ∷ w)))
   items_once (item c is) (item d js) a b w x g h e =
       let r = core_once c d (spell_items is ++ token right_brace a ∷ w) (spell_items js ++ token right_brace b ∷ x) g.0 h.0
       (goes_clear (ending_core c) _ (items_first is _ refl)) (goes_clear (ending_core d) _ (items_first js _ refl))

@@ -1,13 +1,15 @@
 -- A text has at most one expression, before a token that may follow one.
 use Rattle.std.proofs.Common.{◌≡◌, ◌∙◌, ◌++◌, ◌+◌, ◌<◌, ℕ, zero, suc, List, [], ◌∷◌, refl, sym, ap, ap₂, append_assoc, arith, subst}
 use Rattle.source_grammar.specs.Tokens.{Kind, level, Op, negative, positive, negation, a_name, infix_sign, question, colon, left_paren}
-use Rattle.source_grammar.specs.Tokens.{right_paren, left_bracket, right_bracket, comma, semicolon, Token, token}
-use Rattle.source_grammar.specs.Grammar.{Groups, Expr, number, variable, element, call, free, grouped, prefixed, joined, chosen}
-use Rattle.source_grammar.specs.Grammar.{spell_expr, Arguments, no_arguments, arguments, spell_arguments, GoodArguments, MoreArguments}
-use Rattle.source_grammar.specs.Grammar.{last_argument, next_argument, spell_more_arguments, GoodMoreArguments}
+use Rattle.source_grammar.specs.Tokens.{right_paren, left_bracket, right_bracket, comma, semicolon, Token, token, Name, step_sign}
+use Rattle.source_grammar.specs.Grammar.{Groups, Expr, number, variable, element, call, free, grouped, prefixed, joined, chosen, spell_expr}
+use Rattle.source_grammar.specs.Grammar.{Arguments, no_arguments, arguments, spell_arguments, GoodArguments, MoreArguments, last_argument}
+use Rattle.source_grammar.specs.Grammar.{next_argument, spell_more_arguments, GoodMoreArguments, GoodSubscripts, Subscripts, last_subscript}
+use Rattle.source_grammar.specs.Grammar.{next_subscript, spell_subscripts, stepped_before, stepped_behind}
 use Rattle.source_grammar.proofs.machine.Goes.{First}
 use Rattle.source_grammar.proofs.grammar.Follow.{AfterExpr, AfterOperand, AfterList, StartsExpr, expr_operand, list_expr, expr_first}
-use Rattle.source_grammar.proofs.grammar.Taken.{below_seven, above_zero}
+use Rattle.source_grammar.proofs.grammar.Follow.{NoBracket, operand_no_bracket}
+use Rattle.source_grammar.proofs.grammar.TakenPieces.{below_seven, above_zero}
 use Rattle.source_grammar.proofs.grammar.Links.{Links, ended, link, choice, spell_links, GoodLinks, extend_all}
 use Rattle.source_grammar.proofs.grammar.Flat.{after, first, links, AllAbove, links_above, again, spell_flat, first_good}
 
@@ -17,8 +19,10 @@ abbrev mutual
   pub weight : Expr → ℕ
   weight (number n a) = 1
   weight (variable x a) = 1
-  weight (element x i j e k) = suc (weight e)
+  weight (element x i is) = suc (subscripts_weight is)
   weight (call x i j es k) = suc (arguments_weight es)
+  weight (stepped_behind x i g j) = 1
+  weight (stepped_before g i x j) = 1
   weight (free i j k) = 1
   weight (grouped i e j) = suc (weight e)
   weight (prefixed p i e) = suc (weight e)
@@ -34,6 +38,11 @@ abbrev mutual
   pub more_weight : MoreArguments → ℕ
   more_weight last_argument = 0
   more_weight (next_argument a e es) = suc (weight e + more_weight es)
+
+  -- of the brackets of an element
+  pub subscripts_weight : Subscripts → ℕ
+  subscripts_weight (last_subscript a e b) = weight e
+  subscripts_weight (next_subscript a e b is) = weight e + subscripts_weight is
 
 abbrev links_weight : Links → ℕ
 links_weight ended = 0
@@ -103,6 +112,21 @@ more_arguments_first last_argument [] h = absurd h
 more_arguments_first last_argument (token k a ∷ w) h = list_expr k h
 more_arguments_first (next_argument a e es) w h = tt
 
+-- what does not go on with `[` is no brackets
+pub no_bracket : (is : Subscripts) (w y : List Token) → First NoBracket w → w ≡ spell_subscripts is ++ y → ⊥
+no_bracket (last_subscript a e b) w y h q = first_at NoBracket w left_bracket a _ h q
+no_bracket (next_subscript a e b is) w y h q = first_at NoBracket w left_bracket a _ h q
+
+-- brackets are nothing that begins otherwise
+bracket_first : (is : Subscripts) (w : List Token) (k : Kind) (a : ℕ) (y : List Token) → NoBracket k
+    → spell_subscripts is ++ w ≡ token k a ∷ y → ⊥
+bracket_first is w k a y h q = no_bracket is (token k a ∷ y) w h (sym q)
+
+-- what may follow an operand is no `[`
+operand_first : (w : List Token) → First AfterOperand w → First NoBracket w
+operand_first [] h = h
+operand_first (token k a ∷ w) h = operand_no_bracket k h
+
 links_first : (ls : Links) (w : List Token) → First AfterExpr w → First AfterOperand (spell_links ls ++ w)
 links_first ended [] h = absurd h
 links_first ended (token k a ∷ w) h = expr_operand k h
@@ -114,12 +138,20 @@ next_same : (a b : ℕ) (e f : Expr) (es fs : MoreArguments) → token comma a �
     → next_argument a e es ≡ next_argument b f fs
 next_same a b e f es fs h i j = cc
 
-element_same : (x : List ℕ) (a b : ℕ) (e : Expr) (c : ℕ) (y : List ℕ) (a2 b2 : ℕ) (f : Expr) (c2 : ℕ)
-    → token (a_name x) a ≡ token (a_name y) a2 → token left_bracket b ≡ token left_bracket b2 → e ≡ f
-    → token right_bracket c ≡ token right_bracket c2 → element x a b e c ≡ element y a2 b2 f c2
-element_same x a b e c y a2 b2 f c2 h i j k = cc
+element_same : (x : Name) (a : ℕ) (is : Subscripts) (y : Name) (b : ℕ) (js : Subscripts) → token (a_name x) a ≡ token (a_name y) b → is ≡ js
+    → element x a is ≡ element y b js
+element_same x a is y b js h i = cc
 
-call_same : (x : List ℕ) (a b : ℕ) (es : Arguments) (c : ℕ) (y : List ℕ) (a2 b2 : ℕ) (fs : Arguments) (c2 : ℕ)
+last_same : (a : ℕ) (e : Expr) (b a2 : ℕ) (f : Expr) (b2 : ℕ) → token left_bracket a ≡ token left_bracket a2 → e ≡ f
+    → token right_bracket b ≡ token right_bracket b2 → last_subscript a e b ≡ last_subscript a2 f b2
+last_same a e b a2 f b2 h i j = cc
+
+more_same : (a : ℕ) (e : Expr) (b : ℕ) (is : Subscripts) (a2 : ℕ) (f : Expr) (b2 : ℕ) (js : Subscripts)
+    → token left_bracket a ≡ token left_bracket a2 → e ≡ f → token right_bracket b ≡ token right_bracket b2 → is ≡ js
+    → next_subscript a e b is ≡ next_subscript a2 f b2 js
+more_same a e b is a2 f b2 js h i j k = cc
+
+call_same : (x : Name) (a b : ℕ) (es : Arguments) (c : ℕ) (y : Name) (a2 b2 : ℕ) (fs : Arguments) (c2 : ℕ)
     → token (a_name x) a ≡ token (a_name y) a2 → token left_paren b ≡ token left_paren b2 → es ≡ fs
     → token right_paren c ≡ token right_paren c2 → call x a b es c ≡ call y a2 b2 fs c2
 call_same x a b es c y a2 b2 fs c2 h i j k = cc
@@ -170,11 +202,30 @@ module _ (n : ℕ) (un : ExprUnique n) where
       let s = more_arguments_unique es fs w x (omega (arith, b)) g.1 h.1 i j r.1 in
       (ap₂ arguments r.0 s.0, s.1)
 
-  -- an expression and the token that ends it
-  expr_ended : (e f : Expr) (k : Kind) (a b : ℕ) (w x : List Token) → weight e < n → Groups 0 e → Groups 0 f → AfterExpr k
-      → (spell_expr e ++ token k a ∷ []) ++ w ≡ (spell_expr f ++ token k b ∷ []) ++ x → (e ≡ f) × (token k a ∷ w ≡ token k b ∷ x)
-  expr_ended e f k a b w x l g h i q = un e f (token k a ∷ w) (token k b ∷ x) l g h i i
-      (sym (append_assoc (spell_expr e) (token k a ∷ []) w) ∙ q ∙ append_assoc (spell_expr f) (token k b ∷ []) x)
+  -- an expression, the token that ends it, and others
+  expr_ended : (e f : Expr) (k : Kind) (a b : ℕ) (y z w x : List Token) → weight e < n → Groups 0 e → Groups 0 f → AfterExpr k
+      → (spell_expr e ++ token k a ∷ y) ++ w ≡ (spell_expr f ++ token k b ∷ z) ++ x
+      → (e ≡ f) × (token k a ∷ (y ++ w) ≡ token k b ∷ (z ++ x))
+  expr_ended e f k a b y z w x l g h i q = un e f (token k a ∷ (y ++ w)) (token k b ∷ (z ++ x)) l g h i i
+      (sym (append_assoc (spell_expr e) (token k a ∷ y) w) ∙ q ∙ append_assoc (spell_expr f) (token k b ∷ z) x)
+
+  -- the brackets of an element
+  pub subscripts_unique : (is js : Subscripts) (w x : List Token) → subscripts_weight is < n → GoodSubscripts is → GoodSubscripts js
+      → First NoBracket w → First NoBracket x → spell_subscripts is ++ w ≡ spell_subscripts js ++ x → (is ≡ js) × (w ≡ x)
+  subscripts_unique (last_subscript a e b) (last_subscript c f d) w x l g h i j q =
+      let r = expr_ended e f right_bracket b d [] [] w x (omega (arith, l)) g h tt (tail_of _ _ _ _ q) in
+      (last_same a e b c f d (head_of _ _ _ _ q) r.0 (head_of _ _ _ _ r.1), tail_of _ _ _ _ r.1)
+  subscripts_unique (last_subscript a e b) (next_subscript c f d js) w x l g h i j q =
+      let r = expr_ended e f right_bracket b d [] (spell_subscripts js) w x (omega (arith, l)) g h.0 tt (tail_of _ _ _ _ q) in
+      absurd (no_bracket js w x i (tail_of _ _ _ _ r.1))
+  subscripts_unique (next_subscript a e b is) (last_subscript c f d) w x l g h i j q =
+      let r = expr_ended e f right_bracket b d (spell_subscripts is) [] w x (omega (arith, l)) g.0 h tt (tail_of _ _ _ _ q) in
+      absurd (no_bracket is x w j (sym (tail_of _ _ _ _ r.1)))
+  subscripts_unique (next_subscript a e b is) (next_subscript c f d js) w x l g h i j q =
+      let r = expr_ended e f right_bracket b d (spell_subscripts is) (spell_subscripts js) w x (omega (arith, l)) g.0 h.0 tt
+      (tail_of _ _ _ _ q) in
+      let s = subscripts_unique is js w x (omega (arith, l)) g.1 h.1 i j (tail_of _ _ _ _ r.1) in
+      (more_same a e b is c f d js (head_of _ _ _ _ q) r.0 (head_of _ _ _ _ r.1) s.0, s.1)
 
   -- an operand
   operand_unique : (u v : Expr) (w x : List Token) → weight u < suc n → Groups 7 u → Groups 7 v → First AfterOperand w
@@ -186,18 +237,30 @@ module _ (n : ℕ) (un : ExprUnique n) where
   operand_unique (number m a) (number l c) w x b g h i j q = ((cc), (cc))
   operand_unique (variable y a) (variable z c) w x b g h i j q = ((cc), (cc))
   operand_unique (free a c d) (free k l m) w x b g h i j q = ((cc), (cc))
-  operand_unique (variable y a) (element z c d f k) w x b g h i j q =
-      absurd (first_at AfterOperand w left_bracket d _ i (tail_of _ _ _ _ q))
-  operand_unique (element z c d f k) (variable y a) w x b g h i j q =
-      absurd (first_at AfterOperand x left_bracket d _ j (tail_of _ _ _ _ (sym q)))
+  operand_unique (stepped_behind y a d c) (stepped_behind z k m l) w x b g h i j q = ((cc), (cc))
+  operand_unique (stepped_before d a y c) (stepped_before m k z l) w x b g h i j q = ((cc), (cc))
+  operand_unique (variable y a) (element z c js) w x b g h i j q =
+      absurd (no_bracket js w x (operand_first w i) (tail_of _ _ _ _ q))
+  operand_unique (element z c is) (variable y a) w x b g h i j q =
+      absurd (no_bracket is x w (operand_first x j) (tail_of _ _ _ _ (sym q)))
+  operand_unique (variable y a) (stepped_behind z c d k) w x b g h i j q =
+      absurd (first_at AfterOperand w (step_sign d) k _ i (tail_of _ _ _ _ q))
+  operand_unique (stepped_behind z c d k) (variable y a) w x b g h i j q =
+      absurd (first_at AfterOperand x (step_sign d) k _ j (tail_of _ _ _ _ (sym q)))
+  operand_unique (element y a is) (call z c d f k) w x b g h i j q = absurd (bracket_first is w left_paren d _ tt (tail_of _ _ _ _ q))
+  operand_unique (call z c d f k) (element y a is) w x b g h i j q =
+      absurd (bracket_first is x left_paren d _ tt (tail_of _ _ _ _ (sym q)))
+  operand_unique (element y a is) (stepped_behind z c d k) w x b g h i j q =
+      absurd (bracket_first is w (step_sign d) k _ tt (tail_of _ _ _ _ q))
+  operand_unique (stepped_behind z c d k) (element y a is) w x b g h i j q =
+      absurd (bracket_first is x (step_sign d) k _ tt (tail_of _ _ _ _ (sym q)))
   operand_unique (variable y a) (call z c d f k) w x b g h i j q =
       absurd (first_at AfterOperand w left_paren d _ i (tail_of _ _ _ _ q))
   operand_unique (call z c d f k) (variable y a) w x b g h i j q =
       absurd (first_at AfterOperand x left_paren d _ j (tail_of _ _ _ _ (sym q)))
-  operand_unique (element y a c e d) (element z k l f m) w x b g h i j q =
-      let p = tail_of _ _ _ _ q in
-      let r = expr_ended e f right_bracket d m w x (omega (arith, b)) g h tt (tail_of _ _ _ _ p) in
-      (element_same y a c e d z k l f m (head_of _ _ _ _ q) (head_of _ _ _ _ p) r.0 (head_of _ _ _ _ r.1), tail_of _ _ _ _ r.1)
+  operand_unique (element y a is) (element z k js) w x b g h i j q =
+      let r = subscripts_unique is js w x (omega (arith, b)) g h (operand_first w i) (operand_first x j) (tail_of _ _ _ _ q) in
+      (element_same y a is z k js (head_of _ _ _ _ q) r.0, r.1)
   operand_unique (call y a c es d) (call z k l fs m) w x b g h i j q =
       let p = tail_of _ _ _ _ q in
       let r = arguments_unique es fs (token right_paren d ∷ w) (token right_paren m ∷ x) (omega (arith, b)) g h tt tt
@@ -205,7 +268,7 @@ module _ (n : ℕ) (un : ExprUnique n) where
       ∙ append_assoc (spell_arguments fs) (token right_paren m ∷ []) x) in
       (call_same y a c es d z k l fs m (head_of _ _ _ _ q) (head_of _ _ _ _ p) r.0 (head_of _ _ _ _ r.1), tail_of _ _ _ _ r.1)
   operand_unique (grouped a e c) (grouped d f k) w x b g h i j q =
-      let r = expr_ended e f right_paren c k w x (omega (arith, b)) g h tt (tail_of _ _ _ _ q) in
+      let r = expr_ended e f right_paren c k [] [] w x (omega (arith, b)) g h tt (tail_of _ _ _ _ q) in
       (grouped_same a e c d f k (head_of _ _ _ _ q) r.0 (head_of _ _ _ _ r.1), tail_of _ _ _ _ r.1)
   operand_unique (prefixed negative a u) (prefixed negative c v) w x b g h i j q =
       let r = operand_unique u v w x (omega (arith, b)) g h i j (tail_of _ _ _ _ q) in
@@ -267,6 +330,12 @@ unique (suc n) = expr_unique n (unique n)
 pub expr_once : (e f : Expr) (w x : List Token) → Groups 0 e → Groups 0 f → First AfterExpr w → First AfterExpr x
     → spell_expr e ++ w ≡ spell_expr f ++ x → (e ≡ f) × (w ≡ x)
 expr_once e f w x g h i j q = unique (suc (weight e)) e f w x (omega arith) g h i j q
+
+-- the brackets of a place are the same where their spellings are
+pub subscripts_once : (is js : Subscripts) (w x : List Token) → GoodSubscripts is → GoodSubscripts js → First NoBracket w
+    → First NoBracket x → spell_subscripts is ++ w ≡ spell_subscripts js ++ x → (is ≡ js) × (w ≡ x)
+subscripts_once is js w x g h i j q =
+    subscripts_unique (suc (subscripts_weight is)) (unique (suc (subscripts_weight is))) is js w x (omega arith) g h i j q
 
 -- arguments are the same where their spellings are
 pub arguments_once : (es fs : Arguments) (w x : List Token) → GoodArguments es → GoodArguments fs → First AfterList w → First AfterList x

@@ -1,33 +1,34 @@
 -- Each entry of the machine, read backwards: statements and functions.
 use Rattle.std.proofs.Common.{◌≡◌, ◌∙◌, ◌++◌, inl, inr, ℕ, suc, List, [], ◌∷◌, Option, Some, None, refl, sym, ap, append_assoc, subst}
-use Rattle.source_grammar.specs.Tokens.{Kind, a_name, a_number, left_paren, right_paren, left_brace, right_brace, left_bracket}
-use Rattle.source_grammar.specs.Tokens.{right_bracket, comma, semicolon, colon, change_sign, step_sign, int_word, void_word, main_word}
-use Rattle.source_grammar.specs.Tokens.{storage_word, if_word, else_word, while_word, do_word, for_word, jump_word, return_word}
-use Rattle.source_grammar.specs.Tokens.{demand_word, Jump, Demand, Token, token}
+use Rattle.source_grammar.specs.Tokens.{Kind, a_name, left_paren, right_paren, left_brace, right_brace, left_bracket, semicolon, colon}
+use Rattle.source_grammar.specs.Tokens.{change_sign, step_sign, int_word, if_word, else_word, while_word, do_word, for_word, jump_word}
+use Rattle.source_grammar.specs.Tokens.{return_word, demand_word, Jump, Demand, Token, token, Name, const_word}
 use Rattle.source_grammar.specs.Grammar.{Expr, spell_expr, Arguments, spell_arguments, Optional, spell_optional, no_index, spell_update}
 use Rattle.source_grammar.specs.Grammar.{Updates, no_updates, spell_updates, Declarator, MoreDeclarators, declares, spell_declarator}
 use Rattle.source_grammar.specs.Grammar.{spell_more_declarators, ForFirst, declared_first, updated_first, spell_first, Core, empty, block}
-use Rattle.source_grammar.specs.Grammar.{if_alone, if_else, repeat, repeat_after, repeat_for, jumps, returns, demands, calls, updates}
-use Rattle.source_grammar.specs.Grammar.{Sub, labelled, plain, Items, no_items, label, declaration, item, spell_core, spell_sub}
-use Rattle.source_grammar.specs.Grammar.{spell_items, ending_core, ending_sub, GoodCore, Ending, shut, waiting, gives_int, gives_void}
-use Rattle.source_grammar.specs.Grammar.{storage, spell_specifiers, called, called_main, spell_function_name, last_parameter}
-use Rattle.source_grammar.specs.Grammar.{next_parameter, no_parameters, void_parameters, int_parameters, spell_parameters, Function}
-use Rattle.source_grammar.specs.Grammar.{function, Reads}
+use Rattle.source_grammar.specs.Grammar.{if_alone, if_else, repeat, repeat_after, repeat_for, jumps, returns, demands, calls, updates, Sub}
+use Rattle.source_grammar.specs.Grammar.{labelled, plain, Items, no_items, label, declaration, item, spell_core, spell_sub, spell_items}
+use Rattle.source_grammar.specs.Grammar.{ending_core, ending_sub, GoodCore, Ending, shut, waiting, spell_specifiers, spell_function_name}
+use Rattle.source_grammar.specs.Grammar.{spell_parameters, Function, function, Reads, IntType, const_int, plain_int, spell_declarators}
+use Rattle.source_grammar.specs.Grammar.{spell_type}
 use Rattle.source_grammar.specs.Machine.{Goal, operand, named, more, maybe_expr, maybe_arguments, more_arguments, indexing, effect}
 use Rattle.source_grammar.specs.Machine.{changing, more_changes, maybe_changes, declaring, initialising, more_declarators, statement}
 use Rattle.source_grammar.specs.Machine.{after_name, maybe_else, condition, do_end, header, header_first, header_rest, specifiers}
-use Rattle.source_grammar.specs.Machine.{function_name, parameters, more_parameters, some_name, some_number, only, Mark, opening, closing}
-use Rattle.source_grammar.specs.Machine.{brace_opening, bracket_closing, colon_mark, statement_end, int_type, Site, in_sub, in_block}
-use Rattle.source_grammar.specs.Machine.{next, Entry, takes, skips, stops, declaration_entry, close_entry, statement_entry, label_entry}
-use Rattle.source_grammar.specs.Machine.{name_entry, else_entry, condition_entry, do_end_entry, header_entry, first_entry, rest_entry}
-use Rattle.source_grammar.specs.Machine.{specifiers_entry, function_name_entry, parameters_entry, more_parameters_entry, some_name_entry}
-use Rattle.source_grammar.specs.Machine.{some_number_entry, only_entry, entry, step, run, start}
+use Rattle.source_grammar.specs.Machine.{function_name, parameters, more_parameters, some_name, only, closing, statement_end, int_type}
+use Rattle.source_grammar.specs.Machine.{Site, in_sub, in_block, next, Entry, takes, skips, stops, declaration_entry, close_entry}
+use Rattle.source_grammar.specs.Machine.{statement_entry, label_entry, name_entry, else_entry, condition_entry, do_end_entry, header_entry}
+use Rattle.source_grammar.specs.Machine.{first_entry, rest_entry, entry, step, run, start, bounding, const_entry, filling, maybe_size}
+use Rattle.source_grammar.specs.Machine.{maybe_values, more_sizes, more_values, parameter_name, sizing, some_size, some_type}
 use Rattle.source_grammar.proofs.grammar.Follow.{NotElse}
 use Rattle.source_grammar.proofs.grammar.Sound.{Clear, Holds}
-use Rattle.source_grammar.proofs.machine.BackPieces.{Back, end_text, two_text, ExprThen, expr_then, back_operand, back_named, back_more}
-use Rattle.source_grammar.proofs.machine.BackPieces.{back_maybe_expr, back_maybe_arguments, back_more_arguments, back_indexing}
-use Rattle.source_grammar.proofs.machine.BackPieces.{back_effect, back_changing, back_more_changes, back_maybe_changes, back_declaring}
-use Rattle.source_grammar.proofs.machine.BackPieces.{back_initialising, back_more_declarators}
+use Rattle.source_grammar.proofs.machine.BackPieces.{Back, ExprThen, back_changing, back_effect, back_indexing, back_maybe_arguments}
+use Rattle.source_grammar.proofs.machine.BackPieces.{back_maybe_changes, back_maybe_expr, back_more, back_more_arguments, back_more_changes}
+use Rattle.source_grammar.proofs.machine.BackPieces.{back_named, back_operand, end_text, expr_then, two_text}
+use Rattle.source_grammar.proofs.machine.BackHead.{back_bounding, back_function_name, back_maybe_size, back_more_parameters}
+use Rattle.source_grammar.proofs.machine.BackHead.{back_more_sizes, back_only, back_parameter_name, back_parameters, back_some_name}
+use Rattle.source_grammar.proofs.machine.BackHead.{back_some_size, back_some_type, back_specifiers}
+use Rattle.source_grammar.proofs.machine.BackDeclared.{back_declaring, back_filling, back_initialising, back_maybe_values}
+use Rattle.source_grammar.proofs.machine.BackDeclared.{back_more_declarators, back_more_values, back_sizing}
 
 -- the text is a statement without labels, and what these goals ask
 abbrev OneCore : List Goal → List Token → Type 0
@@ -55,7 +56,7 @@ demand_text : (k : Demand) (a b c d : ℕ) (e : Expr) (w v u : List Token)
     → v ≡ token semicolon d ∷ u → token (demand_word k) a ∷ w ≡ spell_core (demands k a b e c d) ++ u
 demand_text k a b c d e w v u h i = rw (h, i) (simp append_assoc refl)
 
-call_text : (x : List ℕ) (a b c d : ℕ) (es : Arguments) (w v y u : List Token) → w ≡ spell_arguments es ++ v
+call_text : (x : Name) (a b c d : ℕ) (es : Arguments) (w v y u : List Token) → w ≡ spell_arguments es ++ v
     → v ≡ token right_paren c ∷ y → y ≡ token semicolon d ∷ u
     → token (a_name x) a ∷ token left_paren b ∷ w ≡ spell_core (calls x a b es c d) ++ u
 call_text x a b c d es w v y u h i j = rw (h, i, j) (simp append_assoc refl)
@@ -139,7 +140,7 @@ in_place in_block d gs w (c, v, q, g, cl, (is, b, u, r, k, rest)) = (
   rest,
 )
 
-name_block : (x : List ℕ) (a d : ℕ) (gs : List Goal) (w : List Token) → Holds (after_name in_block d ∷ statement in_block d ∷ gs) w
+name_block : (x : Name) (a d : ℕ) (gs : List Goal) (w : List Token) → Holds (after_name in_block d ∷ statement in_block d ∷ gs) w
     → Holds (statement in_block d ∷ gs) (token (a_name x) a ∷ w)
 name_block x a d gs w (inl (b, v, q, (is, c, u, r, g, rest))) = (
   label x a b is,
@@ -151,31 +152,42 @@ name_block x a d gs w (inl (b, v, q, (is, c, u, r, g, rest))) = (
 )
 name_block x a d gs w (inr f) = in_place in_block d gs _ (f x a)
 
-back_begun : (p : Site) (x : List ℕ) (a d : ℕ) (gs : List Goal) (w : List Token) → Holds (after_name p d ∷ (next p d ++ gs)) w
+back_begun : (p : Site) (x : Name) (a d : ℕ) (gs : List Goal) (w : List Token) → Holds (after_name p d ∷ (next p d ++ gs)) w
     → Holds (statement p d ∷ gs) (token (a_name x) a ∷ w)
 back_begun in_sub x a d gs w h = h x a
 back_begun in_block x a d gs w h = name_block x a d gs w h
 
-declaration_text : (a b c : ℕ) (x : Declarator) (xs : MoreDeclarators) (is : Items) (w v u y z : List Token) → w ≡ spell_declarator x ++ v
-    → v ≡ spell_more_declarators xs ++ u → u ≡ token semicolon b ∷ y → y ≡ spell_items is ++ token right_brace c ∷ z
-    → token int_word a ∷ w ≡ spell_items (declaration a (declares x xs) b is) ++ token right_brace c ∷ z
-declaration_text a b c x xs is w v u y z h i j k = rw (h, i, j, k) (simp append_assoc refl)
+declaration_text : (t : IntType) (b c : ℕ) (x : Declarator) (xs : MoreDeclarators) (is : Items) (w v u y z : List Token)
+    → w ≡ spell_declarator x ++ v → v ≡ spell_more_declarators xs ++ u → u ≡ token semicolon b ∷ y
+    → y ≡ spell_items is ++ token right_brace c ∷ z
+    → spell_type t ++ w ≡ spell_items (declaration t (declares x xs) b is) ++ token right_brace c ∷ z
+declaration_text t b c x xs is w v u y z h i j k = rw (h, i, j, k) (simp append_assoc refl)
 
-declaration_block : (a d : ℕ) (gs : List Goal) (w : List Token)
+declaration_block : (t : IntType) (d : ℕ) (gs : List Goal) (w : List Token)
     → Holds (declaring d ∷ more_declarators d ∷ only statement_end ∷ statement in_block d ∷ gs) w
-    → Holds (statement in_block d ∷ gs) (token int_word a ∷ w)
-declaration_block a d gs w (x, v, q, g, (xs, u, r, k, (b, y, s, (is, c, z, t, l, rest)))) = (
-  declaration a (declares x xs) b is,
+    → Holds (statement in_block d ∷ gs) (spell_type t ++ w)
+declaration_block t d gs w (x, v, q, g, (xs, u, r, k, (b, y, s, (is, c, z, m, l, rest)))) = (
+  declaration t (declares x xs) b is,
   c,
   z,
-  declaration_text a b c x xs is w v u y z q r s t,
+  declaration_text t b c x xs is w v u y z q r s m,
   ((g, k), l),
   rest,
 )
 
 back_declaration : (p : Site) (a d : ℕ) (gs : List Goal) (w : List Token) → Back (declaration_entry p d) (statement p d) gs int_word a w
 back_declaration in_sub a d gs w = tt
-back_declaration in_block a d gs w = λ h. declaration_block a d gs w h
+back_declaration in_block a d gs w = λ h. declaration_block (plain_int a) d gs w h
+
+const_block : (a d : ℕ) (gs : List Goal) (w : List Token)
+    → Holds (only int_type ∷ declaring d ∷ more_declarators d ∷ only statement_end ∷ statement in_block d ∷ gs) w
+    → Holds (statement in_block d ∷ gs) (token const_word a ∷ w)
+const_block a d gs w (b, v, q, rest) =
+    subst (λ x. Holds (statement in_block d ∷ gs) (token const_word a ∷ x)) (sym q) (declaration_block (const_int a b) d gs v rest)
+
+back_const : (p : Site) (a d : ℕ) (gs : List Goal) (w : List Token) → Back (const_entry p d) (statement p d) gs const_word a w
+back_const in_sub a d gs w = tt
+back_const in_block a d gs w = λ h. const_block a d gs w h
 
 back_close : (p : Site) (a d : ℕ) (gs : List Goal) (w : List Token) → Back (close_entry p) (statement p d) gs right_brace a w
 back_close in_sub a d gs w = tt
@@ -188,6 +200,7 @@ back_statement p d semicolon gs a w = λ h. in_place p d gs _ (empty a, w, refl,
 back_statement p d left_brace gs a w = λ h. in_place p d gs _ (core_block a (suc d) (next p d ++ gs) w h)
 back_statement p d right_brace gs a w = back_close p a d gs w
 back_statement p d int_word gs a w = back_declaration p a d gs w
+back_statement p d const_word gs a w = back_const p a d gs w
 back_statement p d if_word gs a w = λ h. in_place p d gs _ (core_if a (suc d) (suc d) (suc d) (next p d ++ gs) w h)
 back_statement p d while_word gs a w = λ h. in_place p d gs _ (core_while a (suc d) (suc d) (next p d ++ gs) w h)
 back_statement p d do_word gs a w = λ h. in_place p d gs _ (core_do a (suc d) (next p d ++ gs) w h)
@@ -201,7 +214,7 @@ back_statement p d _ gs a w = tt
 
 -- a name that a statement begins with
 abbrev NameThen : List Goal → List Token → Type 0
-NameThen gs w = (x : List ℕ) (a : ℕ) → OneCore gs (token (a_name x) a ∷ w)
+NameThen gs w = (x : Name) (a : ℕ) → OneCore gs (token (a_name x) a ∷ w)
 
 core_named : (p : Site) (d : ℕ) (gs : List Goal) (w : List Token) → NameThen gs w → Holds (after_name p d ∷ gs) w
 core_named in_sub d gs w f = λ x a. sub_of d gs _ (f x a) where
@@ -270,18 +283,25 @@ back_do_end d _ gs a w = tt
 first_changes : (d : ℕ) (gs : List Goal) (w : List Token) → Holds (maybe_changes d ∷ gs) w → Holds (header_first d ∷ gs) w
 first_changes d gs w (us, v, q, g, rest) = (updated_first us, v, q, g, rest)
 
-first_declared : (a d : ℕ) (gs : List Goal) (w : List Token) → Holds (declaring d ∷ more_declarators d ∷ gs) w
-    → Holds (header_first d ∷ gs) (token int_word a ∷ w)
-first_declared a d gs w (x, v, q, g, (xs, u, r, k, rest)) = (
-  declared_first a (declares x xs),
+first_declared : (t : IntType) (d : ℕ) (gs : List Goal) (w : List Token) → Holds (declaring d ∷ more_declarators d ∷ gs) w
+    → Holds (header_first d ∷ gs) (spell_type t ++ w)
+first_declared t d gs w (x, v, q, g, (xs, u, r, k, rest)) = (
+  declared_first t (declares x xs),
   u,
-  ap (λ y. token int_word a ∷ y) (two_text (spell_declarator x) (spell_more_declarators xs) w v u q r),
+  two_text (spell_type t) (spell_declarators (declares x xs)) _ w u refl
+      (two_text (spell_declarator x) (spell_more_declarators xs) w v u q r),
   (g, k),
   rest,
 )
 
+first_const : (a d : ℕ) (gs : List Goal) (w : List Token) → Holds (only int_type ∷ declaring d ∷ more_declarators d ∷ gs) w
+    → Holds (header_first d ∷ gs) (token const_word a ∷ w)
+first_const a d gs w (b, v, q, rest) =
+    subst (λ x. Holds (header_first d ∷ gs) (token const_word a ∷ x)) (sym q) (first_declared (const_int a b) d gs v rest)
+
 back_first : (d : ℕ) (k : Kind) (gs : List Goal) (a : ℕ) (w : List Token) → Back (first_entry d k) (header_first d) gs k a w
-back_first d int_word gs a w = λ h. first_declared a d gs w h
+back_first d int_word gs a w = λ h. first_declared (plain_int a) d gs w h
+back_first d const_word gs a w = λ h. first_const a d gs w h
 back_first d (a_name x) gs a w = λ h. first_changes d gs _ (back_maybe_changes d (a_name x) gs a w h)
 back_first d (step_sign s) gs a w = λ h. first_changes d gs _ (back_maybe_changes d (step_sign s) gs a w h)
 back_first d k gs a w = λ h. (updated_first no_updates, token k a ∷ w, refl, tt, h)
@@ -310,59 +330,7 @@ back_rest : (d : ℕ) (k : Kind) (gs : List Goal) (a : ℕ) (w : List Token) →
 back_rest d semicolon gs a w = λ h. rest_open d a gs w h
 back_rest d _ gs a w = tt
 
--- ---- functions
-back_specifiers : (k : Kind) (gs : List Goal) (a : ℕ) (w : List Token) → Back (specifiers_entry k) specifiers gs k a w
-back_specifiers storage_word gs a w = λ h. (storage a h.0, h.1, ap (λ x. token storage_word a ∷ x) h.2, h.3)
-back_specifiers int_word gs a w = λ h. (gives_int a, w, refl, h)
-back_specifiers void_word gs a w = λ h. (gives_void a, w, refl, h)
-back_specifiers _ gs a w = tt
-
-back_function_name : (k : Kind) (gs : List Goal) (a : ℕ) (w : List Token) → Back (function_name_entry k) function_name gs k a w
-back_function_name (a_name x) gs a w = λ h. (called x a, w, refl, h)
-back_function_name main_word gs a w = λ h. (called_main a, w, refl, h)
-back_function_name _ gs a w = tt
-
-back_parameters : (k : Kind) (gs : List Goal) (a : ℕ) (w : List Token) → Back (parameters_entry k) parameters gs k a w
-back_parameters void_word gs a w = λ h. (void_parameters a, w, refl, h)
-back_parameters int_word gs a w = λ h. (
-  int_parameters a h.0 h.1 h.4.0,
-  h.4.1,
-  ap (λ x. token int_word a ∷ x) (h.3 ∙ ap (λ x. token (a_name h.0) h.1 ∷ x) h.4.2),
-  h.4.3,
-)
-back_parameters k gs a w = λ h. (no_parameters, token k a ∷ w, refl, h)
-
-one_parameter : (a : ℕ) (gs : List Goal) (w : List Token) → Holds (only int_type ∷ some_name ∷ more_parameters ∷ gs) w
-    → Holds (more_parameters ∷ gs) (token comma a ∷ w)
-one_parameter a gs w (b, v, q, (x, c, u, r, (ps, y, s, rest))) = (
-  next_parameter a b x c ps,
-  y,
-  ap (λ z. token comma a ∷ z) (q ∙ ap (λ z. token int_word b ∷ z) (r ∙ ap (λ z. token (a_name x) c ∷ z) s)),
-  rest,
-)
-
-back_more_parameters : (k : Kind) (gs : List Goal) (a : ℕ) (w : List Token) → Back (more_parameters_entry k) more_parameters gs k a w
-back_more_parameters comma gs a w = λ h. one_parameter a gs w h
-back_more_parameters k gs a w = λ h. (last_parameter, token k a ∷ w, refl, h)
-
-back_some_name : (k : Kind) (gs : List Goal) (a : ℕ) (w : List Token) → Back (some_name_entry k) some_name gs k a w
-back_some_name (a_name x) gs a w = λ h. (x, a, w, refl, h)
-back_some_name _ gs a w = tt
-
-back_some_number : (k : Kind) (gs : List Goal) (a : ℕ) (w : List Token) → Back (some_number_entry k) some_number gs k a w
-back_some_number (a_number n) gs a w = λ h. (n, a, w, refl, h)
-back_some_number _ gs a w = tt
-
-back_only : (m : Mark) (k : Kind) (gs : List Goal) (a : ℕ) (w : List Token) → Back (only_entry m k) (only m) gs k a w
-back_only opening left_paren gs a w = λ h. (a, w, refl, h)
-back_only closing right_paren gs a w = λ h. (a, w, refl, h)
-back_only brace_opening left_brace gs a w = λ h. (a, w, refl, h)
-back_only bracket_closing right_bracket gs a w = λ h. (a, w, refl, h)
-back_only colon_mark colon gs a w = λ h. (a, w, refl, h)
-back_only statement_end semicolon gs a w = λ h. (a, w, refl, h)
-back_only int_type int_word gs a w = λ h. (a, w, refl, h)
-back_only m _ gs a w = tt
-
+-- ---- each goal
 back : (g : Goal) (k : Kind) (gs : List Goal) (a : ℕ) (w : List Token) → Back (entry g k) g gs k a w
 back (operand d) k gs a w = back_operand d k gs a w
 back (named d) k gs a w = back_named d k gs a w
@@ -378,6 +346,10 @@ back (maybe_changes d) k gs a w = back_maybe_changes d k gs a w
 back (declaring d) k gs a w = back_declaring d k gs a w
 back (initialising d) k gs a w = back_initialising d k gs a w
 back (more_declarators d) k gs a w = back_more_declarators d k gs a w
+back (sizing d) k gs a w = back_sizing d k gs a w
+back (filling d) k gs a w = back_filling d k gs a w
+back (maybe_values d) k gs a w = back_maybe_values d k gs a w
+back (more_values d) k gs a w = back_more_values d k gs a w
 back (statement p d) k gs a w = back_statement p d k gs a w
 back (after_name p d) k gs a w = back_name p d k gs a w
 back (maybe_else d) k gs a w = back_else d k gs a w
@@ -390,8 +362,13 @@ back specifiers k gs a w = back_specifiers k gs a w
 back function_name k gs a w = back_function_name k gs a w
 back parameters k gs a w = back_parameters k gs a w
 back more_parameters k gs a w = back_more_parameters k gs a w
+back some_type k gs a w = back_some_type k gs a w
+back parameter_name k gs a w = back_parameter_name k gs a w
+back bounding k gs a w = back_bounding k gs a w
+back more_sizes k gs a w = back_more_sizes k gs a w
 back some_name k gs a w = back_some_name k gs a w
-back some_number k gs a w = back_some_number k gs a w
+back some_size k gs a w = back_some_size k gs a w
+back maybe_size k gs a w = back_maybe_size k gs a w
 back (only m) k gs a w = back_only m k gs a w
 
 abbrev OnNext : Option (List Goal) → List Goal → Token → List Token → Type 0

@@ -1,20 +1,19 @@
--- Each entry of the machine, read backwards: expressions, changes and declarations.
+-- Each entry of the machine, read backwards: expressions and changes.
 use Rattle.std.proofs.Common.{◌≡◌, ◌∙◌, ◌++◌, ℕ, suc, List, [], ◌∷◌, refl, sym, ap, append_assoc}
 use Rattle.source_grammar.specs.Tokens.{Op, plus_op, minus_op, negative, positive, negation, Kind, a_name, a_number, infix_sign, bang}
 use Rattle.source_grammar.specs.Tokens.{question, colon, left_paren, right_paren, left_bracket, right_bracket, comma, change_sign}
-use Rattle.source_grammar.specs.Tokens.{step_sign, replaces, nondet_word, Token, token}
+use Rattle.source_grammar.specs.Tokens.{step_sign, nondet_word, Token, token, Name}
 use Rattle.source_grammar.specs.Grammar.{Groups, Expr, number, variable, element, call, free, grouped, prefixed, spell_expr, no_arguments}
 use Rattle.source_grammar.specs.Grammar.{arguments, spell_arguments, last_argument, next_argument, spell_more_arguments, absent, present}
 use Rattle.source_grammar.specs.Grammar.{no_index, index, spell_index, place, assigns, steps, spell_effect, update, step_before}
-use Rattle.source_grammar.specs.Grammar.{spell_update, last_update, next_update, spell_more_updates, no_updates, some_updates, bare}
-use Rattle.source_grammar.specs.Grammar.{given, sized, declarator, spell_declarator, last_declarator, next_declarator}
-use Rattle.source_grammar.specs.Grammar.{spell_more_declarators}
+use Rattle.source_grammar.specs.Grammar.{spell_update, last_update, next_update, spell_more_updates, no_updates, some_updates}
+use Rattle.source_grammar.specs.Grammar.{GoodSubscripts, Subscripts, last_subscript, next_subscript, spell_subscripts, stepped_before}
+use Rattle.source_grammar.specs.Grammar.{stepped_behind}
 use Rattle.source_grammar.specs.Machine.{Goal, operand, named, more, maybe_expr, maybe_arguments, more_arguments, indexing, effect}
-use Rattle.source_grammar.specs.Machine.{changing, more_changes, maybe_changes, declaring, initialising, more_declarators, only, closing}
-use Rattle.source_grammar.specs.Machine.{Entry, takes, skips, stops, prefix_entry, operand_entry, named_entry, more_entry}
-use Rattle.source_grammar.specs.Machine.{maybe_expr_entry, maybe_arguments_entry, more_arguments_entry, indexing_entry, effect_entry}
-use Rattle.source_grammar.specs.Machine.{changing_entry, more_changes_entry, maybe_changes_entry, declaring_entry, initialising_entry}
-use Rattle.source_grammar.specs.Machine.{more_declarators_entry, bracket_closing, colon_mark}
+use Rattle.source_grammar.specs.Machine.{changing, more_changes, maybe_changes, only, closing, Entry, takes, skips, stops, prefix_entry}
+use Rattle.source_grammar.specs.Machine.{operand_entry, named_entry, more_entry, maybe_expr_entry, maybe_arguments_entry}
+use Rattle.source_grammar.specs.Machine.{more_arguments_entry, indexing_entry, effect_entry, changing_entry, more_changes_entry}
+use Rattle.source_grammar.specs.Machine.{maybe_changes_entry, bracket_closing, colon_mark}
 use Rattle.source_grammar.proofs.grammar.Links.{Links, ended, link, choice, spell_links, extend_all, spell_all, groups_all, any_level}
 use Rattle.source_grammar.proofs.grammar.Sound.{Holds}
 
@@ -67,6 +66,8 @@ back_operand d (a_number n) gs a w = λ h. (number n a, w, refl, tt, h)
 back_operand d (infix_sign o) gs a w = back_prefix d o gs a w
 back_operand d bang gs a w = λ h. (prefixed negation a h.0, h.1, ap (λ x. token bang a ∷ x) h.2, h.3, h.4)
 back_operand d left_paren gs a w = λ h. back_group a d gs w (expr_then (suc d) (suc d) (only closing ∷ gs) w h)
+back_operand d (step_sign s) gs a w = λ h.
+    (stepped_before s a h.0 h.1, h.2, ap (λ x. token (step_sign s) a ∷ x) h.3, tt, h.4)
 back_operand d nondet_word gs a w = λ h. (
   free a h.0 h.3.0,
   h.3.1,
@@ -78,7 +79,7 @@ back_operand d nondet_word gs a w = λ h. (
 back_operand d _ gs a w = tt
 
 named_call : (a d : ℕ) (gs : List Goal) (w : List Token) → Holds (maybe_arguments d ∷ only closing ∷ gs) w
-    → (x : List ℕ) (b : ℕ) → (e : Expr) × (v : List Token) × (token (a_name x) b ∷ token left_paren a ∷ w ≡ spell_expr e ++ v)
+    → (x : Name) (b : ℕ) → (e : Expr) × (v : List Token) × (token (a_name x) b ∷ token left_paren a ∷ w ≡ spell_expr e ++ v)
     × Groups 7 e × Holds gs v
 named_call a d gs w (es, u, q, g, (c, v, r, rest)) x b = (
   call x b a es c,
@@ -88,21 +89,43 @@ named_call a d gs w (es, u, q, g, (c, v, r, rest)) x b = (
   rest,
 )
 
-named_element : (a : ℕ) (gs : List Goal) (w : List Token) → ExprThen (only bracket_closing ∷ gs) w
-    → (x : List ℕ) (b : ℕ) → (e : Expr) × (v : List Token) × (token (a_name x) b ∷ token left_bracket a ∷ w ≡ spell_expr e ++ v)
-    × Groups 7 e × Holds gs v
-named_element a gs w (e, u, q, g, (c, v, r, rest)) x b = (
-  element x b a e c,
+-- the text is the brackets of an element or a place, and what these goals ask
+abbrev SubscriptsThen : List Goal → List Token → Type 0
+SubscriptsThen gs w = (is : Subscripts) × (v : List Token) × (w ≡ spell_subscripts is ++ v) × GoodSubscripts is × Holds gs v
+
+some_subscripts : (a d : ℕ) (gs : List Goal) (w : List Token) → ExprThen (only bracket_closing ∷ indexing d ∷ gs) w
+    → SubscriptsThen gs (token left_bracket a ∷ w)
+some_subscripts a d gs w (e, u, q, g, (c, y, r, (no_index, v, s, k, rest))) = (
+  last_subscript a e c,
   v,
-  ap (λ y. token (a_name x) b ∷ token left_bracket a ∷ y) (end_text (spell_expr e) (token right_bracket c) w u v q r),
+  ap (λ x. token left_bracket a ∷ x)
+      (two_text (spell_expr e) (token right_bracket c ∷ []) w u v q (r ∙ ap (λ x. token right_bracket c ∷ x) s)),
   g,
   rest,
 )
+some_subscripts a d gs w (e, u, q, g, (c, y, r, (index is, v, s, k, rest))) = (
+  next_subscript a e c is,
+  v,
+  ap (λ x. token left_bracket a ∷ x)
+      (two_text (spell_expr e) (token right_bracket c ∷ spell_subscripts is) w u v q (r ∙ ap (λ x. token right_bracket c ∷ x) s)),
+  (g, k),
+  rest,
+)
+
+-- brackets, read backwards
+pub bracketed : (a d : ℕ) (gs : List Goal) (w : List Token)
+    → Holds (operand (suc d) ∷ more (suc d) ∷ only bracket_closing ∷ indexing d ∷ gs) w → SubscriptsThen gs (token left_bracket a ∷ w)
+bracketed a d gs w h = some_subscripts a d gs w (expr_then (suc d) (suc d) (only bracket_closing ∷ indexing d ∷ gs) w h)
+
+named_element : (gs : List Goal) (w : List Token) → SubscriptsThen gs w → (x : Name) (b : ℕ) → (e : Expr) × (v : List Token)
+    × (token (a_name x) b ∷ w ≡ spell_expr e ++ v) × Groups 7 e × Holds gs v
+named_element gs w (is, v, q, g, rest) x b = (element x b is, v, ap (λ y. token (a_name x) b ∷ y) q, g, rest)
 
 -- the goal of what may follow the name of an operand, read backwards
 pub back_named : (d : ℕ) (k : Kind) (gs : List Goal) (a : ℕ) (w : List Token) → Back (named_entry d k) (named d) gs k a w
 back_named d left_paren gs a w = λ h. named_call a (suc d) gs w h
-back_named d left_bracket gs a w = λ h. named_element a gs w (expr_then (suc d) (suc d) (only bracket_closing ∷ gs) w h)
+back_named d left_bracket gs a w = λ h. named_element gs _ (bracketed a d gs w h)
+back_named d (step_sign s) gs a w = λ h x b. (stepped_behind x b s a, w, refl, tt, h)
 back_named d k gs a w = λ h x b. (variable x b, token k a ∷ w, refl, tt, h)
 
 back_link : (d a : ℕ) (o : Op) (gs : List Goal) (w : List Token) → Holds (operand d ∷ more d ∷ gs) w
@@ -145,6 +168,7 @@ back_maybe_expr d (infix_sign plus_op) gs a w = λ h. one_expr d gs _ (back_oper
 back_maybe_expr d (infix_sign minus_op) gs a w = λ h. one_expr d gs _ (back_operand d (infix_sign minus_op) (more d ∷ gs) a w h)
 back_maybe_expr d bang gs a w = λ h. one_expr d gs _ (back_operand d bang (more d ∷ gs) a w h)
 back_maybe_expr d left_paren gs a w = λ h. one_expr d gs _ (back_operand d left_paren (more d ∷ gs) a w h)
+back_maybe_expr d (step_sign s) gs a w = λ h. one_expr d gs _ (back_operand d (step_sign s) (more d ∷ gs) a w h)
 back_maybe_expr d nondet_word gs a w = λ h. one_expr d gs _ (back_operand d nondet_word (more d ∷ gs) a w h)
 back_maybe_expr d k gs a w = λ h. (absent, token k a ∷ w, refl, tt, h)
 
@@ -169,6 +193,8 @@ back_maybe_arguments d (infix_sign minus_op) gs a w =
 back_maybe_arguments d bang gs a w = λ h. some_arguments d gs _ (back_operand d bang (more d ∷ more_arguments d ∷ gs) a w h)
 back_maybe_arguments d left_paren gs a w =
     λ h. some_arguments d gs _ (back_operand d left_paren (more d ∷ more_arguments d ∷ gs) a w h)
+back_maybe_arguments d (step_sign s) gs a w =
+    λ h. some_arguments d gs _ (back_operand d (step_sign s) (more d ∷ more_arguments d ∷ gs) a w h)
 back_maybe_arguments d nondet_word gs a w =
     λ h. some_arguments d gs _ (back_operand d nondet_word (more d ∷ more_arguments d ∷ gs) a w h)
 back_maybe_arguments d k gs a w = λ h. (no_arguments, token k a ∷ w, refl, tt, h)
@@ -190,19 +216,12 @@ back_more_arguments d comma gs a w = λ h. one_more_argument d a gs w (expr_then
 back_more_arguments d k gs a w = λ h. (last_argument, token k a ∷ w, refl, tt, h)
 
 -- ---- changes
-one_index : (d a : ℕ) (gs : List Goal) (w : List Token) → ExprThen (only bracket_closing ∷ gs) w
-    → Holds (indexing d ∷ gs) (token left_bracket a ∷ w)
-one_index d a gs w (e, u, q, g, (b, v, r, rest)) = (
-  index a e b,
-  v,
-  ap (λ x. token left_bracket a ∷ x) (end_text (spell_expr e) (token right_bracket b) w u v q r),
-  g,
-  rest,
-)
+one_index : (d : ℕ) (gs : List Goal) (w : List Token) → SubscriptsThen gs w → Holds (indexing d ∷ gs) w
+one_index d gs w (is, v, q, g, rest) = (index is, v, q, g, rest)
 
 -- the goal of the brackets of a place, read backwards
 pub back_indexing : (d : ℕ) (k : Kind) (gs : List Goal) (a : ℕ) (w : List Token) → Back (indexing_entry d k) (indexing d) gs k a w
-back_indexing d left_bracket gs a w = λ h. one_index d a gs w (expr_then (suc d) (suc d) (only bracket_closing ∷ gs) w h)
+back_indexing d left_bracket gs a w = λ h. one_index d gs _ (bracketed a d gs w h)
 back_indexing d k gs a w = λ h. (no_index, token k a ∷ w, refl, tt, h)
 
 -- the goal of what is done to a place, read backwards
@@ -253,36 +272,3 @@ pub back_maybe_changes : (d : ℕ) (k : Kind) (gs : List Goal) (a : ℕ) (w : Li
 back_maybe_changes d (a_name x) gs a w = λ h. some_changes d gs _ (back_changing d (a_name x) (more_changes d ∷ gs) a w h)
 back_maybe_changes d (step_sign g) gs a w = λ h. some_changes d gs _ (back_changing d (step_sign g) (more_changes d ∷ gs) a w h)
 back_maybe_changes d k gs a w = λ h. (no_updates, token k a ∷ w, refl, tt, h)
-
--- ---- declarations
--- the goal of a declarator, read backwards
-pub back_declaring : (d : ℕ) (k : Kind) (gs : List Goal) (a : ℕ) (w : List Token) → Back (declaring_entry d k) (declaring d) gs k a w
-back_declaring d (a_name x) gs a w = λ h. (declarator x a h.0, h.1, ap (λ y. token (a_name x) a ∷ y) h.2, h.3, h.4)
-back_declaring d _ gs a w = tt
-
--- the goal of what may follow a declared name, read backwards
-pub back_initialising : (d : ℕ) (k : Kind) (gs : List Goal) (a : ℕ) (w : List Token)
-    → Back (initialising_entry d k) (initialising d) gs k a w
-back_initialising d (change_sign replaces) gs a w = λ h. on (expr_then d d gs w h) where
-  on : ExprThen gs w → Holds (initialising d ∷ gs) (token (change_sign replaces) a ∷ w)
-  on (e, v, q, i, rest) = (given a e, v, ap (λ x. token (change_sign replaces) a ∷ x) q, i, rest)
-back_initialising d left_bracket gs a w = λ h. (
-  sized a h.0 h.1 h.4.0,
-  h.4.1,
-  ap (λ x. token left_bracket a ∷ x) (h.3 ∙ ap (λ x. token (a_number h.0) h.1 ∷ x) h.4.2),
-  tt,
-  h.4.3,
-)
-back_initialising d k gs a w = λ h. (bare, token k a ∷ w, refl, tt, h)
-
--- the goal of what follows a declarator, read backwards
-pub back_more_declarators : (d : ℕ) (k : Kind) (gs : List Goal) (a : ℕ) (w : List Token)
-    → Back (more_declarators_entry d k) (more_declarators d) gs k a w
-back_more_declarators d comma gs a w = λ h. (
-  next_declarator a h.0 h.4.0,
-  h.4.1,
-  ap (λ y. token comma a ∷ y) (two_text (spell_declarator h.0) (spell_more_declarators h.4.0) w h.1 h.4.1 h.2 h.4.2),
-  (h.3, h.4.3),
-  h.4.4,
-)
-back_more_declarators d k gs a w = λ h. (last_declarator, token k a ∷ w, refl, tt, h)

@@ -36,6 +36,7 @@ goes_on (variant.Two a b) g gs k h p q r = goes_shape _ (entry g k) (opened_by g
 goes_on (variant.Three a b c) g gs k h p q r = goes_shape _ (entry g k) (opened_by g k) gs k h.0 h.1
 goes_on (variant.Four a b c d) g gs k h p q r = goes_shape _ (entry g k) (opened_by g k) gs k h.0 h.1
 goes_on (variant.Five a b c d e) g gs k h p q r = goes_shape _ (entry g k) (opened_by g k) gs k h.0 h.1
+goes_on (variant.Six a b c d e f) g gs k h p q r = goes_shape _ (entry g k) (opened_by g k) gs k h.0 h.1
 goes_on variant.Skips g gs k h p q r = absurd (p refl)
 goes_on variant.Stops g gs k h p q r = absurd (q refl)
 goes_on variant.Deep g gs k h p q r = absurd (r refl)

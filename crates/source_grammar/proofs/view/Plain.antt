@@ -1,14 +1,15 @@
 -- Names and numbers do not matter to the machine.
 use Rattle.std.proofs.Common.{◌≡◌, ◌∙◌, ◌++◌, ℕ, List, [], ◌∷◌, Option, Some, None, refl, sym, ap, ap₂, map}
-use Rattle.source_grammar.specs.Tokens.{a_name, a_number, Kind, Token, token}
+use Rattle.source_grammar.specs.Tokens.{a_name, a_number, Kind, Token, token, Name}
 use Rattle.source_grammar.specs.Machine.{Goal, operand, only, opening, Entry, takes, skips, stops, entry, step, start}
 use Rattle.source_grammar.specs.Verdicts.{opened, opened_by, verdict, judged, Verdict, goes, refused, too_deep, scan}
 use Rattle.source_grammar.specs.Faults.{Scan, unexpected, nested}
 use Rattle.source_grammar.specs.View.{plain_kind, plain_token, token_of, Are}
+use Rattle.source_grammar.specs.Symbols.{nameless}
 use Rattle.source_grammar.specs.declared.symbol.Piece as code_piece
 
 -- Nothing is opened or chosen by the name.
-name_entry_same : (g : Goal) (x : List ℕ) → entry g (a_name []) ≡ entry g (a_name x)
+name_entry_same : (g : Goal) (x : Name) → entry g (a_name nameless) ≡ entry g (a_name x)
 name_entry_same (only opening) x = refl
 name_entry_same _ x = refl
 
@@ -16,7 +17,7 @@ number_entry_same : (g : Goal) (n : ℕ) → entry g (a_number 0) ≡ entry g (a
 number_entry_same (only opening) x = refl
 number_entry_same _ x = refl
 
-name_opens : (g : Goal) (x : List ℕ) → opened_by g (a_name x) ≡ None
+name_opens : (g : Goal) (x : Name) → opened_by g (a_name x) ≡ None
 name_opens (operand d) x = refl
 name_opens _ x = refl
 
@@ -44,8 +45,8 @@ module _ (k l : Kind) (same : (g : Goal) → entry g k ≡ entry g l) (opens : (
 
 -- the machine judges a token the same whatever names and numbers are
 plain_verdict : (gs : List Goal) (k : Kind) → verdict gs (plain_kind k) ≡ verdict gs k
-plain_verdict gs (a_name x) = verdict_same (a_name []) (a_name x) (λ g. name_entry_same g x)
-    (λ g. name_opens g [] ∙ sym (name_opens g x)) gs
+plain_verdict gs (a_name x) = verdict_same (a_name nameless) (a_name x) (λ g. name_entry_same g x)
+    (λ g. name_opens g nameless ∙ sym (name_opens g x)) gs
 plain_verdict gs (a_number n) = verdict_same (a_number 0) (a_number n)
     (λ g. number_entry_same g n) (λ g. number_opens g 0 ∙ sym (number_opens g n)) gs
 plain_verdict gs _ = refl

@@ -1,19 +1,20 @@
 -- All numbers of a change that is read are in their ranges.
-use Rattle.std.proofs.Common.{ℕ, true, List, [], ◌∷◌, ◌++◌, IsTrue, Ok, refl}
+use Rattle.std.proofs.Common.{ℕ, true, [], ◌∷◌, ◌++◌, IsTrue, Ok, refl}
 use Rattle.std.proofs.lemmas.Bool.{and_from, and_parts}
 use Rattle.lang_tree.specs.Limits.{has_numbers}
 use Rattle.lang_tree.specs.Tree.{Deed}
 use Rattle.lang_tree.specs.Tree as core
 use Rattle.source_grammar.specs.Tokens as g
+use Rattle.source_grammar.specs.Grammar as tree
 use Rattle.source_grammar.specs.Grammar.{Expr, Place, place, no_index, index, Effect, assigns, steps}
-use Rattle.source_tree.specs.Expressions.{Expression, Expressions, variable, element, joined, none, more, plus, minus, times, over}
+use Rattle.source_tree.specs.Expressions.{Expression, Expressions, variable, joined, none, more, plus, minus, times, over}
 use Rattle.source_tree.specs.Expressions.{remainder}
 use Rattle.source_tree.specs.Statements.{Change, evaluates}
 use Rattle.source_core.specs.Elaborated.{Result as Value, a_form, a_truth, any, Elaborated, elaborated, numbered}
 use Rattle.source_core.specs.Core.{taken_any, taken, change_deeds}
 use Rattle.source_core.specs.Fits.{deed_fits, deeds_fit, fits}
 use Rattle.source_meaning.specs.Results.{◌>>=◌}
-use Rattle.source_meaning.specs.Names.{State, variable_of, array_of}
+use Rattle.source_meaning.specs.Names.{State, variable_of}
 use Rattle.source_meaning.specs.Expressions.{read, ranged, behind, behind_number}
 use Rattle.source_meaning.specs.Changes.{stepped, right_side, written, affected, evaluated_by, read_element, changed}
 use Rattle.source_meaning.proofs.results.Values.{OnValue, on_bind}
@@ -106,17 +107,13 @@ module _ (integers : Integers) (n line : ℕ) (st : State) where
   evaluated_fits old (steps d sign) h = on_bind Fit (ChangeFits integers n) (ranged integers line sign n (stepped d sign old)) _
       (ranged_fits integers line sign n (stepped d sign old)) (λ x k. one_evaluated integers n line x k)
 
-  element_fits : (x : List ℕ) (at bracket : ℕ) (e : Expr) → OnValue Fit (read_element integers n line st x at bracket e)
-  element_fits x at bracket e = on_bind (λ size. Unit {0}) Fit (array_of x at st) _ (anything (array_of x at st))
-      (λ size u. on_bind (λ i. Unit {0}) Fit (read integers line st e n) _ (anything (read integers line st e n))
-      (λ i u. ranged_fits integers line bracket n (element size bracket i at)))
-
   -- the change of a place
   pub changed_fits : (p : Place) (f : Effect)
       → OnValue (λ g. IsTrue (deeds_fit (change_deeds integers n g))) (changed integers n line st p f)
   changed_fits (place x a no_index) f =
       on_bind (λ i. Unit {0}) (ChangeFits integers n) (variable_of x a st) _ (anything (variable_of x a st))
       (λ i u. affected_fits i a f)
-  changed_fits (place x a (index b e c)) f =
-      on_bind Fit (ChangeFits integers n) (read_element integers n line st x a b e) _ (element_fits x a b e)
+  changed_fits (place x a (index is)) f =
+      on_bind Fit (ChangeFits integers n) (read_element integers n line st x a is) _
+      (read_fits integers line st (tree.element x a is) n)
       (λ old k. evaluated_fits old f k)

@@ -1,24 +1,25 @@
 -- The variables of a change that is read are those of the function.
-use Rattle.std.proofs.Common.{◌≤◌, ◌<◌, ℕ, true, IsTrue, List, Ok, refl, arith}
+use Rattle.std.proofs.Common.{◌≤◌, ◌<◌, ℕ, true, IsTrue, length, Ok, refl, arith}
 use Rattle.std.specs.Prelude.{◌&&◌, nat_lt}
 use Rattle.std.proofs.lemmas.Bool.{lt-ltb, and_from}
 use Rattle.source_grammar.specs.Tokens as g
+use Rattle.source_grammar.specs.Grammar as tree
 use Rattle.source_grammar.specs.Grammar.{Expr, Place, place, no_index, index, Effect, assigns, steps}
-use Rattle.source_tree.specs.Expressions.{Expression, Expressions, variable, element, joined, none, more, plus, minus, times, over}
+use Rattle.source_tree.specs.Expressions.{Expression, Expressions, variable, joined, none, more, plus, minus, times, over}
 use Rattle.source_tree.specs.Expressions.{remainder}
 use Rattle.source_tree.specs.Statements.{Change}
 use Rattle.source_core.specs.Laws.{is_over, are_over}
 use Rattle.source_core.specs.RunLaws.{is_change_over}
 use Rattle.source_meaning.specs.Results.{◌>>=◌}
-use Rattle.source_meaning.specs.Names.{State, variable_of, array_of}
+use Rattle.source_meaning.specs.Names.{State, variable_of}
 use Rattle.source_meaning.specs.Expressions.{read, ranged, behind, behind_number}
 use Rattle.source_meaning.specs.Changes.{stepped, right_side, written, affected, evaluated_by, read_element, changed}
 use Rattle.source_meaning.proofs.results.Values.{OnValue, on_bind}
 use Rattle.source_meaning.proofs.names.Sound.{Sound, variable_below}
-use Rattle.source_meaning.proofs.expressions.Over.{anything, ranged_has, read_over}
+use Rattle.source_meaning.proofs.expressions.Over.{ranged_has, read_over}
 use Rattle.base_integers.specs.declared.integers.Integers.{Integers}
 
-module _ (integers : Integers) (n line : ℕ) (st : State) (s : Sound st) (few : st.variables ≤ n) where
+module _ (integers : Integers) (n line : ℕ) (st : State) (s : Sound st) (few : length st.variables ≤ n) where
   abbrev Over : Expression → Type 0
   Over e = IsTrue (is_over n e)
 
@@ -92,14 +93,10 @@ module _ (integers : Integers) (n line : ℕ) (st : State) (s : Sound st) (few :
   evaluated_over old (steps d sign) o = on_bind Over ChangeOver (ranged integers line sign n (stepped d sign old)) _
       (ranged_has integers line Over sign n (stepped d sign old) (stepped_over d sign old o)) (λ x p. one_over x p)
 
-  element_over : (x : List ℕ) (at bracket : ℕ) (e : Expr) → OnValue Over (read_element integers n line st x at bracket e)
-  element_over x at bracket e = on_bind (λ size. Unit {0}) Over (array_of x at st) _ (anything (array_of x at st))
-      (λ size u. on_bind Over Over (read integers line st e n) _ (expression_over e n)
-      (λ i o. ranged_has integers line Over bracket n (element size bracket i at) o))
-
   -- the change of a place
   pub changed_over : (p : Place) (f : Effect) → OnValue (λ g. IsTrue (is_change_over n g)) (changed integers n line st p f)
-  changed_over (place x a no_index) f = on_bind (λ i. i < st.variables) ChangeOver (variable_of x a st) _ (variable_below x a st s)
+  changed_over (place x a no_index) f = on_bind (λ i. i < length st.variables) ChangeOver (variable_of x a st) _ (variable_below x a st s)
       (λ i l. affected_over i a f (lt-ltb i n (omega (arith, l, few))))
-  changed_over (place x a (index b e c)) f = on_bind Over ChangeOver (read_element integers n line st x a b e) _ (element_over x a b e)
+  changed_over (place x a (index is)) f = on_bind Over ChangeOver (read_element integers n line st x a is) _
+      (expression_over (tree.element x a is) n)
       (λ old o. evaluated_over old f o)

@@ -1,8 +1,9 @@
 -- All numbers of what is read are in their ranges.
 use Rattle.std.proofs.Common.{◌≡◌, ℕ, zero, suc, ℤ, pos, Bool, true, false, List, [], ◌∷◌, ◌++◌, IsTrue, refl, sym}
-use Rattle.std.proofs.Common.{subst, replicate, map}
+use Rattle.std.proofs.Common.{subst, replicate, map, Option, Some, None, Ok}
 use Rattle.std.specs.Prelude.{◌&&◌, ◌*ℤ◌, negsuc}
 use Rattle.std.specs.List.{list_all}
+use Rattle.std.proofs.lemmas.List.{append-nil}
 use Rattle.std.proofs.lemmas.Bool.{and_from, and_parts}
 use Rattle.lang_tree.specs.Numbers.{are_numbers}
 use Rattle.lang_tree.specs.Limits.{has_numbers}
@@ -10,22 +11,28 @@ use Rattle.lang_tree.specs.Tree.{Condition, Deed, sets, havocs, wheres, checks}
 use Rattle.lang_tree.specs.Tree as core
 use Rattle.source_grammar.specs.Tokens as g
 use Rattle.source_grammar.specs.Grammar.{Expr, Arguments, MoreArguments, no_arguments, arguments, last_argument, next_argument}
+use Rattle.source_grammar.specs.Grammar.{last_subscript, next_subscript, Value as Listed, one_value, braced, Values, no_values, values}
+use Rattle.source_grammar.specs.Grammar.{MoreValues, last_value, last_comma, next_value}
 use Rattle.source_grammar.specs.Grammar as tree
-use Rattle.source_tree.specs.Expressions.{Expression, number, element, negative}
+use Rattle.source_tree.specs.Expressions.{Expression, Expressions, number, element, negative, more}
+use Rattle.source_tree.specs.Expressions.{Extent, Subscripts, no_subscript, subscript}
 use Rattle.source_tree.specs.Expressions.{joined, compared, chosen, plus, minus, times, over, remainder}
 use Rattle.source_core.specs.Forms.{constant_form, variable_form, sums}
 use Rattle.source_core.specs.Forms as form
 use Rattle.source_core.specs.Preludes.{under, all_under}
 use Rattle.source_core.specs.Elaborated.{Result as Value, a_form, a_truth, any, Elaborated, selects, tested, as_number, numbered}
-use Rattle.source_core.specs.Elaborated.{held, elaborated, evaluated}
+use Rattle.source_core.specs.Elaborated.{held, elaborated, evaluated, indexed, index_behind}
 use Rattle.source_core.specs.Fits.{is_comparable, condition_fits, deed_fits, deeds_fit, result_fits, fits, numbered_fits, tested_fits}
-use Rattle.source_meaning.specs.declared.fault.FunctionFault.TheVariants.{BigNumber}
-use Rattle.source_meaning.specs.Names.{State, known, variable_of, array_of, as_called}
+use Rattle.source_meaning.specs.declared.fault.FunctionFault.TheVariants.{BigNumber, SideEffect}
+use Rattle.source_meaning.specs.Results.{◌>>=◌}
+use Rattle.source_meaning.specs.Names.{Thing, State, thing_of, variable_of, array_of, as_called}
+use Rattle.source_meaning.specs.Names as names
 use Rattle.source_meaning.specs.Expressions.{first_of, rel_of, ranged, as_condition, behind, behind_number, operated, joins_conditions}
 use Rattle.source_meaning.specs.Expressions.{side}
-use Rattle.source_meaning.specs.Expressions.{behind_side, prefixed, read, read_arguments, read_more}
+use Rattle.source_meaning.specs.Expressions.{behind_side, prefixed, operand, read, read_subscripts, read_arguments, read_more}
+use Rattle.source_meaning.specs.Expressions.{is_array_name, subscript_count, read_value, read_values, read_more_values}
 use Rattle.source_meaning.proofs.results.Values.{OnValue, on_bind, on_provided}
-use Rattle.source_meaning.proofs.expressions.Over.{anything}
+use Rattle.source_meaning.proofs.expressions.Over.{anything, either_has, refused}
 use Rattle.base_integers.specs.declared.integers.Integers.{Integers}
 use Rattle.base_integers.specs.declared.integers.Integers.TheVariants.{Mathematical, Machine}
 use Rattle.base_integers.specs.declared.integers.Width.{Width}
@@ -151,6 +158,10 @@ module _ (integers : Integers) (line : ℕ) where
   pub ranged_fits : (sign h : ℕ) (e : Expression) → OnValue (InRange h) (ranged integers line sign h e)
   ranged_fits sign h e = on_provided (InRange h) (fits (elaborated integers line e h)) (BigNumber sign) e (λ t. t)
 
+  -- which is told of it, whatever is made of it
+  ranged_told : (sign h : ℕ) (e : Expression) → OnValue (λ x. InRange h e) (ranged integers line sign h e)
+  ranged_told sign h e = on_provided (λ x. InRange h e) (fits (elaborated integers line e h)) (BigNumber sign) e (λ t. t)
+
   -- so has one that is to be a condition
   pub condition_in_range : (first h : ℕ) (e : Expression)
       → OnValue (λ x. IsTrue (tested_fits (tested (elaborated integers line x h)))) (as_condition integers line first h e)
@@ -199,22 +210,62 @@ module _ (integers : Integers) (line : ℕ) where
       on_bind (λ x. IsTrue (tested_fits (tested (elaborated integers line x h)))) (InRange h) (as_condition integers line first h x) _
       (condition_in_range first h x) (λ x t. t)
 
+  operand_fits : (at h : ℕ) (o : Option Thing) → OnValue (InRange h) (operand integers line at h o)
+  operand_fits at h None = tt
+  operand_fits at h (Some (names.variable i)) = variable_numbers i
+  operand_fits at h (Some (names.array extents)) = tt
+  operand_fits at h (Some (names.constant v)) = ranged_fits at h (number v at)
+
+  -- the prelude of expressions that are evaluated has numbers in their ranges
+  abbrev pub AllInRange : (h : ℕ) → Expressions → Type 0
+  AllInRange h xs = IsTrue (deeds_fit (evaluated integers line xs h).prelude)
+
+  -- so has that of indexes
+  abbrev IndexesInRange : (h : ℕ) → Subscripts → Type 0
+  IndexesInRange h ys = IsTrue (deeds_fit (indexed integers line ys h).prelude)
+
+  -- an expression, and others behind it
+  one_more_fits : (h : ℕ) (x : Expression) (xs : Expressions) → InRange h x → AllInRange (behind integers line x h) xs
+      → AllInRange h (more x xs)
+  one_more_fits h x xs k l =
+      all_then deed_fits (elaborated integers line x h).prelude (evaluated integers line xs (behind integers line x h)).prelude
+      (prelude_fits (elaborated integers line x h) k) l
+
+  -- an index in range, with its check, and others behind it
+  index_fits : (h : ℕ) (x : Extent) (b a : ℕ) (i : Expression) (ys : Subscripts) → InRange h (element (subscript x b i no_subscript) a)
+      → IndexesInRange (behind_number integers line i h) ys → IndexesInRange h (subscript x b i ys)
+  index_fits h x b a i ys k l =
+      let v = numbered integers line (elaborated integers line i h) in
+      let c = index_behind line x b v in
+      all_then deed_fits c.prelude (indexed integers line ys v.next).prelude
+      (subst (λ ds. IsTrue (deeds_fit ds)) (append-nil c.prelude) (and_parts (deeds_fit (c.prelude ++ [])) true k).0) l
+
   module _ (st : State) where
+    -- an argument that is read, and those behind it
+    argument_fits : (e : Expr) (es : MoreArguments) (h : ℕ) → OnValue (InRange h) (read integers line st e h)
+        → ((k : ℕ) → OnValue (AllInRange k) (read_more integers line st es k)) → OnValue (AllInRange h)
+        (read integers line st e h >>= λ x. read_more integers line st es (behind integers line x h) >>= λ xs. Ok (more x xs))
+    argument_fits e es h r q = on_bind (InRange h) (AllInRange h) (read integers line st e h) _ r
+        (λ x k. on_bind (AllInRange (behind integers line x h)) (AllInRange h)
+        (read_more integers line st es (behind integers line x h)) _
+        (q (behind integers line x h)) (λ xs l. one_more_fits h x xs k l))
+
     mutual
       -- the expression that is read
       pub read_fits : (e : Expr) (h : ℕ) → OnValue (λ x. IsTrue (fits (elaborated integers line x h))) (read integers line st e h)
-      read_fits (tree.number v a) h = ranged_fits a h (number v a)
-      read_fits (tree.variable x a) h = on_bind (λ i. Unit {0}) (λ x. IsTrue (fits (elaborated integers line x h))) (variable_of x a st) _
-          (anything (variable_of x a st)) (λ i u. variable_numbers i)
-      read_fits (tree.element x a b e c) h =
-          on_bind (λ size. Unit {0}) (λ x. IsTrue (fits (elaborated integers line x h))) (array_of x a st) _
-          (anything (array_of x a st))
-          (λ size u. on_bind (λ x. IsTrue (fits (elaborated integers line x h))) (λ x. IsTrue (fits (elaborated integers line x h)))
-          (read integers line st e h) _
-          (read_fits e h) (λ i k. ranged_fits b h (element size b i a)))
+      read_fits (tree.number v a) h = ranged_fits a h (number (pos v) a)
+      read_fits (tree.variable x a) h = operand_fits a h (thing_of x st)
+      read_fits (tree.element x a is) h =
+          on_bind (λ extents. Unit {0}) (InRange h) (array_of x a (subscript_count is) st) _
+          (anything (array_of x a (subscript_count is) st))
+          (λ extents u. on_bind (λ ys. IsTrue (deeds_fit (indexed integers line ys h).prelude)) (InRange h)
+          (read_subscripts integers line st a extents is h) _ (subscripts_fit a extents is h)
+          (λ ys k. and_from (deeds_fit (indexed integers line ys h).prelude) true k refl))
+      read_fits (tree.stepped_behind x a g b) h = refused (InRange h) (variable_of x a st) (SideEffect b)
+      read_fits (tree.stepped_before g a x b) h = refused (InRange h) (variable_of x b st) (SideEffect a)
       read_fits (tree.call x a b es c) h = on_bind (λ y. Unit {0}) (λ x. IsTrue (fits (elaborated integers line x h)))
-          (as_called a (known x st.names) a) _
-          (anything (as_called a (known x st.names) a))
+          (as_called a (thing_of x st) a) _
+          (anything (as_called a (thing_of x st) a))
           (λ y u. on_bind (λ xs. IsTrue (deeds_fit (evaluated integers line xs h).prelude))
           (λ x. IsTrue (fits (elaborated integers line x h)))
           (read_arguments integers line st es h) _ (arguments_fit es h)
@@ -248,30 +299,60 @@ module _ (integers : Integers) (line : ℕ) where
           (anything (read integers line st f (behind_number integers line y (behind integers line x h))))
           (λ z u. ranged_fits a h (chosen a x y z)))))
 
+      -- the indexes that are read
+      subscripts_fit : (a : ℕ) (extents : List Extent) (is : tree.Subscripts) (h : ℕ)
+          → OnValue (λ ys. IsTrue (deeds_fit (indexed integers line ys h).prelude)) (read_subscripts integers line st a extents is h)
+      subscripts_fit a [] is h = tt
+      subscripts_fit a (x ∷ xs) (last_subscript b e c) h =
+          on_bind (λ i. Unit {0}) (IndexesInRange h) (read integers line st e h) _ (anything (read integers line st e h))
+          (λ i u. on_bind (λ y. InRange h (element (subscript x b i no_subscript) a)) (IndexesInRange h)
+          (ranged integers line b h (element (subscript x b i no_subscript) a)) _
+          (ranged_told b h (element (subscript x b i no_subscript) a)) (λ y t. index_fits h x b a i no_subscript t refl))
+      subscripts_fit a (x ∷ xs) (next_subscript b e c is) h =
+          on_bind (λ i. Unit {0}) (IndexesInRange h) (read integers line st e h) _ (anything (read integers line st e h))
+          (λ i u. on_bind (λ y. InRange h (element (subscript x b i no_subscript) a)) (IndexesInRange h)
+          (ranged integers line b h (element (subscript x b i no_subscript) a)) _
+          (ranged_told b h (element (subscript x b i no_subscript) a))
+          (λ y t. on_bind (IndexesInRange (behind_number integers line i h)) (IndexesInRange h)
+          (read_subscripts integers line st a xs is (behind_number integers line i h)) _
+          (subscripts_fit a xs is (behind_number integers line i h)) (λ ys l. index_fits h x b a i ys t l)))
+
       -- the arguments that are read
       pub arguments_fit : (es : Arguments) (h : ℕ)
           → OnValue (λ xs. IsTrue (deeds_fit (evaluated integers line xs h).prelude)) (read_arguments integers line st es h)
       arguments_fit no_arguments h = refl
       arguments_fit (arguments e es) h =
-          on_bind (λ x. IsTrue (fits (elaborated integers line x h))) (λ xs. IsTrue (deeds_fit (evaluated integers line xs h).prelude))
-          (read integers line st e h) _
-          (read_fits e h)
-          (λ x k. on_bind (λ xs. IsTrue (deeds_fit (evaluated integers line xs (behind integers line x h)).prelude))
-          (λ xs. IsTrue (deeds_fit (evaluated integers line xs h).prelude)) (read_more integers line st es (behind integers line x h)) _
-          (more_fit es (behind integers line x h))
-          (λ xs l. all_then deed_fits (elaborated integers line x h).prelude (evaluated integers line xs (behind integers line x h)).prelude
-          (prelude_fits (elaborated integers line x h) k) l))
+          either_has (AllInRange h) (is_array_name st e) _ _ (more_fit es h) (argument_fits e es h (read_fits e h) (λ k. more_fit es k))
 
       -- and those behind the first
       pub more_fit : (es : MoreArguments) (h : ℕ)
           → OnValue (λ xs. IsTrue (deeds_fit (evaluated integers line xs h).prelude)) (read_more integers line st es h)
       more_fit last_argument h = refl
       more_fit (next_argument a e es) h =
-          on_bind (λ x. IsTrue (fits (elaborated integers line x h))) (λ xs. IsTrue (deeds_fit (evaluated integers line xs h).prelude))
-          (read integers line st e h) _
-          (read_fits e h)
-          (λ x k. on_bind (λ xs. IsTrue (deeds_fit (evaluated integers line xs (behind integers line x h)).prelude))
-          (λ xs. IsTrue (deeds_fit (evaluated integers line xs h).prelude)) (read_more integers line st es (behind integers line x h)) _
-          (more_fit es (behind integers line x h))
-          (λ xs l. all_then deed_fits (elaborated integers line x h).prelude (evaluated integers line xs (behind integers line x h)).prelude
-          (prelude_fits (elaborated integers line x h) k) l))
+          either_has (AllInRange h) (is_array_name st e) _ _ (more_fit es h) (argument_fits e es h (read_fits e h) (λ k. more_fit es k))
+
+    mutual
+      -- a value that is read
+      value_fits : (v : Listed) (h : ℕ) → OnValue (λ x. IsTrue (fits (elaborated integers line x h))) (read_value integers line st v h)
+      value_fits (one_value e) h = read_fits e h
+      value_fits (braced a vs b) h = on_bind (AllInRange h) (InRange h) (read_values integers line st vs h) _ (values_fit vs h)
+          (λ xs k. and_from (deeds_fit (evaluated integers line xs h).prelude) true k refl)
+
+      -- the values that are read
+      pub values_fit : (vs : Values) (h : ℕ)
+          → OnValue (λ xs. IsTrue (deeds_fit (evaluated integers line xs h).prelude)) (read_values integers line st vs h)
+      values_fit no_values h = refl
+      values_fit (values v vs) h = on_bind (InRange h) (AllInRange h) (read_value integers line st v h) _ (value_fits v h)
+          (λ x k. on_bind (AllInRange (behind integers line x h)) (AllInRange h)
+          (read_more_values integers line st vs (behind integers line x h)) _
+          (more_values_fit vs (behind integers line x h)) (λ xs l. one_more_fits h x xs k l))
+
+      -- and those behind the first
+      more_values_fit : (vs : MoreValues) (h : ℕ)
+          → OnValue (λ xs. IsTrue (deeds_fit (evaluated integers line xs h).prelude)) (read_more_values integers line st vs h)
+      more_values_fit last_value h = refl
+      more_values_fit (last_comma a) h = refl
+      more_values_fit (next_value a v vs) h = on_bind (InRange h) (AllInRange h) (read_value integers line st v h) _ (value_fits v h)
+          (λ x k. on_bind (AllInRange (behind integers line x h)) (AllInRange h)
+          (read_more_values integers line st vs (behind integers line x h)) _
+          (more_values_fit vs (behind integers line x h)) (λ xs l. one_more_fits h x xs k l))

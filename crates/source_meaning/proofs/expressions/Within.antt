@@ -1,6 +1,6 @@
 -- Which variables the deeds and the result of an expression have: those of the function, and the hidden ones that it takes.
 use Rattle.std.proofs.Common.{◌≤◌, ◌<◌, ℕ, suc, ℤ, pos, negsuc, Bool, true, false, List, [], ◌∷◌, ◌++◌, arith, cond, IsTrue}
-use Rattle.std.specs.Prelude.{◌&&◌, ◌||◌, ◌-ℤ◌, int_div, int_rem, nat_abs, nat_le}
+use Rattle.std.specs.Prelude.{◌&&◌, ◌||◌, ◌-ℤ◌, int_div, int_rem, nat_abs}
 use Rattle.std.specs.Ordering.{int_eq}
 use Rattle.std.proofs.lemmas.Bool.{and_parts, ltb-true}
 use Rattle.lang_tree.specs.declared.form.Form.{Form}
@@ -11,16 +11,17 @@ use Rattle.lang_tree.specs.Tree as core
 use Rattle.source_tree.specs.Expressions.{Operation, plus, minus, times, over, remainder}
 use Rattle.source_tree.specs.Expressions.{Expression, Expressions, number, variable, unknown, call, element, grouped, negative, positive}
 use Rattle.source_tree.specs.Expressions.{inverse, joined, compared, both, either, chosen, none, more}
+use Rattle.source_tree.specs.Expressions.{Extent, endless, elements, Subscripts, no_subscript, subscript}
 use Rattle.source_core.specs.Forms.{constant_form, variable_form, opposite, scaled, is_constant}
 use Rattle.source_core.specs.Forms as form
 use Rattle.source_core.specs.Preludes.{under, all_under}
-use Rattle.source_core.specs.Laws.{is_over, are_over}
+use Rattle.source_core.specs.Laws.{is_over, are_over, are_indexes_over}
 use Rattle.source_core.specs.Elaborated.{Result, a_form, a_truth, any, Elaborated, Numbered, Tested, related, selects, divides}
 use Rattle.source_core.specs.Elaborated.{is_index, is_unit, as_condition, tested, is_divisor, as_number, numbered, havocked, checked}
 use Rattle.source_core.specs.Elaborated.{quotient_behind, unless_zero, operated, choice}
 use Rattle.source_core.specs.Elaborated.{is_held, is_divided, operation_held, form_in, form_behind, held, ranged, number_at}
 use Rattle.source_core.specs.Elaborated.{operation_on}
-use Rattle.source_core.specs.Elaborated.{elaborated, evaluated}
+use Rattle.source_core.specs.Elaborated.{has, index_behind, elaborated, evaluated, indexed}
 use Rattle.source_core.proofs.forms.Over.{FormOver, over_more, over_plus, over_scaled, over_minus, over_constant, over_variable}
 use Rattle.source_core.proofs.forms.Over.{ConditionOver, condition_over_more}
 use Rattle.source_core.proofs.preludes.Parts.{ResultOver}
@@ -181,14 +182,14 @@ ranged_within (Machine width) line h place holds e w o =
     let d = checked line Range place (holds width (form_in e.result)) in
     record { within = within_then h e.next e.next e.prelude (d ∷ []) w.within (check_within e.next d (o width)); over = w.over }
 
-number_at_within : (integers : Integers) (line v at h : ℕ) → IsWithin h (number_at integers line v at h)
-number_at_within Mathematical line v at h = record { within = within_none h; over = over_constant h (pos v) }
+number_at_within : (integers : Integers) (line : ℕ) (v : ℤ) (at h : ℕ) → IsWithin h (number_at integers line v at h)
+number_at_within Mathematical line v at h = record { within = within_none h; over = over_constant h v }
 number_at_within (Machine width) line v at h =
-    let d = checked line Range at (is_held width (constant_form (pos v))) in
-    cond_has (IsWithin h) (nat_le v (greatest width)) _ _ (record { within = within_none h; over = over_constant h (pos v) })
+    let d = checked line Range at (is_held width (constant_form v)) in
+    cond_has (IsWithin h) (has width v) _ _ (record { within = within_none h; over = over_constant h v })
     (record {
-      within = check_within h d (is_held_over h width (constant_form (pos v)) (over_constant h (pos v)));
-      over = over_constant h (pos v);
+      within = check_within h d (is_held_over h width (constant_form v) (over_constant h v));
+      over = over_constant h v;
     })
 
 -- ---- numbers
@@ -320,6 +321,19 @@ choice_within line h c f g w o p q =
       over = over_variable (suc g.next) g.next (omega arith);
     }
 
+-- ---- indexes
+is_index_over : (h : ℕ) (extent : Extent) (f : Form) → FormOver h f → ConditionOver h (is_index extent f)
+is_index_over h endless f o = over_minus h (constant_form (pos 0)) f (over_constant h (pos 0)) o
+is_index_over h (elements size) f o =
+    let last = constant_form (pos size -ℤ pos 1) in
+    (over_minus h (constant_form (pos 0)) f (over_constant h (pos 0)) o, over_minus h f last o (over_constant h (pos size -ℤ pos 1)))
+
+index_within : (line h : ℕ) (extent : Extent) (bracket : ℕ) (i : Numbered) → NumberWithin h i
+    → Within h (index_behind line extent bracket i).prelude i.next
+index_within line h extent bracket i k =
+    let d = checked line Index bracket (is_index extent i.form) in
+    within_then h i.next i.next i.prelude (d ∷ []) k.within (check_within i.next d (is_index_over i.next extent i.form k.over))
+
 -- ---- expressions
 mutual
   -- what an expression over the first n variables is in the core has these and the hidden ones that it takes
@@ -330,19 +344,7 @@ mutual
       record { within = within_none h; over = over_variable h i (omega (arith, l, s)) }
   elaborated_within integers line (unknown at) n h s o = record { within = within_none h; over = tt }
   elaborated_within integers line (call es at) n h s o = record { within = evaluated_within integers line es n h s o; over = tt }
-  elaborated_within integers line (element size bracket e at) n h s o =
-      let i = numbered integers line (elaborated integers line e h) in
-      let k = numbered_within integers line h (elaborated integers line e h) (elaborated_within integers line e n h s o) in
-      let d = checked line Index bracket (is_index size i.form) in
-      let zero = constant_form (pos 0) in
-      let last = constant_form (pos size -ℤ pos 1) in
-      record {
-        within = within_then h i.next i.next i.prelude (d ∷ []) k.within (check_within i.next d (
-          over_minus i.next zero i.form (over_constant i.next (pos 0)) k.over,
-          over_minus i.next i.form last k.over (over_constant i.next (pos size -ℤ pos 1)),
-        ));
-        over = tt;
-      }
+  elaborated_within integers line (element is at) n h s o = record { within = indexed_within integers line is n h s o; over = tt }
   elaborated_within integers line (grouped at e) n h s o = elaborated_within integers line e n h s o
   elaborated_within integers line (negative at e) n h s o =
       let a = numbered integers line (elaborated integers line e h) in
@@ -427,3 +429,17 @@ mutual
       let b = evaluated integers line es a.next in
       within_then h a.next b.next a.prelude b.prelude k.within
       (evaluated_within integers line es n a.next (omega (arith, s, k.within.grows)) p.1)
+
+  -- and that of indexes
+  pub indexed_within : (integers : Integers) (line : ℕ) (is : Subscripts) (n h : ℕ) → n ≤ h → IsTrue (are_indexes_over n is)
+      → Within h (indexed integers line is h).prelude (indexed integers line is h).next
+  indexed_within integers line no_subscript n h s o = within_none h
+  indexed_within integers line (subscript extent bracket e is) n h s o =
+      let p = and_parts (is_over n e) (are_indexes_over n is) o in
+      let a = elaborated integers line e h in
+      let i = numbered integers line a in
+      let k = numbered_within integers line h a (elaborated_within integers line e n h s p.0) in
+      let c = index_behind line extent bracket i in
+      let b = indexed integers line is i.next in
+      within_then h i.next b.next c.prelude b.prelude (index_within line h extent bracket i k)
+      (indexed_within integers line is n i.next (omega (arith, s, k.within.grows)) p.1)

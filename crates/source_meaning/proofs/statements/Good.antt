@@ -1,5 +1,5 @@
 -- What holds of the statements that are read.
-use Rattle.std.proofs.Common.{◌≡◌, ◌+◌, ℕ, Bool, true, IsTrue, List, [], ◌∷◌, length, refl}
+use Rattle.std.proofs.Common.{pos, ◌≡◌, ◌+◌, ℕ, Bool, true, IsTrue, List, [], ◌∷◌, length, refl}
 use Rattle.std.proofs.Common.{arith}
 use Rattle.std.specs.Prelude.{◌&&◌, nat_lt, pos}
 use Rattle.std.specs.List.{list_all}
@@ -125,11 +125,11 @@ core_one m inside s h = and_from (is_statement m inside s) true h refl
 
 -- 0 is one of the integers, and it is compared with itself
 always_good : (integers : Integers) (m n line at : ℕ)
-    → IsTrue (list_all (is_deed m) (condition_of integers n line (compared Le at (number 0 at) (number 0 at))).prelude)
-    × IsTrue (is_tested m (condition_of integers n line (compared Le at (number 0 at) (number 0 at))).condition)
+    → IsTrue (list_all (is_deed m) (condition_of integers n line (compared Le at (number (pos 0) at) (number (pos 0) at))).prelude)
+    × IsTrue (is_tested m (condition_of integers n line (compared Le at (number (pos 0) at) (number (pos 0) at))).condition)
 always_good integers m n line at = by integers where
   always : Expression
-  always = compared Le at (number 0 at) (number 0 at)
+  always = compared Le at (number (pos 0) at) (number (pos 0) at)
 
   Limited : Integers → Type 0
   Limited i = IsTrue (list_all (is_deed m) (condition_of i n line always).prelude)
@@ -281,7 +281,7 @@ module _ (integers : Integers) (n : ℕ) where
       )
 
   -- 0 is compared with 0
-  pub good_always : (line at : ℕ) → GoodCondition line (compared Le at (number 0 at) (number 0 at))
+  pub good_always : (line at : ℕ) → GoodCondition line (compared Le at (number (pos 0) at) (number (pos 0) at))
   good_always line at = let g = always_good integers (n + MOST_HIDDEN) n line at in (refl, g.0, g.1)
 
   -- an assumption of a good condition

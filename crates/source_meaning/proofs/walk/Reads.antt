@@ -1,5 +1,5 @@
 -- What holds of a function that is read.
-use Rattle.std.proofs.Common.{◌≡◌, ◌≤◌, ◌+◌, ◌∙◌, ℕ, suc, false, IsTrue, List, [], ◌∷◌, length, min, reverse, Result, Ok, Err}
+use Rattle.std.proofs.Common.{◌≡◌, ◌≤◌, ◌+◌, ◌++◌, ◌∙◌, ℕ, false, IsTrue, List, [], ◌∷◌, length, min, reverse, Result, Ok, Err}
 use Rattle.std.proofs.Common.{refl, sym, ap, subst, arith}
 use Rattle.std.specs.Prelude.{◌&&◌, nat_le}
 use Rattle.std.proofs.lemmas.Bool.{lt-ltb, le-leb, and_from}
@@ -8,22 +8,30 @@ use Rattle.lang_tree.specs.declared.limits.TheConstants.{MOST_VARIABLES, MOST_HI
 use Rattle.lang_tree.specs.Limits.{are_statements, is_program}
 use Rattle.lang_tree.specs.Tree.{nodes_in}
 use Rattle.source_core.specs.Core.{taken_any, core_in}
+use Rattle.source_grammar.specs.Tokens.{Name}
 use Rattle.source_grammar.specs.Grammar.{MoreParameters, last_parameter, next_parameter, Parameters, no_parameters, void_parameters}
-use Rattle.source_grammar.specs.Grammar.{int_parameters, Function, function}
-use Rattle.source_tree.specs.Statements.{Statements, declares}
+use Rattle.source_grammar.specs.Grammar.{some_parameters, Parameter, number_parameter, pointer_parameter, array_parameter, Function}
+use Rattle.source_grammar.specs.Grammar.{function}
+use Rattle.source_tree.specs.Expressions.{Extent, endless}
+use Rattle.source_tree.specs.Statements.{Statements, declares, nil}
 use Rattle.source_meaning.specs.declared.fault.FunctionFault.{FunctionFault}
 use Rattle.source_meaning.specs.declared.fault.FunctionFault.TheVariants.{NoVariables}
-use Rattle.source_meaning.specs.Names.{State, start_state, with_variable}
+use Rattle.source_meaning.specs.Results.{◌>>=◌}
+use Rattle.source_meaning.specs.Names.{State, start_state, with_variable, declared_number, fresh_array, with_array}
+use Rattle.source_meaning.specs.Arrays.{read_bounds}
 use Rattle.source_meaning.specs.Limits.{counted}
 use Rattle.source_meaning.specs.Statements.{followed_by, read_items}
-use Rattle.source_meaning.specs.Walk.{declared_after, declared_parameters, declared_items, width_of, variables_of, read_parameter}
+use Rattle.source_meaning.specs.Walk.{declared_parameter, declared_after, declared_parameters, declared_items, distinct, width_of}
+use Rattle.source_meaning.specs.Walk.{read_parameter}
 use Rattle.source_meaning.specs.Walk.{read_more_parameters, read_parameters, function_of, walk}
 use Rattle.source_meaning.specs.Laws.{AreApart}
 use Rattle.source_meaning.proofs.results.Values.{OnValue, on_bind}
 use Rattle.source_meaning.proofs.names.Sound.{Sound, start_sound, Declares, Counts, variable_sound, counted_sound}
 use Rattle.source_meaning.proofs.names.Apart.{apart_reversed}
+use Rattle.source_meaning.proofs.names.Added.{length_added}
+use Rattle.source_meaning.proofs.expressions.Over.{anything}
 use Rattle.source_meaning.proofs.statements.Good.{nodes, nodes_declares, Good, good_declares}
-use Rattle.source_meaning.proofs.statements.Grows.{Grows, grows_none, grows_one, grows_then, same_declared}
+use Rattle.source_meaning.proofs.statements.Grows.{Grows, grows_none, grows_one, grows_then, fresh_grows, with_array_grows}
 use Rattle.source_meaning.proofs.statements.Walked.{items_grow}
 use Rattle.base_integers.specs.declared.integers.Integers.{Integers}
 
@@ -43,53 +51,65 @@ pub record Reads (integers : Integers) (f : Function) (r : List (List ℕ) × St
   pub good : Good integers (length r.0) false r.1
 
 module _ (integers : Integers) (line : ℕ → ℕ) (n : ℕ) where
-  parameter_grows : (st : State) → Sound st → (x : List ℕ) (at : ℕ)
-      → OnValue (Grows integers n false st 1) (read_parameter integers line st x at)
-  parameter_grows st s x at = on_bind (Declares st) (Grows integers n false st 1) (with_variable x at st) _ (variable_sound x at st s)
-      (λ now d. let k = length (taken_any integers st.variables (line at)) in
-      on_bind (Counts k now) (Grows integers n false st 1) (counted at k now) _ (counted_sound at k now d.sound)
-      (λ more c. grows_one integers line n false st more 1 k (declares st.variables (line at)) c.sound (omega (arith, c.variables, d.more))
-      (omega (arith, c.count, d.same)) (nodes_declares integers n st.variables (line at))
-      (λ l. good_declares integers n false st.variables (line at) (lt-ltb st.variables n (omega (arith, l, c.variables, d.more))))))
+  -- an array that is a parameter, behind which its bounds are read
+  array_grows : (x : Name) (at : ℕ) (st : State) → Sound st → (r : State → Result (List Extent) FunctionFault)
+      → OnValue (Grows integers n false st []) (fresh_array x at st >>= λ now. r now >>= λ extents. Ok (with_array x extents now, nil))
+  array_grows x at st s r = fresh_grows integers line n false x at st s _
+      (on_bind (λ extents. Unit {0}) (Grows integers n false st []) (r st) _ (anything (r st))
+      (λ extents u. with_array_grows integers line n false x extents st (st, nil) (grows_none integers line n false st s)))
+
+  parameter_grows : (st : State) → Sound st → (p : Parameter)
+      → OnValue (Grows integers n false st (declared_parameter p)) (read_parameter integers line st p)
+  parameter_grows st s (number_parameter t x at) =
+      let G : State × Statements → Type 0 = Grows integers n false st (x.text ∷ []) in
+      on_bind (Declares x.text st) G (with_variable x at st) _ (variable_sound x at st s)
+      (λ now d. let i = declared_number now in
+      let k = length (taken_any integers i (line at)) in
+      on_bind (Counts k now) G (counted at k now) _ (counted_sound at k now d.sound)
+      (λ more c. grows_one integers line n false st more (x.text ∷ []) k (declares i (line at)) c.sound (c.variables ∙ d.variables)
+      (omega (arith, c.width, d.more)) (omega (arith, c.count, d.same)) (nodes_declares integers n i (line at))
+      (λ l. good_declares integers n false i (line at) (lt-ltb i n (omega (arith, l, c.width, d.below))))))
+  parameter_grows st s (pointer_parameter t a x at) = array_grows x at st s (λ now. Ok (endless ∷ []))
+  parameter_grows st s (array_parameter t x at bs) = array_grows x at st s (λ now. read_bounds now bs)
+
+  both_grow : (st : State) → Sound st → (p : Parameter) (ps : MoreParameters)
+      → ((now : State) → Sound now → OnValue (Grows integers n false now (declared_after ps)) (read_more_parameters integers line now ps))
+      → OnValue (Grows integers n false st (declared_parameter p ++ declared_after ps))
+      (read_parameter integers line st p >>= λ r. read_more_parameters integers line r.0 ps >>= λ q. Ok (q.0, followed_by r.1 q.1))
+  both_grow st s p ps f =
+      let G : State × Statements → Type 0 = Grows integers n false st (declared_parameter p ++ declared_after ps) in
+      on_bind (Grows integers n false st (declared_parameter p)) G (read_parameter integers line st p) _ (parameter_grows st s p)
+      (λ r h. on_bind (Grows integers n false r.0 (declared_after ps)) G (read_more_parameters integers line r.0 ps) _ (f r.0 h.sound)
+      (λ q i. grows_then integers line n false st (declared_parameter p) (declared_after ps) r q h i))
 
   more_parameters_grow : (st : State) → Sound st → (ps : MoreParameters)
       → OnValue (Grows integers n false st (declared_after ps)) (read_more_parameters integers line st ps)
   more_parameters_grow st s last_parameter = grows_none integers line n false st s
-  more_parameters_grow st s (next_parameter a b x at ps) =
-      on_bind (Grows integers n false st 1) (Grows integers n false st (suc (declared_after ps))) (read_parameter integers line st x at) _
-      (parameter_grows st s x at)
-      (λ r h. on_bind (Grows integers n false r.0 (declared_after ps)) (Grows integers n false st (suc (declared_after ps)))
-      (read_more_parameters integers line r.0 ps) _ (more_parameters_grow r.0 h.sound ps)
-      (λ q i. same_declared integers line n false st (1 + declared_after ps) (suc (declared_after ps)) _ (omega arith)
-      (grows_then integers line n false st 1 (declared_after ps) r q h i)))
+  more_parameters_grow st s (next_parameter a p ps) = both_grow st s p ps (λ r h. more_parameters_grow r h ps)
 
   parameters_grow : (st : State) → Sound st → (ps : Parameters)
       → OnValue (Grows integers n false st (declared_parameters ps)) (read_parameters integers line st ps)
   parameters_grow st s no_parameters = grows_none integers line n false st s
   parameters_grow st s (void_parameters a) = grows_none integers line n false st s
-  parameters_grow st s (int_parameters a x at ps) =
-      on_bind (Grows integers n false st 1) (Grows integers n false st (suc (declared_after ps))) (read_parameter integers line st x at) _
-      (parameter_grows st s x at)
-      (λ r h. on_bind (Grows integers n false r.0 (declared_after ps)) (Grows integers n false st (suc (declared_after ps)))
-      (read_more_parameters integers line r.0 ps) _ (more_parameters_grow r.0 h.sound ps)
-      (λ q i. same_declared integers line n false st (1 + declared_after ps) (suc (declared_after ps)) _ (omega arith)
-      (grows_then integers line n false st 1 (declared_after ps) r q h i)))
+  parameters_grow st s (some_parameters p ps) = both_grow st s p ps (λ r h. more_parameters_grow r h ps)
 
-function_reads : (integers : Integers) (line : ℕ → ℕ) (f : Function) (d : ℕ) (r : State × Statements) → width_of f ≡ min MOST_VARIABLES d
+function_reads : (integers : Integers) (line : ℕ → ℕ) (f : Function) (d : List (List ℕ)) (r : State × Statements)
+    → width_of f ≡ min MOST_VARIABLES (distinct [] d)
     → Grows integers (width_of f) false start_state d r → OnValue (Reads integers f) (function_of integers line r.0 r.1)
-function_reads integers line f d r w h = by (reverse (variables_of r.0.names)) refl where
-  by : (names : List (List ℕ)) → reverse (variables_of r.0.names) ≡ names
+function_reads integers line f d r w h = by (reverse r.0.variables) refl where
+  by : (names : List (List ℕ)) → reverse r.0.variables ≡ names
       → OnValue (Reads integers f) (elim names as (λ z. Result (List (List ℕ) × Statements) FunctionFault)
       [ [] ↦ Err NoVariables | x ∷ xs ↦ Ok (x ∷ xs, r.1) ])
   by [] e = tt
   by (x ∷ xs) e =
-      let l : length (x ∷ xs) ≡ r.0.variables = ap length (sym e) ∙ length-reverse (variables_of r.0.names) ∙ h.sound.named in
-      let k : width_of f ≡ length (x ∷ xs) = omega (arith, w, l, h.variables, h.sound.few) in
+      let l : length (x ∷ xs) ≡ length r.0.variables = ap length (sym e) ∙ length-reverse r.0.variables in
+      let v : length r.0.variables ≡ distinct [] d = (let a = ap length h.variables in let b = length_added [] d in omega (arith, a, b)) in
+      let k : width_of f ≡ length (x ∷ xs) = omega (arith, w, l, v, h.sound.few) in
       record {
         width = sym k;
         some = omega arith;
         few = omega (arith, l, h.sound.few);
-        apart = subst AreApart e (apart_reversed (variables_of r.0.names) h.sound.apart);
+        apart = subst AreApart e (apart_reversed r.0.variables h.sound.apart);
         short = subst (λ (m : ℕ). nodes integers m r.1 ≤ 4096) k (omega (arith, h.count, h.sound.short));
         good = subst (λ (m : ℕ). Good integers m false r.1) k (h.good (omega (arith, k, l)));
       }
@@ -104,7 +124,7 @@ walk_reads integers line (function ss g a ps b c is d) =
     (parameters_grow integers line n start_state start_sound ps)
     (λ p h. on_bind (Grows integers n false p.0 (declared_items is)) (Reads integers f) (read_items integers line n false p.0 is) _
     (items_grow integers line n false is p.0 h.sound)
-    (λ r i. function_reads integers line f (declared_parameters ps + declared_items is) (r.0, followed_by p.1 r.1) refl
+    (λ r i. function_reads integers line f (declared_parameters ps ++ declared_items is) (r.0, followed_by p.1 r.1) refl
     (grows_then integers line n false start_state (declared_parameters ps) (declared_items is) p r h i)))
 
 -- its core is a program within the limits

@@ -1,6 +1,6 @@
 -- Places of names.
 use Rattle.indexmap.specs.IndexMap.{insert_entry}
-use Rattle.std.specs.Prelude.{is_some, reverse, slice_get}
+use Rattle.std.specs.Prelude.{reverse, slice_get}
 use Rattle.std.specs.Option.{option_map}
 use Rattle.std.proofs.Common.{◌≡◌, ◌∙◌, ◌++◌, ◌<◌, ◌≤◌, ℕ, zero, suc, Bool, true, false, cond, List, [], ◌∷◌, length, map, Option, Some}
 use Rattle.std.proofs.Common.{None}
@@ -19,7 +19,6 @@ use Rattle.std.proofs.lemmas.Slice.Eq.{bytes_eq-Decides}
 use Rattle.source_meaning.specs.Names.{Named, declared, forgotten}
 use Rattle.source_names.specs.declared.entry.Entry.{Entry}
 use Rattle.source_names.specs.Entries.{named_of, names_in, place_of, HavePlaces}
-use Rattle.source_names.proofs.entries.Texts.{reverse_pushed, lookup_pushed, insert_absent, none_there}
 
 -- what stands at a place, if there is one
 abbrev pub at_place : Option ℕ → List Named → Option Named
@@ -73,41 +72,44 @@ found x items i e =
 pub not_found : (x : List ℕ) (ns : List Named) → place_of x ns ≡ None → declared x ns ≡ None
 not_found x ns e = declared_at x ns ∙ ap (λ o. at_place o (reverse ns)) e
 
-no_place : (x : List ℕ) (ns : List Named) → is_some (declared x ns) ≡ false → place_of x ns ≡ None
-no_place x [] h = refl
-no_place x (n ∷ ns) h = on (bytes_eq x n.name) (λ g. no_place x ns g) h where
-  on : (b : Bool) → (is_some (declared x ns) ≡ false → place_of x ns ≡ None) → is_some (cond b (Some n) (declared x ns)) ≡ false
-      → cond b (Some (length ns)) (place_of x ns) ≡ None
-  on true f h = cc
-  on false f h = f h
+abbrev same_text : List ℕ → Vec ℕ Global → Bool
+same_text x k = bytes_eq x k.items
 
--- a name that is new gets the last place
+-- what is looked up once a key has a value
+looked_up_in : (x : List ℕ) (es : List (Vec ℕ Global × ℕ)) (key : Vec ℕ Global) (v : ℕ)
+    → lookup (same_text x) (insert_entry (λ (a b : Vec ℕ Global). bytes_eq a.items b.items) es key v)
+    ≡ cond (bytes_eq x key.items) (Some v) (lookup (same_text x) es)
+looked_up_in x [] key v = refl
+looked_up_in x (e ∷ es) key v = on (bytes_eq key.items e.0.items) (bytes_eq x e.0.items) (bytes_eq x key.items) refl refl refl
+    (looked_up_in x es key v) where
+      insert : List (Vec ℕ Global × ℕ) → List (Vec ℕ Global × ℕ)
+      insert es = insert_entry (λ (a b : Vec ℕ Global). bytes_eq a.items b.items) es key v
+
+      on : (same here wanted : Bool) → bytes_eq key.items e.0.items ≡ same → bytes_eq x e.0.items ≡ here → bytes_eq x key.items ≡ wanted
+          → lookup (same_text x) (insert es) ≡ cond (bytes_eq x key.items) (Some v) (lookup (same_text x) es)
+          → lookup (same_text x) (cond same ((e.0, v) ∷ es) (e ∷ insert es))
+          ≡ cond wanted (Some v) (cond here (Some e.1) (lookup (same_text x) es))
+      on true true true s h w f = ap (λ b. cond b (Some v) (lookup (same_text x) es)) h
+      on true false false s h w f = ap (λ b. cond b (Some v) (lookup (same_text x) es)) h
+      on true true false s h w f = absurd (let k = (bytes_eq-Decides key.items e.0.items).0 s in
+          let l = ap (bytes_eq x) k in cc)
+      on true false true s h w f = absurd (let k = (bytes_eq-Decides key.items e.0.items).0 s in
+          let l = ap (bytes_eq x) k in cc)
+      on false true true s h w f = absurd (let k = (bytes_eq-Decides x e.0.items).0 h in
+          let m = (bytes_eq-Decides x key.items).0 w in
+          let l = (bytes_eq-Decides key.items e.0.items).1 (sym m ∙ k) in cc)
+      on false true false s h w f = ap (λ b. cond b (Some e.1) (lookup (same_text x) (insert es))) h
+      on false false wanted s h w f = ap (λ b. cond b (Some e.1) (lookup (same_text x) (insert es))) h ∙ f
+          ∙ ap (λ b. cond b (Some v) (lookup (same_text x) es)) w
+
+-- a name that is declared gets the last place
 pub have_new : (entries now : List (Vec ℕ Global × ℕ)) (ns : List Named) (key : Vec ℕ Global) (n : Named) (place : ℕ)
-    → HavePlaces entries ns → key.items ≡ n.name → place ≡ length ns → is_some (declared n.name ns) ≡ false
+    → HavePlaces entries ns → key.items ≡ n.name → place ≡ length ns
     → now ≡ insert_entry (λ (x y : Vec ℕ Global). bytes_eq x.items y.items) entries key place
     → HavePlaces now (n ∷ ns)
-have_new entries now ns key n place h e f g i =
-    let none : place_of n.name ns ≡ None = no_place n.name ns g in
-    let k = insert_absent (λ (x y : Vec ℕ Global). bytes_eq x.items y.items) key place entries
-    (h key.items ∙ ap (λ y. place_of y ns) e ∙ none) in
-    λ x. ap (lookup (λ (k : Vec ℕ Global). bytes_eq x k.items)) (i ∙ k)
-    ∙ lookup_pushed (λ (k : Vec ℕ Global). bytes_eq x k.items) entries key place
-    ∙ on x (lookup (λ (k : Vec ℕ Global). bytes_eq x k.items) entries) (bytes_eq x n.name) (h x) refl where
-      key_same : (x : List ℕ) → bytes_eq x key.items ≡ bytes_eq x n.name
-      key_same x = ap (bytes_eq x) e
-
-      none_at : (x : List ℕ) → bytes_eq x n.name ≡ true → place_of x ns ≡ None
-      none_at x t = let same : x ≡ n.name = (bytes_eq-Decides x n.name).0 t in ap (λ y. place_of y ns) same ∙ no_place n.name ns g
-
-      on : (x : List ℕ) (o : Option ℕ) (b : Bool) → o ≡ place_of x ns → bytes_eq x n.name ≡ b
-          → elim o as (λ o. Option ℕ) [ None ↦ cond (bytes_eq x key.items) (Some place) None | Some w ↦ Some w ]
-          ≡ cond (bytes_eq x n.name) (Some (length ns)) (place_of x ns)
-      on x None true p t = ap (λ c. cond c (Some place) None) (key_same x ∙ t) ∙ ap Some f
-          ∙ sym (ap (λ c. cond c (Some (length ns)) (place_of x ns)) t)
-      on x None false p t = ap (λ c. cond c (Some place) None) (key_same x ∙ t) ∙ p
-          ∙ sym (ap (λ c. cond c (Some (length ns)) (place_of x ns)) t)
-      on x (Some i) true p t = let q = none_at x t in cc
-      on x (Some i) false p t = p ∙ sym (ap (λ c. cond c (Some (length ns)) (place_of x ns)) t)
+have_new entries now ns key n place h e f i = λ x. ap (lookup (same_text x)) i ∙ looked_up_in x entries key place
+    ∙ ap (λ y. cond (bytes_eq x y) (Some place) (lookup (same_text x) entries)) e
+    ∙ ap₂ (λ p o. cond (bytes_eq x n.name) (Some p) o) f (h x)
 
 -- places stay where names are known no longer
 pub place_forgotten : (x : List ℕ) (k : ℕ) (ns : List Named) → place_of x (forgotten k ns) ≡ place_of x ns

@@ -24,7 +24,7 @@ use Rattle.source_statement.specs.Starts.{start_in, start_of, is_closing}
 use Rattle.source_statement.specs.Starts as s
 use Rattle.source_statement.proofs.left.Items.{all_left, none_left}
 use Rattle.source_statement.proofs.left.Turns.{turn, turn_fault}
-use Rattle.source_statement.proofs.steps.Begun.{at_block, at_if, at_while, at_do, at_for, is_simple, never_int, no_else_in}
+use Rattle.source_statement.proofs.steps.Begun.{at_block, at_if, at_while, at_do, at_for, is_simple, never_type, no_else_in}
 use Rattle.source_statement.proofs.steps.Labels.{label_fault, label_read, labelled_read, named_read, no_name, colon_not, colon_is, on_ok}
 use Rattle.source_statement.proofs.steps.Moved.{CoreReads, come_to, passed_is, may_end}
 use Rattle.source_statement.proofs.steps.Repeats.{head_rest, for_head_fault, for_body_fault, for_read}
@@ -33,7 +33,8 @@ use Rattle.source_statement.proofs.steps.Loops.{block_fault, block_read}
 use Rattle.source_statement.proofs.steps.Promised.{while_test, while_count, while_body, while_all, if_test, if_count, if_first, if_second}
 use Rattle.source_statement.proofs.steps.Promised.{if_all}
 use Rattle.source_statement.proofs.steps.Said.{says_block, says_if, says_while, says_do, says_for, says_else, says_colon, says_name}
-use Rattle.source_statement.proofs.steps.Said.{says_int}
+use Rattle.source_statement.proofs.steps.Said.{says_type}
+use Rattle.source_statement.proofs.parts.Starting.{type_begins}
 use Rattle.source_statement.proofs.+statement.Goals as goal
 
 -- ---- `while`
@@ -410,12 +411,12 @@ items::item-returns-in_err-first-in-Name-clause-reads t c = λ is b rest gi g q.
     (read_one old.integers (line_at old.text) old.variables c.args.inside c.args.known.now is)
     (sym c.coming.ensures ∙ ap start_of c.in-Name.is) c.in_err-first-in-Name.ensures.reads c.from_residual.ensures.1
 
-pub items::item-returns-in-Int-clause-reads : goal.items::item-returns-in-Int-clause-reads
-items::item-returns-in-Int-clause-reads t c = λ is b rest gi g q. on is b rest g q
-    (sym (ap start_of c.in-Int.is) ∙ c.coming.ensures ∙ ap (λ ts. start_in (first_kind ts)) q) where
+pub items::item-returns-in-Type-clause-reads : goal.items::item-returns-in-Type-clause-reads
+items::item-returns-in-Type-clause-reads t c = λ is b rest gi g q. on is b rest g q
+    (sym (ap start_of c.in-Type.is) ∙ c.coming.ensures ∙ ap (λ ts. start_in (first_kind ts)) q) where
       on : (is : Items) (b : ℕ) (rest : List Token) → GoodOne is
           → c.args.reader.now.ahead ≡ onto_items is (token right_brace b ∷ rest)
-          → s.an_int ≡ start_in (first_kind (onto_items is (token right_brace b ∷ rest)))
+          → s.a_type ≡ start_in (first_kind (onto_items is (token right_brace b ∷ rest)))
           → Answers {A = Unit {0}} (λ _ r. WasRead c.args.reader.now.integers c.args.reader.now.variables (onto_items (others is)
           (token right_brace b ∷ rest))
           c.args.reader.now c.declaration.new.reader c.declaration.new.known c.args.out.now.items c.declaration.new.out.items r)
@@ -425,7 +426,7 @@ items::item-returns-in-Int-clause-reads t c = λ is b rest gi g q. on is b rest 
       on no_items b rest g q h = absurd g
       on (label x a d is) b rest g q h = absurd cc
       on (declaration a xs d is) b rest g q h = c.declaration.ensures.reads a xs d (onto_items is (token right_brace b ∷ rest)) g q
-      on (item d is) b rest g q h = absurd (never_int d (onto_items is (token right_brace b ∷ rest)) (sym h))
+      on (item d is) b rest g q h = absurd (never_type d (onto_items is (token right_brace b ∷ rest)) (sym h))
 
 pub items::item-returns-in-Colon-clause-reads : goal.items::item-returns-in-Colon-clause-reads
 items::item-returns-in-Colon-clause-reads t c = λ is b rest gi g q. on is b rest g q
@@ -440,7 +441,7 @@ items::item-returns-in-Colon-clause-reads t c = λ is b rest gi g q. on is b res
           (read_one c.args.reader.now.integers (line_at c.args.reader.now.text) c.args.reader.now.variables c.args.inside
           c.args.known.now is)
       on no_items b rest g q h = absurd g
-      on (declaration a xs d is) b rest g q h = absurd cc
+      on (declaration k xs d is) b rest g q h = absurd (let j = h ∙ type_begins k _ in cc)
       on (label x a d is) b rest g q h = label_read c.args.reader.now c.take_name.new.reader c.label.new.reader c.args.known.now
           c.label.new.known c.in_ok-first-in-Name.first c.args.out.now.items c.label.new.out.items c.label.result x a d
           (onto_items is (token right_brace b ∷ rest)) q c.in_ok-first-in-Name.ensures.reads c.label.ensures.reads
@@ -465,7 +466,7 @@ items::item-returns-in_default-coming t c = record {
       c.named_statement.result
       (read_one c.args.reader.now.integers (line_at c.args.reader.now.text) c.args.reader.now.variables c.args.inside c.args.known.now is)
   on no_items b rest g q h = absurd g
-  on (declaration a xs d is) b rest g q h = absurd cc
+  on (declaration k xs d is) b rest g q h = absurd (let j = h ∙ type_begins k _ in cc)
   on (label x a d is) b rest g q h = absurd (c.in_default-coming.not-Colon (says_colon c.coming-in-Name.result (c.coming-in-Name.ensures
       ∙ colon_is c.args.reader.now c.take_name.new.reader c.in_ok-first-in-Name.first x a d (onto_items is (token right_brace b ∷ rest)) q
       c.in_ok-first-in-Name.ensures.reads)))
@@ -489,8 +490,9 @@ items::item-returns-in_default t c = record {
   on no_items b rest g q = absurd g
   on (label x a d is) b rest g q =
       absurd (c.in_default.not-Name (says_name c.coming.result (c.coming.ensures ∙ ap (λ ts. start_in (first_kind ts)) q)))
-  on (declaration a xs d is) b rest g q =
-      absurd (c.in_default.not-Int (says_int c.coming.result (c.coming.ensures ∙ ap (λ ts. start_in (first_kind ts)) q)))
+  on (declaration k xs d is) b rest g q =
+      absurd (c.in_default.not-Type (says_type c.coming.result (c.coming.ensures ∙ ap (λ ts. start_in (first_kind ts)) q
+      ∙ type_begins k _)))
   on (item d is) b rest g q =
       let ts : List Token = onto_items is (token right_brace b ∷ rest) in
       c.core.ensures.reads d ts g q (may_end (ending_core d) (first_kind ts) (no_else_in is right_brace b rest refl))

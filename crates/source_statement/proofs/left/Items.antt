@@ -3,7 +3,8 @@ use Rattle.std.proofs.Common.{◌≡◌, ◌∙◌, ℕ, Bool, true, false, List
 use Rattle.lang_tree.specs.View.{statements_of}
 use Rattle.lang_tree.specs.declared.stmt.Stmt.{Stmt}
 use Rattle.source_grammar.specs.Tokens.{Token, token, right_brace}
-use Rattle.source_grammar.specs.Grammar.{Items, no_items, label, declaration, item, GoodItems, updates, update, place, step_before, Core}
+use Rattle.source_grammar.specs.Grammar.{Items, no_items, label, declaration, plain_int, const_int, item, GoodItems, updates, update, place}
+use Rattle.source_grammar.specs.Grammar.{step_before, Core}
 use Rattle.source_tree.specs.Statements.{Statements, nil}
 use Rattle.source_tree.specs.Statements as c
 use Rattle.source_core.specs.Core as core
@@ -38,7 +39,7 @@ module _ (integers : Integers) (line : ℕ → ℕ) (n : ℕ) (inside : Bool) wh
       ≡ (read_one integers line n inside st is >>= λ r. read_items integers line n inside r.0 (others is) >>= λ q. Ok
       (q.0, followed_by r.1 q.1))
   one_then st no_items g = absurd g
-  one_then st (label x at b is) g = sym (bind_assoc (new_label x at st) (λ now. Ok (now, one (c.label x (line at))))
+  one_then st (label x at b is) g = sym (bind_assoc (new_label x at st) (λ now. Ok (now, one (c.label x.text (line at))))
       (λ r. read_items integers line n inside r.0 is >>= λ q. Ok (q.0, followed_by r.1 q.1)))
   one_then st (declaration a xs b is) g = refl
   one_then st (item c is) g = refl
@@ -148,7 +149,10 @@ module _ (integers : Integers) (line : ℕ → ℕ) (n : ℕ) (inside : Bool) wh
     on (label x a d is) e q =
         let i : is_closing (start_in (first_kind now.ahead)) ≡ false = ap (λ (r : Reading). is_closing (start_in
         (first_kind r.ahead))) e in absurd cc
-    on (declaration a xs d is) e q =
+    on (declaration (plain_int a) xs d is) e q =
+        let i : is_closing (start_in (first_kind now.ahead)) ≡ false = ap (λ (r : Reading). is_closing (start_in
+        (first_kind r.ahead))) e in absurd cc
+    on (declaration (const_int a b) xs d is) e q =
         let i : is_closing (start_in (first_kind now.ahead)) ≡ false = ap (λ (r : Reading). is_closing (start_in
         (first_kind r.ahead))) e in absurd cc
     on (item d is) e q =

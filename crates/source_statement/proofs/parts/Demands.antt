@@ -8,7 +8,7 @@ use Rattle.source_tree.specs.Statements.{Statement}
 use Rattle.source_core.specs.Core as core
 use Rattle.source_core.specs.Core.{behind, core_of}
 use Rattle.source_meaning.specs.Statements.{one}
-use Rattle.source_statement.specs.Pushed.{WasPushed}
+use Rattle.source_change.specs.Pushed.{WasPushed}
 use Rattle.source_change.proofs.lists.Deeds.{statements_append, followed_assoc, followed_nil, behind_followed}
 use Rattle.base_integers.specs.declared.integers.Integers.{Integers}
 

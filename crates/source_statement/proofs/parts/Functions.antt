@@ -12,7 +12,7 @@ use Rattle.source_meaning.specs.declared.fault.FunctionFault.TheVariants.{NoVari
 use Rattle.source_meaning.specs.Results.{◌>>=◌}
 use Rattle.source_meaning.specs.Names.{State, start_state}
 use Rattle.source_meaning.specs.Statements.{followed_by, read_items}
-use Rattle.source_meaning.specs.Walk.{function_of, read_parameters, variables_of, walk, width_of}
+use Rattle.source_meaning.specs.Walk.{function_of, read_parameters, walk, width_of}
 use Rattle.source_statement.specs.Onto.{onto_specifiers, onto_parameters, onto_items}
 use Rattle.source_statement.proofs.spelled.Statements.{specifiers_onto, parameters_onto, items_onto}
 use Rattle.base_integers.specs.declared.integers.Integers.{Integers}
@@ -45,8 +45,8 @@ made body [] = Err NoVariables
 made body (x ∷ xs) = Ok (x ∷ xs, body)
 
 made_so : (integers : Integers) (line : ℕ → ℕ) (st : State) (body : Statements)
-    → function_of integers line st body ≡ made body (reverse (variables_of st.names))
-made_so integers line st body = on (reverse (variables_of st.names)) where
+    → function_of integers line st body ≡ made body (reverse st.variables)
+made_so integers line st body = on (reverse st.variables) where
   on : (xs : List (List ℕ)) → (elim xs as (λ xs. Result (List (List ℕ) × Statements) FunctionFault)
       [ [] ↦ Err NoVariables | x ∷ xs ↦ Ok (x ∷ xs, body) ]) ≡ made body xs
   on [] = refl
@@ -54,7 +54,7 @@ made_so integers line st body = on (reverse (variables_of st.names)) where
 
 -- there are variables
 pub some_variables : (integers : Integers) (line : ℕ → ℕ) (st : State) (body : Statements) (xs : List (List ℕ))
-    → xs ≡ reverse (variables_of st.names)
+    → xs ≡ reverse st.variables
     → (xs ≡ [] → ⊥) → function_of integers line st body ≡ Ok (xs, body)
 some_variables integers line st body xs e h = made_so integers line st body ∙ ap (made body) (sym e) ∙ on xs h where
   on : (xs : List (List ℕ)) → (xs ≡ [] → ⊥) → made body xs ≡ Ok (xs, body)
@@ -63,7 +63,7 @@ some_variables integers line st body xs e h = made_so integers line st body ∙ 
 
 -- there are none
 pub no_variables : (integers : Integers) (line : ℕ → ℕ) (st : State) (body : Statements) (xs : List (List ℕ))
-    → xs ≡ reverse (variables_of st.names)
+    → xs ≡ reverse st.variables
     → xs ≡ [] → function_of integers line st body ≡ Err NoVariables
 no_variables integers line st body xs e h = made_so integers line st body ∙ ap (made body) (sym e ∙ h)
 

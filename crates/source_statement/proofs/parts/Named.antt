@@ -1,7 +1,7 @@
 -- A name that was taken, and what it begins.
 use Rattle.std.proofs.Common.{◌≡◌, ◌∙◌, ◌∷◌, ◌<◌, ◌≤◌, ℕ, List, Result, Ok, Err, OnOk, ap, arith}
 use Rattle.std.specs.Result.{IsErrAnd}
-use Rattle.source_grammar.specs.Tokens.{Token, token, a_name}
+use Rattle.source_grammar.specs.Tokens.{Name, Token, token, a_name}
 use Rattle.source_reader.specs.Answers.{Answers}
 use Rattle.source_reader.specs.Reading.{Reading}
 use Rattle.source_reader.specs.declared.stop.Stop.{Stop}
@@ -9,17 +9,17 @@ use Rattle.source_change.specs.Tests.{WasTaken}
 use Rattle.source_change.specs.declared.names.Named.{Named}
 
 -- it is that of the token
-pub taken_is : (rest : List Token) (old new : Reading) (f : Named) (x : List ℕ) (a : ℕ)
-    → Answers (λ (n : Named) (p : List ℕ × ℕ). WasTaken rest old new n p) (Ok f) (Ok (x, a)) → WasTaken rest old new f (x, a)
+pub taken_is : (rest : List Token) (old new : Reading) (f : Named) (x : Name) (a : ℕ)
+    → Answers (λ (n : Named) (p : Name × ℕ). WasTaken rest old new n p) (Ok f) (Ok (x, a)) → WasTaken rest old new f (x, a)
 taken_is rest old new f x a t =
     let both : t.0 ≡ (x, a) = (let h = t.1 in cc) in (
-      t.2.0 ∙ ap (λ (p : List ℕ × ℕ). p.0) both,
-      t.2.1 ∙ ap (λ (p : List ℕ × ℕ). p.1) both,
+      t.2.0 ∙ ap (λ (p : Name × ℕ). p.0) both,
+      t.2.1 ∙ ap (λ (p : Name × ℕ). p.1) both,
       t.2.2,
     )
 
 -- two spellings that begin with a name begin with the same one
-pub same_first : (x y : List ℕ) (a b : ℕ) (ts us : List Token) → token (a_name x) a ∷ ts ≡ token (a_name y) b ∷ us
+pub same_first : (x y : Name) (a b : ℕ) (ts us : List Token) → token (a_name x) a ∷ ts ≡ token (a_name y) b ∷ us
     → (x ≡ y) × (a ≡ b) × (ts ≡ us)
 same_first x y a b ts us e = (cc, cc, cc)
 

@@ -19,7 +19,7 @@ use Rattle.source_reader.specs.Answers.{Answers}
 use Rattle.source_reader.specs.declared.stop.Stop.{Stop}
 use Rattle.source_change.proofs.results.Answered.{weaker}
 use Rattle.source_change.proofs.limited.Limits.{both_true}
-use Rattle.source_statement.proofs.parts.Pushed.{then_pushed}
+use Rattle.source_change.proofs.lists.Pushed.{then_pushed}
 use Rattle.base_integers.specs.declared.integers.Integers.{Integers}
 
 -- the second is read from where the first ends

@@ -4,9 +4,11 @@ use Rattle.source_grammar.specs.Tokens as g
 use Rattle.source_grammar.specs.Tokens.{Kind, Token, token, semicolon}
 use Rattle.source_grammar.specs.Grammar.{Expr, prefixed, joined, chosen, spell_expr, Updates, no_updates}
 use Rattle.source_grammar.specs.Grammar.{some_updates, update, place, step_before}
+use Rattle.source_grammar.specs.Grammar.{IntType, plain_int, const_int, Parameter, number_parameter, pointer_parameter, array_parameter}
+use Rattle.source_statement.specs.Onto.{onto_type, onto_parameter, onto_bounds}
 use Rattle.source_reader.specs.Reading.{first_kind}
 use Rattle.source_change.specs.Onto.{onto_updates}
-use Rattle.source_statement.specs.Starts.{start_in, start_of, a_semicolon, an_int, a_paren, a_comma, a_storage, a_void}
+use Rattle.source_statement.specs.Starts.{start_in, start_of, a_semicolon, a_type, a_paren, a_comma, a_storage, a_void}
 use Rattle.source_statement.specs.declared.starts.Start.{Start}
 use Rattle.source_statement.specs.declared.starts.Start.TheVariants as start
 
@@ -26,16 +28,27 @@ no_expr (chosen d a e b f) w h = no_expr d (token g.question a ∷ ((spell_expr 
     ∷ spell_expr f)) w)) ∙ h)
 no_expr _ w h = cc
 
--- no changes begin with `int`
-pub no_int : (us : Updates) (c : ℕ) (w : List Token) → start_in (first_kind (onto_updates us (token semicolon c ∷ w))) ≡ an_int → ⊥
-no_int no_updates c w h = cc
-no_int (some_updates (update (place x a i) f) us) c w h = cc
-no_int (some_updates (step_before d a p) us) c w h = cc
+-- no changes begin with a type
+pub no_type : (us : Updates) (c : ℕ) (w : List Token) → start_in (first_kind (onto_updates us (token semicolon c ∷ w))) ≡ a_type → ⊥
+no_type no_updates c w h = cc
+no_type (some_updates (update (place x a i) f) us) c w h = cc
+no_type (some_updates (step_before d a p) us) c w h = cc
+
+-- what stands before the names of a declaration does
+pub type_begins : (t : IntType) (w : List Token) → start_in (first_kind (onto_type t w)) ≡ a_type
+type_begins (plain_int a) w = refl
+type_begins (const_int a b) w = refl
+
+-- so does a parameter
+pub parameter_begins : (p : Parameter) (w : List Token) → start_in (first_kind (onto_parameter p w)) ≡ a_type
+parameter_begins (number_parameter t x a) w = type_begins t (token (g.a_name x) a ∷ w)
+parameter_begins (pointer_parameter t a x b) w = type_begins t (token (g.infix_sign g.times_op) a ∷ token (g.a_name x) b ∷ w)
+parameter_begins (array_parameter t x a bs) w = type_begins t (token (g.a_name x) a ∷ onto_bounds bs w)
 
 -- what the code says is that
-pub says_int : (s : Start) → start_of s ≡ an_int → s ≡ start.Int
-says_int start.Int h = refl
-says_int _ h = absurd cc
+pub says_type : (s : Start) → start_of s ≡ a_type → s ≡ start.Type
+says_type start.Type h = refl
+says_type _ h = absurd cc
 
 -- a `;`
 pub says_semicolon : (s : Start) → start_of s ≡ a_semicolon → s ≡ start.Semicolon

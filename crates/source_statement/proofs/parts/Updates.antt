@@ -19,7 +19,7 @@ use Rattle.source_reader.specs.declared.stop.Stop.{Stop}
 use Rattle.source_change.specs.Tests.{WasChanged, WasRead}
 use Rattle.source_change.proofs.results.Answered.{ok_then}
 use Rattle.source_statement.specs.Headed.{no_fault}
-use Rattle.source_statement.proofs.parts.Pushed.{change_pushed}
+use Rattle.source_change.proofs.lists.Pushed.{change_pushed}
 use Rattle.source_statement.proofs.parts.Pushes.{pushed_answer}
 use Rattle.base_integers.specs.declared.integers.Integers.{Integers}
 

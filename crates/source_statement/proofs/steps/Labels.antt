@@ -5,7 +5,7 @@ use Rattle.std.specs.Result.{IsErrAnd}
 use Rattle.lang_tokens.specs.Lines.{line_at}
 use Rattle.lang_tree.specs.View.{statements_of}
 use Rattle.lang_tree.specs.declared.stmt.Stmt.{Stmt}
-use Rattle.source_grammar.specs.Tokens.{Token, token, a_name, colon}
+use Rattle.source_grammar.specs.Tokens.{Name, Token, token, a_name, colon, infix_sign, times_op}
 use Rattle.source_grammar.specs.Grammar.{Core, GoodCore, Sub, GoodSub, ending_sub, labelled}
 use Rattle.source_grammar.proofs.grammar.Follow.{AfterCore}
 use Rattle.source_tree.specs.Statements.{Statements, label}
@@ -18,7 +18,7 @@ use Rattle.source_meaning.specs.Statements.{followed_by, read_sub, read_core, ne
 use Rattle.source_reader.specs.Answers.{Answers}
 use Rattle.source_reader.specs.Reading.{Reading, at_tokens, first_kind}
 use Rattle.source_reader.specs.declared.stop.Stop.{Stop}
-use Rattle.source_change.specs.Tests.{WasRead, WasTaken}
+use Rattle.source_change.specs.Tests.{WasRead, WasTaken, name_of}
 use Rattle.source_change.specs.declared.names.Named.{Named}
 use Rattle.source_change.proofs.lists.Deeds.{followed_assoc}
 use Rattle.source_change.proofs.lists.Statements.{core_followed}
@@ -43,17 +43,18 @@ answered {A} {B} Is x y a =
 
 -- tokens that begin with a name
 pub named_tokens : (ts : List Token) → start_in (first_kind ts) ≡ s.a_name
-    → (x : List ℕ) × (a : ℕ) × (us : List Token) × (ts ≡ token (a_name x) a ∷ us)
+    → (x : Name) × (a : ℕ) × (us : List Token) × (ts ≡ token (a_name x) a ∷ us)
 named_tokens (token (a_name x) a ∷ us) h = (x, a, us, refl)
-named_tokens _ h = cc
+named_tokens (token (infix_sign times_op) a ∷ us) h = absurd cc
+named_tokens _ h = absurd cc
 
 -- a name is taken here
 abbrev pub TakesName : (old new : Reading) → Result Named Stop → Type 0
-TakesName old new r = (x : List ℕ) (a : ℕ) (rest : List Token) → old.ahead ≡ token (a_name x) a ∷ rest
+TakesName old new r = (x : Name) (a : ℕ) (rest : List Token) → old.ahead ≡ token (a_name x) a ∷ rest
     → Answers (λ n p. WasTaken rest old new n p) r (Ok (x, a))
 
 -- there is one
-pub name_is : (old new : Reading) (first : Named) (x : List ℕ) (a : ℕ) (rest : List Token) → old.ahead ≡ token (a_name x) a ∷ rest
+pub name_is : (old new : Reading) (first : Named) (x : Name) (a : ℕ) (rest : List Token) → old.ahead ≡ token (a_name x) a ∷ rest
     → TakesName old new (Ok first) → WasTaken rest old new first (x, a)
 name_is old new first x a rest e h = answered (λ n p. WasTaken rest old new n p) first (x, a) (h x a rest e)
 
@@ -68,11 +69,11 @@ no_name Was old new r d w b h e =
 abbrev pub LabelReads : (here new : Reading) (k met : State) → Named → (before after : List Stmt) → Result (Unit {0}) Stop → Type 0
 LabelReads here new k met first o p r = (b : ℕ) (rest : List Token) → here.ahead ≡ token colon b ∷ rest
     → Answers (λ _ q. WasRead here.integers here.variables rest here new met o p q) r
-    (read_label here.integers (line_at here.text) here.variables k first.name first.at)
+    (read_label here.integers (line_at here.text) here.variables k (name_of first) first.at)
 
 -- it is read with its name
 pub label_read : (old here new : Reading) (k met : State) (first : Named) (o p : List Stmt) (r : Result (Unit {0}) Stop)
-    (x : List ℕ) (a b : ℕ) (rest : List Token) → old.ahead ≡ token (a_name x) a ∷ token colon b ∷ rest
+    (x : Name) (a b : ℕ) (rest : List Token) → old.ahead ≡ token (a_name x) a ∷ token colon b ∷ rest
     → TakesName old here (Ok first) → LabelReads here new k met first o p r
     → Answers (λ _ q. WasRead old.integers old.variables rest old new met o p q) r (read_label old.integers
     (line_at old.text) old.variables k x a)
@@ -80,7 +81,7 @@ label_read old here new k met first o p r x a b rest e t h =
     let ts : List Token = token colon b ∷ rest in
     let n = name_is old here first x a ts e t in
     let P : Reading → Type 0 = λ m. LabelReads m new k met first o p r in
-    let X : List ℕ → Type 0 = λ y. Answers (λ _ q. WasRead old.integers old.variables rest (at_tokens old ts) new met o p q) r
+    let X : Name → Type 0 = λ y. Answers (λ _ q. WasRead old.integers old.variables rest (at_tokens old ts) new met o p q) r
     (read_label old.integers (line_at old.text) old.variables k y first.at) in
     let Y : ℕ → Type 0 = λ m. Answers (λ _ q. WasRead old.integers old.variables rest (at_tokens old ts) new met o p q) r
     (read_label old.integers (line_at old.text) old.variables k x m) in
@@ -91,15 +92,15 @@ label_read old here new k met first o p r x a b rest e t h =
     (subst Y n.1 (subst X n.0 (subst P n.2 h b rest refl)))
 
 -- a statement with a label is the label and then the statement
-pub labelled_parts : (integers : Integers) (line : ℕ → ℕ) (n : ℕ) (inside : Bool) (k : State) (x : List ℕ) (a b : ℕ) (s : Sub)
+pub labelled_parts : (integers : Integers) (line : ℕ → ℕ) (n : ℕ) (inside : Bool) (k : State) (x : Name) (a b : ℕ) (s : Sub)
     → (read_label integers line n k x a >>= λ r. read_sub integers line n inside r.0 s >>= λ q. Ok (q.0, followed_by r.1 q.1))
     ≡ read_sub integers line n inside k (labelled x a b s)
-labelled_parts integers line n inside k x a b s = bind_assoc (new_label x a k) (λ now. Ok (now, one (label x (line a))))
+labelled_parts integers line n inside k x a b s = bind_assoc (new_label x a k) (λ now. Ok (now, one (label x.text (line a))))
     (λ r. read_sub integers line n inside r.0 s >>= λ q. Ok (q.0, followed_by r.1 q.1))
 
 -- the fault of a label
 pub label_fault : {C : Type 0} (Was : C → State × Statements → Type 0) (old here new : Reading) (k met : State) (inside : Bool)
-    (first : Named) (o p : List Stmt) (r : Result C Stop) (d : Stop) (x : List ℕ) (a b : ℕ) (s : Sub) (rest : List Token)
+    (first : Named) (o p : List Stmt) (r : Result C Stop) (d : Stop) (x : Name) (a b : ℕ) (s : Sub) (rest : List Token)
     → old.ahead ≡ token (a_name x) a ∷ token colon b ∷ rest
     → TakesName old here (Ok first) → LabelReads here new k met first o p (Err d) → IsErrAnd r (λ t. t ≡ d)
     → Answers Was r (read_sub old.integers (line_at old.text) old.variables inside k (labelled x a b s))
@@ -115,7 +116,7 @@ label_fault Was old here new k met inside first o p r d x a b s rest e t h g =
 
 -- a label and a statement
 pub labelled_read : (old here mid new : Reading) (k met last : State) (inside : Bool)
-    (first : Named) (o p v : List Stmt) (r : Result (Unit {0}) Stop) (x : List ℕ) (a b : ℕ) (s : Sub) (rest : List Token)
+    (first : Named) (o p v : List Stmt) (r : Result (Unit {0}) Stop) (x : Name) (a b : ℕ) (s : Sub) (rest : List Token)
     → GoodSub s → AfterCore (ending_sub s) (first_kind rest) → old.ahead ≡ token (a_name x) a ∷ token colon b ∷ onto_sub s rest
     → TakesName old here (Ok first) → LabelReads here mid k met first o p (Ok tt) → SubReads mid new met last inside p v r
     → Answers (λ _ q. WasRead old.integers old.variables rest old new last o v q) r
@@ -153,7 +154,7 @@ colon_not old here first c rest b t e h =
     no_colon c rest v.2 v.0 v.1 (sym v.3 ∙ e) (sym (ap (λ (r : Reading). start_in (first_kind r.ahead)) n.2) ∙ h)
 
 -- behind one with a label there is
-pub colon_is : (old here : Reading) (first : Named) (x : List ℕ) (a b : ℕ) (rest : List Token)
+pub colon_is : (old here : Reading) (first : Named) (x : Name) (a b : ℕ) (rest : List Token)
     → old.ahead ≡ token (a_name x) a ∷ token colon b ∷ rest → TakesName old here (Ok first) → start_in (first_kind here.ahead) ≡ s.a_colon
 colon_is old here first x a b rest e t =
     ap (λ (r : Reading). start_in (first_kind r.ahead)) (name_is old here first x a (token colon b ∷ rest) e t).2
@@ -166,7 +167,7 @@ on_ok (Err e) f p = p
 -- a statement is read here, behind its name
 abbrev pub NamedReads : (here new : Reading) (k met : State) → Named → (before after : List Stmt) → Result (Unit {0}) Stop → Type 0
 NamedReads here new k met first o p r = (inside : Bool) (c : Core) (rest : List Token) → GoodCore c
-    → token (a_name first.name) first.at ∷ here.ahead ≡ onto_core c rest
+    → token (a_name (name_of first)) first.at ∷ here.ahead ≡ onto_core c rest
     → Answers (λ _ q. WasRead here.integers here.variables rest here new met o p q) r (read_core here.integers
     (line_at here.text) here.variables inside k c)
 
@@ -180,7 +181,7 @@ named_read old here new k met inside first o p r c rest g b e t h =
     let v = named_tokens old.ahead b in
     let n = name_is old here first v.0 v.1 v.2 v.3 t in
     let P : Reading → Type 0 = λ m. NamedReads m new k met first o p r in
-    let q : token (a_name first.name) first.at ∷ v.2 ≡ onto_core c rest =
+    let q : token (a_name (name_of first)) first.at ∷ v.2 ≡ onto_core c rest =
     ap (λ x. token (a_name x) first.at ∷ v.2) n.0 ∙ ap (λ a. token (a_name v.0) a ∷ v.2) n.1 ∙ sym v.3 ∙ e in
     weaker (λ _ q. WasRead old.integers old.variables rest (at_tokens old v.2) new met o p q)
     (λ _ q. WasRead old.integers old.variables rest old new met o p q) r

@@ -23,7 +23,7 @@ use Rattle.source_reader.specs.Answers.{Answers}
 use Rattle.source_reader.specs.Reading.{Reading, at_tokens, first_kind, passed}
 use Rattle.source_reader.specs.declared.stop.Stop.{Stop}
 use Rattle.source_change.specs.Tests.{IsTest, WasRead}
-use Rattle.source_statement.specs.Pushed.{WasPushed}
+use Rattle.source_change.specs.Pushed.{WasPushed}
 use Rattle.source_change.specs.declared.conditions.Test.{Test}
 use Rattle.source_change.proofs.results.Answered.{err_then, ok_then}
 use Rattle.source_statement.specs.Headed.{WasBlock}

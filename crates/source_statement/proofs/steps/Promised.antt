@@ -24,7 +24,7 @@ use Rattle.source_reader.specs.Reading.{Reading, at_tokens, first_kind, first_pl
 use Rattle.source_reader.specs.declared.stop.Stop.{Stop}
 use Rattle.source_reader.specs.declared.stop.Stop.TheVariants.{Fault}
 use Rattle.source_change.specs.Tests.{IsTest, WasRead}
-use Rattle.source_statement.specs.Pushed.{WasPushed}
+use Rattle.source_change.specs.Pushed.{WasPushed}
 use Rattle.source_change.specs.declared.conditions.Test.{Test}
 use Rattle.source_statement.specs.Onto.{onto_core, onto_sub}
 use Rattle.source_statement.specs.Parts.{Other, onto_other, GoodOther, AfterOther, read_branch}

@@ -1,8 +1,8 @@
 -- What the code says that comes next is that.
 use Rattle.std.proofs.Common.{◌≡◌, refl}
-use Rattle.source_grammar.specs.Tokens.{Kind, else_word}
+use Rattle.source_grammar.specs.Tokens.{Kind, else_word, infix_sign, times_op}
 use Rattle.source_grammar.proofs.grammar.Follow.{NotElse}
-use Rattle.source_statement.specs.Starts.{start_in, start_of, a_block, an_if, a_while, a_do, a_for, an_else, a_colon, a_name, an_int}
+use Rattle.source_statement.specs.Starts.{start_in, start_of, a_block, an_if, a_while, a_do, a_for, an_else, a_colon, a_name, a_type}
 use Rattle.source_statement.specs.declared.starts.Start.{Start}
 use Rattle.source_statement.specs.declared.starts.Start.TheVariants as start
 
@@ -46,12 +46,13 @@ pub says_name : (s : Start) → start_of s ≡ a_name → s ≡ start.Name
 says_name start.Name h = refl
 says_name _ h = absurd cc
 
--- an int
-pub says_int : (s : Start) → start_of s ≡ an_int → s ≡ start.Int
-says_int start.Int h = refl
-says_int _ h = absurd cc
+-- a type
+pub says_type : (s : Start) → start_of s ≡ a_type → s ≡ start.Type
+says_type start.Type h = refl
+says_type _ h = absurd cc
 
 -- where an `else` comes next it is one
 pub else_comes : (k : Kind) → NotElse k → (start_in k ≡ an_else → ⊥)
 else_comes else_word h e = cc
+else_comes (infix_sign times_op) h e = absurd cc
 else_comes _ h e = absurd cc

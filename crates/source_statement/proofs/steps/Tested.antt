@@ -20,7 +20,7 @@ use Rattle.source_reader.specs.Answers.{Answers}
 use Rattle.source_reader.specs.declared.stop.Stop.{Stop}
 use Rattle.source_reader.specs.declared.stop.Stop.TheVariants.{Fault}
 use Rattle.source_change.specs.Tests.{IsTest}
-use Rattle.source_statement.specs.Pushed.{WasPushed}
+use Rattle.source_change.specs.Pushed.{WasPushed}
 use Rattle.source_change.specs.declared.conditions.Test.{Test}
 use Rattle.source_change.proofs.lists.Deeds.{length_deeds, statements_append}
 use Rattle.source_change.proofs.results.Answered.{err_given, given_then, ok_then}

@@ -1,5 +1,7 @@
 -- The tokens of a text stand in it.
-use Rattle.std.proofs.Common.{◌≡◌, ◌∙◌, ◌++◌, ◌-◌, ◌+◌, ℕ, zero, suc, List, [], ◌∷◌, length, take, drop, Some, refl, sym, subst}
+use Rattle.std.proofs.Common.{◌≡◌, ◌∙◌, ◌++◌, ◌-◌, ◌+◌, ◌<◌, ℕ, zero, suc, List, [], ◌∷◌, length, take, drop, get_or, Some, refl, sym}
+use Rattle.std.proofs.Common.{subst}
+use Rattle.std.proofs.Common.{arith}
 use Rattle.std.specs.Prelude.{slice_range}
 use Rattle.std.specs.List.{slice_get}
 use Rattle.lang_tokens.specs.declared.token.Token.{Token}
@@ -36,12 +38,14 @@ token_in text [] index t h e = cc
 token_in text (u ∷ ts) zero t h e = let same : u ≡ t = cc in subst (IsTokenIn text) same h.0
 token_in text (u ∷ ts) (suc index) t h e = token_in text ts index t h.1 e
 
-dropped : (text : List ℕ) (ts : List Token) (n : ℕ) → AreTokensIn text ts → AreTokensIn text (drop n ts)
+-- those behind some do
+pub dropped : (text : List ℕ) (ts : List Token) (n : ℕ) → AreTokensIn text ts → AreTokensIn text (drop n ts)
 dropped text ts zero h = h
 dropped text [] (suc n) h = h
 dropped text (t ∷ ts) (suc n) h = dropped text ts n h.1
 
-taken : (text : List ℕ) (ts : List Token) (n : ℕ) → AreTokensIn text ts → AreTokensIn text (take n ts)
+-- and the first of them do
+pub taken : (text : List ℕ) (ts : List Token) (n : ℕ) → AreTokensIn text ts → AreTokensIn text (take n ts)
 taken text ts zero h = tt
 taken text [] (suc n) h = tt
 taken text (t ∷ ts) (suc n) h = (h.0, taken text ts n h.1)
@@ -49,3 +53,10 @@ taken text (t ∷ ts) (suc n) h = (h.0, taken text ts n h.1)
 -- and some of them do
 pub range_in : (text : List ℕ) (ts : List Token) (from to : ℕ) → AreTokensIn text ts → AreTokensIn text (slice_range ts from to)
 range_in text ts from to h = taken text (drop from ts) (to - from) (dropped text ts from h)
+
+-- each of them by its number does
+pub each_in : (text : List ℕ) (ts : List Token) (index : ℕ) (d : Token) → AreTokensIn text ts → index < length ts
+    → IsTokenIn text (get_or ts index d)
+each_in text [] index d h l = absurd (omega arith)
+each_in text (u ∷ ts) zero d h l = h.0
+each_in text (u ∷ ts) (suc index) d h l = each_in text ts index d h.1 (omega arith)

@@ -8,7 +8,9 @@ use Rattle.lang_tokens.specs.declared.word.Word.{Word}
 use Rattle.lang_tokens.specs.declared.word.Word.TheVariants.{Main}
 use Rattle.lang_tokens.specs.declared.token.Kind.{Kind}
 use Rattle.lang_tokens.specs.declared.token.Kind.TheVariants as kind
+use Rattle.lang_tokens.specs.declared.token.Aside.TheVariants as aside
 use Rattle.lang_tokens.specs.Lexemes.{IsName, IsToken}
+use Rattle.lang_tokens.specs.Words.{word_bytes}
 use Rattle.lang_tokens.specs.Lexemes as lexemes
 use Rattle.lang_tree.specs.Word.{is_word, begins_word, is_letter, is_word_byte}
 use Rattle.source_tokens.specs.Texts.{IsNaming}
@@ -26,14 +28,25 @@ same_word (b ∷ bs) = first_twice (is_letter b) (is_ascii_digit b) (list_all is
 pub name_word : (bytes : List ℕ) → IsName bytes → IsTrue (is_word bytes)
 name_word bytes n = ap₂ (λ p q. p && q) (le-leb (length bytes) 32 n.short) (sym (same_word bytes) ∙ n.word)
 
-main_word : (word : Word) (bytes : List ℕ) → IsNaming (kind.Word word) → IsToken (kind.Word word) bytes → IsTrue (is_word bytes)
-main_word Main bytes n t = subst (λ bs. IsTrue (is_word bs)) t refl
-main_word word bytes n t = absurd n
+-- and so are those of a reserved word
+reserved_word : (word : Word) → IsTrue (is_word (word_bytes word))
+reserved_word Main = refl
+reserved_word word = refl
 
--- and so are those of `main`
+reserved_is : (word : Word) (bytes : List ℕ) → word_bytes word ≡ bytes → IsTrue (is_word bytes)
+reserved_is word bytes t = subst (λ bs. IsTrue (is_word bs)) t (reserved_word word)
+
+-- and so those of each token that is a name or reserved
 pub naming_word : (k : Kind) (bytes : List ℕ) → IsNaming k → IsToken k bytes → IsTrue (is_word bytes)
 naming_word kind.Name bytes n t = name_word bytes t
-naming_word (kind.Word word) bytes n t = main_word word bytes n t
+naming_word (kind.Word word) bytes n t = reserved_is word bytes t
+naming_word (kind.Aside aside.Name) bytes n t = name_word bytes t
+naming_word (kind.Aside (aside.Word word)) bytes n t = reserved_is word bytes t
+naming_word (kind.Aside aside.Hash) bytes n t = absurd n
+naming_word (kind.Aside (aside.Number v)) bytes n t = absurd n
+naming_word (kind.Aside (aside.Sign sign)) bytes n t = absurd n
+naming_word (kind.Aside aside.Foreign) bytes n t = absurd n
 naming_word (kind.Number m) bytes n t = absurd n
 naming_word (kind.Sign sign) bytes n t = absurd n
+naming_word (kind.Foreign sort) bytes n t = absurd n
 naming_word kind.End bytes n t = absurd n

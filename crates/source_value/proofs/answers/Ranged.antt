@@ -16,7 +16,7 @@ use Rattle.base_integers.specs.declared.integers.Integers.{Integers}
 use Rattle.base_integers.specs.declared.integers.Integers.TheVariants.{Mathematical, Machine}
 use Rattle.base_integers.specs.Integers.{greatest}
 use Rattle.source_core.specs.Forms.{constant_form, variable_form, minus}
-use Rattle.source_core.specs.Elaborated.{Elaborated, form_behind, related, is_held, form_in, checked, number_at, ranged}
+use Rattle.source_core.specs.Elaborated.{Elaborated, form_behind, related, has, is_held, form_in, checked, number_at, ranged}
 use Rattle.source_core.specs.Fits.{is_comparable, condition_fits, deeds_fit, result_fits, fits}
 use Rattle.source_value.specs.declared.value.Value.{Value}
 use Rattle.source_value.specs.Stands.{Stands}
@@ -122,12 +122,12 @@ module _ (integers : Integers) (line place : ℕ) (holds : Width → Form → Co
       ap fits (sym (is_ranged width q)) ∙ and_left (deeds_fit (e.prelude ++ check ∷ [])) (result_fits e.result)
       (last_unfit e.prelude check p)
 
--- a number of the text that is above all of the integers
-pub number_above : (integers : Integers) (line v at h : ℕ) (width : Width) → integers ≡ Machine width → nat_le v (greatest width) ≡ false
-    → with_check integers line at is_held (form_behind [] h (constant_form (pos v))) width ≡ number_at integers line v at h
-number_above integers line v at h width q e =
-    when_false (λ x. with_check integers line at is_held (form_behind [] h (constant_form (pos v))) width ≡ x)
-    (nat_le v (greatest width)) _ _ e refl ∙ ap (λ i. number_at i line v at h) (sym q)
+-- a number that is none of the integers
+pub number_outside : (integers : Integers) (line : ℕ) (v : ℤ) (at h : ℕ) (width : Width) → integers ≡ Machine width → has width v ≡ false
+    → with_check integers line at is_held (form_behind [] h (constant_form v)) width ≡ number_at integers line v at h
+number_outside integers line v at h width q e =
+    when_false (λ x. with_check integers line at is_held (form_behind [] h (constant_form v)) width ≡ x)
+    (has width v) _ _ e refl ∙ ap (λ i. number_at i line v at h) (sym q)
 
 -- a value that is out of range is so with a check behind it
 pub value_unfit : (integers : Integers) (line place : ℕ) (holds : Width → Form → Condition) (e : Elaborated) → fits e ≡ false

@@ -25,7 +25,7 @@ const NAMED: &[(&str, &[u8], Ending)] = &[
     ),
     (
         "functions p",
-        b"int f() { int x = 'a'; }",
+        b"int f() { int x = @; }",
         Ending::Refused(4, b"program refused: bad byte at line 1\n"),
     ),
     ("solve p", FILE, WHICH),

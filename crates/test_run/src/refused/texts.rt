@@ -31,7 +31,12 @@ fn message_of(byte: u8) -> &'static [u8] {
         | b'%'
         | b'?'
         | b'['
-        | b']' => { b"program refused: unexpected token at line 1\n" }
+        | b']'
+        | b'.'
+        | b'&'
+        | b'|'
+        | b'^'
+        | b'~' => { b"program refused: unexpected token at line 1\n" }
         _ => b"program refused: bad byte at line 1\n",
     }
 }
@@ -86,10 +91,38 @@ const WHICH: &[u8] = b"program refused: which function\n";
 const TOKEN: &[u8] = b"program refused: unexpected token at line 1\n";
 
 const TOKENS: &[(&[u8], &[u8], &[u8], &[u8])] = &[
-    (b"", b"a", b"", b"program refused: long name at line 1\n"),
-    (b"", b"_", b"", b"program refused: long name at line 1\n"),
-    (b"", b"0", b"", b"program refused: bad number at line 1\n"),
-    (b"", b"9", b"", b"program refused: long number at line 1\n"),
+    (b"", b"a", b"", TOKEN),
+    (b"", b"9", b"", TOKEN),
+    (
+        b"int main() { ",
+        b"a",
+        b"}",
+        b"program refused: long name at line 1\n",
+    ),
+    (
+        b"int main() { ",
+        b"_",
+        b"}",
+        b"program refused: long name at line 1\n",
+    ),
+    (
+        b"int main() { ",
+        b"0",
+        b"}",
+        b"program refused: bad number at line 1\n",
+    ),
+    (
+        b"int main() { ",
+        b"9",
+        b"}",
+        b"program refused: long number at line 1\n",
+    ),
+    (
+        b"int main() { \"",
+        b"x",
+        b"\"}",
+        b"program refused: bad byte at line 1\n",
+    ),
     (b"", b"+", b"", TOKEN),
     (b"", b"-", b"", TOKEN),
     (b"", b"=", b"", TOKEN),

@@ -8,7 +8,7 @@ use flow_edges::{Flow, flow};
 use flow_systems::System;
 use flow_templates::{Template, intervals, zones};
 use lang_parser::parse;
-use lang_tokens::lex;
+use lang_tokens::{Lexicon, lex};
 use std::alloc::{AllocError, Global};
 
 // The points and edges of a text.
@@ -16,7 +16,7 @@ fn flow_of(alloc: Global, text: &[u8]) -> Result<Flow, Fail> {
     if text.len() > 65536 {
         return Err("a short text".into());
     }
-    let tokens = lex(alloc, text).map_err(|_| "tokens")?;
+    let tokens = lex(alloc, text, Lexicon::Own).map_err(|_| "tokens")?;
     let program = parse(alloc, &tokens, text).map_err(|_| "a program")?;
     flow(alloc, &program).map_err(|_| "points and edges".into())
 }

@@ -8,7 +8,7 @@ use flow_edges::{Flow, flow};
 use flow_systems::System;
 use flow_templates::{Template, intervals, zones};
 use lang_parser::parse;
-use lang_tokens::lex;
+use lang_tokens::{Lexicon, lex};
 use std::alloc::{AllocError, Global};
 
 /// The rows that a system is made over.
@@ -55,7 +55,7 @@ fn flow_of(alloc: Global, text: &[u8]) -> Result<Flow, Fail> {
     if text.len() > 65536 {
         return Err("a short text".into());
     }
-    let tokens = match lex(alloc, text) {
+    let tokens = match lex(alloc, text, Lexicon::Own) {
         Ok(tokens) => tokens,
         Err(_) => return Err("tokens".into()),
     };

@@ -69,6 +69,7 @@ fn function_place(fault: FunctionFault) -> Option<u32>
         | FunctionFault::WrongKind { at }
         | FunctionFault::Array { at }
         | FunctionFault::BigNumber { at }
+        | FunctionFault::SideEffect { at }
         | FunctionFault::Limit { at, .. }
         | FunctionFault::OutsideLoop { at } => Some(at),
         FunctionFault::NoVariables | FunctionFault::NoMemory => None,
@@ -81,7 +82,9 @@ fn source_place(fault: SourceFault) -> Option<u32>
     match fault {
         SourceFault::Unexpected { at }
         | SourceFault::Nesting { at }
-        | SourceFault::NameTwice { at } => Some(at),
+        | SourceFault::NameTwice { at }
+        | SourceFault::Foreign { at, .. }
+        | SourceFault::Macro { at } => Some(at),
         SourceFault::Function(fault) => function_place(fault),
         SourceFault::WhichFunction | SourceFault::NoMemory => None,
     }

@@ -2,6 +2,7 @@
 use Rattle.std.proofs.Common.{◌≡◌, ◌∙◌, ⊎_elim, ℕ, ◌≤◌, ◌<◌, List, length, sym, ap, subst, arith}
 use Rattle.std.specs.Prelude.{ℤ, Ok, Err, None, Option, Some, Result}
 use Rattle.base_limits.specs.declared.limits.TheConstants.{MOST_CELLS}
+use Rattle.lang_tokens.specs.declared.lexicon.Lexicon.TheVariants.{Own}
 use Rattle.lang_tokens.proofs.reading.Once.{one_token_list}
 use Rattle.lang_grammar.specs.View.{tokens_of}
 use Rattle.lang_meaning.specs.Meaning.{Answer, Means}
@@ -62,7 +63,7 @@ same_meant p q e = cc
 -- a text reads as one program of the language
 reads_once : (text : List ℕ) (p q : List (List ℕ) × Statements) → ReadsAs text (Ok p) → ReadsAs text (Ok q) → p ≡ q
 reads_once text p q (ts, r, m) (us, s, n) = same_meant p q (means_once text (tokens_of text ts) (Ok p) (Ok q) m
-    (subst (λ ws. Means text (tokens_of text ws) (Ok q)) (one_token_list text us ts s r) n))
+    (subst (λ ws. Means text (tokens_of text ws) (Ok q)) (one_token_list Own text us ts s r) n))
 
 faulty_flow : (f : FlowFault) (o : Option FlowFault) → o ≡ Some f → o ≡ None → ⊥
 faulty_flow f o e n = cc

@@ -2,6 +2,7 @@
 use Rattle.std.proofs.Common.{◌≡◌, ◌++◌, ◌∙◌, ℕ, List, [], ◌∷◌, length, refl, sym, ap, subst}
 use Rattle.std.proofs.lemmas.List.{append_cancel_right}
 use Rattle.std.specs.Prelude.{Result, Ok, Err}
+use Rattle.lang_tokens.specs.declared.lexicon.Lexicon.TheVariants.{C}
 use Rattle.lang_tokens.specs.declared.fault.LexFault.{LexFault}
 use Rattle.lang_tokens.specs.Faults.{HasFault}
 use Rattle.lang_tokens.specs.Reading.{end_at}
@@ -20,7 +21,7 @@ answered a = a
 lists_once : (text : List ℕ) (a b : Result (List (List ℕ)) SourceFault) → Lists text a → Lists text b → a ≡ b
 lists_once text a b (ts, r, m) (us, s, n) =
     let last = end_at (length text) ∷ [] in
-    let same : us ≡ ts = append_cancel_right us ts last (one_token_list text (us ++ last) (ts ++ last) s r) in
+    let same : us ≡ ts = append_cancel_right us ts last (one_token_list C text (us ++ last) (ts ++ last) s r) in
     names_once text ts a b m (subst (λ ws. NamesAre text ws b) same n)
 
 same_names : (x y : List (List ℕ)) → answered (Ok x) ≡ answered (Ok y) → x ≡ y
@@ -39,7 +40,7 @@ functions_once text one other a b =
 
 -- a cause is a fault of the tokens, or one of the functions
 data Stage (text : List ℕ) (c : TextCause) : Type 0 where
-  unlexed : (f : LexFault) → c ≡ Lex f → HasFault text f → Stage text c
+  unlexed : (f : LexFault) → c ≡ Lex f → HasFault C text f → Stage text c
   unlisted : (f : SourceFault) → c ≡ Source f → Lists text (Err f) → Stage text c
 
 stage : (text : List ℕ) (c : TextCause) → AreNoFunctions text c → Stage text c
@@ -53,9 +54,9 @@ stage text (Equ f) h = absurd h
 stage text (Auto f) h = absurd h
 
 staged_once : (text : List ℕ) (c d : TextCause) → Stage text c → Stage text d → c ≡ d
-staged_once text c d (unlexed f e h) (unlexed g i k) = e ∙ ap (λ x. Lex x) (one_text_fault text f g h k) ∙ sym i
-staged_once text c d (unlexed f e h) (unlisted g i (ts, r, m)) = absurd (no_fault text _ f r h)
-staged_once text c d (unlisted f e (ts, r, m)) (unlexed g i k) = absurd (no_fault text _ g r k)
+staged_once text c d (unlexed f e h) (unlexed g i k) = e ∙ ap (λ x. Lex x) (one_text_fault C text f g h k) ∙ sym i
+staged_once text c d (unlexed f e h) (unlisted g i (ts, r, m)) = absurd (no_fault C text _ f r h)
+staged_once text c d (unlisted f e (ts, r, m)) (unlexed g i k) = absurd (no_fault C text _ g r k)
 staged_once text c d (unlisted f e h) (unlisted g i k) =
     e ∙ ap (λ x. Source x) (same_fault f g (lists_once text (Err f) (Err g) h k)) ∙ sym i
 
@@ -64,7 +65,7 @@ pub functions_refused_once : (text : List ℕ) (c d : TextCause) → AreNoFuncti
 functions_refused_once text c d h k = staged_once text c d (stage text c h) (stage text d k)
 
 staged_apart : (text : List ℕ) (names : List (List ℕ)) (c : TextCause) → Stage text c → Lists text (Ok names) → ⊥
-staged_apart text names c (unlexed f e h) (ts, r, m) = no_fault text _ f r h
+staged_apart text names c (unlexed f e h) (ts, r, m) = no_fault C text _ f r h
 staged_apart text names c (unlisted f e h) k = fault_or_names f names (lists_once text (Err f) (Ok names) h k)
 
 -- or has functions

@@ -2,6 +2,7 @@
 -- refused by one cause, or by none where its points and edges are within the limits.
 use Rattle.std.proofs.Common.{◌≡◌, ◌≤◌, ◌<◌, ℕ, List, length, refl, sym, ap, ◌∙◌, subst, arith}
 use Rattle.std.specs.Prelude.{ℤ, IsTrue, Option, Ok, Err, Some, None}
+use Rattle.lang_tokens.specs.declared.lexicon.Lexicon.TheVariants.{C}
 use Rattle.lang_tokens.specs.declared.fault.LexFault.{LexFault}
 use Rattle.lang_tokens.specs.Faults.{HasFault}
 use Rattle.lang_tokens.proofs.reading.Once.{one_text_fault, no_fault}
@@ -67,7 +68,7 @@ data FlowStage (rows : Domain (List ℕ)) (p : List (List ℕ) × Statements) (o
 
 -- the program has a fault, or a core
 data TextStage (program : Program) (rows : Domain (List ℕ)) (o : Option TextCause) : Type 0 where
-  unlexed : (f : LexFault) → HasFault program.text f → o ≡ Some (Lex f) → TextStage program rows o
+  unlexed : (f : LexFault) → HasFault C program.text f → o ≡ Some (Lex f) → TextStage program rows o
   unmeant : (f : SourceFault) → Reading program (Err f) → o ≡ Some (InSource f) → TextStage program rows o
   has_core : (p : List (List ℕ) × Statements) → HasCore program p.0 p.1 → FlowStage rows p o → TextStage program rows o
 
@@ -94,13 +95,13 @@ flow_once rows p o q (fits h e) (fits k i) = rows_once_by rows p.0 p.1 o q e i
 
 text_once : (program : Program) (rows : Domain (List ℕ)) (o q : Option TextCause) → TextStage program rows o → TextStage program rows q
     → o ≡ q
-text_once program rows o q (unlexed f h e) (unlexed g k i) = e ∙ ap (λ x. Some (Lex x)) (one_text_fault program.text f g h k) ∙ sym i
-text_once program rows o q (unlexed f h e) (unmeant g (ts, r, m) i) = absurd (no_fault program.text _ f r h)
-text_once program rows o q (unlexed f h e) (has_core p k i) = absurd (no_fault program.text _ f k.reading.1 h)
-text_once program rows o q (unmeant f (ts, r, m) e) (unlexed g k i) = absurd (no_fault program.text _ g r k)
+text_once program rows o q (unlexed f h e) (unlexed g k i) = e ∙ ap (λ x. Some (Lex x)) (one_text_fault C program.text f g h k) ∙ sym i
+text_once program rows o q (unlexed f h e) (unmeant g (ts, r, m) i) = absurd (no_fault C program.text _ f r h)
+text_once program rows o q (unlexed f h e) (has_core p k i) = absurd (no_fault C program.text _ f k.reading.1 h)
+text_once program rows o q (unmeant f (ts, r, m) e) (unlexed g k i) = absurd (no_fault C program.text _ g r k)
 text_once program rows o q (unmeant f h e) (unmeant g k i) = e ∙ ap (λ x. Some (InSource x)) (fault_once program f g h k) ∙ sym i
 text_once program rows o q (unmeant f h e) (has_core p k i) = absurd (not_both program f p.0 p.1 h k)
-text_once program rows o q (has_core p h e) (unlexed g k i) = absurd (no_fault program.text _ g h.reading.1 k)
+text_once program rows o q (has_core p h e) (unlexed g k i) = absurd (no_fault C program.text _ g h.reading.1 k)
 text_once program rows o q (has_core p h e) (unmeant g k i) = absurd (not_both program g p.0 p.1 k h)
 text_once program rows o q (has_core p h e) (has_core r k i) =
     flow_once rows p o q e (subst (λ x. FlowStage rows x q) (sym (program_once program p r h k)) i)
@@ -180,7 +181,7 @@ program_refused_once program c d h k = refused_once program Intervals c d (refus
 -- a program whose core is within the limits isn't refused
 pub analysed_unrefused : (program : Program) (names : List (List ℕ)) (body : Statements) (c : TextCause) → IsRefusedProgram program c
     → IsAnalysed program names body → ⊥
-analysed_unrefused program names body (Lex f) h a = no_fault program.text _ f a.has_core.reading.1 h
+analysed_unrefused program names body (Lex f) h a = no_fault C program.text _ f a.has_core.reading.1 h
 analysed_unrefused program names body (InSource f) h a = not_both program f names body h a.has_core
 analysed_unrefused program names body (Flow f) (others, other, h, e) a =
     some_none f (fault_of_program body)

@@ -2,6 +2,7 @@
 use Rattle.std.proofs.Common.{◌≡◌, ◌++◌, ℕ, List, [], ◌∷◌, length, sym, ap, ◌∙◌, subst}
 use Rattle.std.proofs.lemmas.List.{append_cancel_right}
 use Rattle.std.specs.Prelude.{ℤ, Result, Ok, Err}
+use Rattle.lang_tokens.specs.declared.lexicon.Lexicon.TheVariants.{C}
 use Rattle.lang_tokens.specs.Reading.{end_at}
 use Rattle.lang_tokens.proofs.reading.Once.{one_token_list}
 use Rattle.lang_tree.specs.Tree.{Statements}
@@ -24,7 +25,7 @@ answered a = a
 pub reading_once : (program : Program) (a b : Answer) → Reading program a → Reading program b → a ≡ b
 reading_once program a b (ts, r, m) (us, s, n) =
     let last = end_at (length program.text) ∷ [] in
-    let same : us ≡ ts = append_cancel_right us ts last (one_token_list program.text (us ++ last) (ts ++ last) s r) in
+    let same : us ≡ ts = append_cancel_right us ts last (one_token_list C program.text (us ++ last) (ts ++ last) s r) in
     means_once program.integers program.text program.function ts a b m
     (subst (λ ws. Means program.integers program.text program.function ws b) same n)
 

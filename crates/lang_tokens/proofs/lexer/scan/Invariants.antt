@@ -4,7 +4,7 @@ use Rattle.lang_tokens.proofs.lexer.scan.Given as goal
 
 abbrev pub invariant-loop-at : goal.invariant-loop-at
 invariant-loop-at l = record {
-  reads : ReadsBehind l.text l.at l.tokens.items (drop l.at l.text) l.before;
+  reads : ReadsBehind l.lexicon l.text l.at l.tokens.items (drop l.at l.text) l.before;
   within : l.at ≤ length l.text;
 }
 

@@ -1,9 +1,10 @@
 use Rattle.std.proofs.Common.{◌≡◌, true, false, sym, ◌∙◌, take, drop, refl, w64, to_z, of_z}
 use Rattle.std.specs.Str.Parse.{digits_value}
-use Rattle.std.proofs.lemmas.Bool.{or_left, or_right, or_from}
+use Rattle.std.proofs.lemmas.Bool.{or_left, or_right, or_from, and_from}
 use Rattle.std.proofs.lemmas.List.{take_rest}
 use Rattle.lang_tokens.specs.Lexemes.{is_padded}
-use Rattle.lang_tokens.specs.Reading.{starts_with_letter}
+use Rattle.lang_tokens.specs.Directives.{starts_with_letter}
+use Rattle.lang_tokens.specs.Reading.{is_outside}
 use Rattle.lang_tokens.specs.Faults.{is_bad}
 use Rattle.lang_tokens.specs.declared.token.Kind.TheVariants as kind
 use Rattle.lang_tokens.specs.Bytes.{is_digit}
@@ -37,7 +38,8 @@ returns-in-Some c =
     let front = numeral_front rest len c.digits_len-len.ensures c.requires.some c.requires.digit in
     let apart : starts_with_letter (drop len rest) ≡ false = rw (take_rest rest len) at
     (sym c.starts_with_letter.ensures ∙ c.if-starts_with_letter.false) in
-    λ before out. token_stands before rest len (kind.Number (to_z w64 (of_z w64 c.in-Some.value))) out front
+    λ before out. token_stands before rest len (kind.Number (to_z w64 (of_z w64 c.in-Some.value)))
+    (and_from (is_outside before) true out refl) front
     (record {
       digits = front.passes;
       plain = sym c.is_padded.ensures ∙ c.if-is_padded.false;

@@ -5,7 +5,7 @@ use Rattle.std.specs.declared.vec.Vec.{Vec}
 use Rattle.lang_tree.specs.declared.deed.Deed as code_deed
 use Rattle.source_grammar.specs.Symbols.{direction_of}
 use Rattle.source_grammar.specs.Tokens as g
-use Rattle.source_grammar.specs.Tokens.{Token}
+use Rattle.source_grammar.specs.Tokens.{Name, Token}
 use Rattle.source_grammar.specs.Grammar.{Index, Place, place, GoodPlace, steps, step_before}
 use Rattle.source_grammar.proofs.grammar.Follow.{AfterPart, part_place}
 use Rattle.source_tree.specs.Statements.{Change}
@@ -18,7 +18,7 @@ use Rattle.source_reader.specs.Answers.{Answers}
 use Rattle.source_reader.specs.Reading.{Reading, at_tokens, first_kind}
 use Rattle.source_change.specs.Onto.{onto_index, onto_place}
 use Rattle.source_change.specs.Changed.{Aim, StandsChange, StandsTarget, aim, done_to, counted_change}
-use Rattle.source_change.specs.Tests.{WasChanged, WasCounted, WasTaken}
+use Rattle.source_change.specs.Tests.{WasChanged, WasCounted, WasTaken, name_of}
 use Rattle.source_change.specs.declared.deeds.Changed.{Changed}
 use Rattle.source_change.specs.declared.names.Named.{Named}
 use Rattle.source_change.specs.declared.places.Target.{Target}
@@ -52,19 +52,19 @@ returns-in_err-first-clause-reads c = λ p rest gp f h. on p rest f where
       c.from_residual.ensures.1 (c.in_err-first.ensures.reads x a (onto_index i rest) f)
 
 -- the name that was taken is that of the place
-abbrev Is : Reading → Reading → List Token → Named → List ℕ → ℕ → Type 0
-Is old mid ts n x a = (n.name ≡ x) × (n.at ≡ a) × (mid ≡ at_tokens old ts)
+abbrev Is : Reading → Reading → List Token → Named → Name → ℕ → Type 0
+Is old mid ts n x a = (name_of n ≡ x) × (n.at ≡ a) × (mid ≡ at_tokens old ts)
 
-named_is : (old mid : Reading) (ts : List Token) (n : Named) (x : List ℕ) (a : ℕ)
+named_is : (old mid : Reading) (ts : List Token) (n : Named) (x : Name) (a : ℕ)
     → Answers (λ (n : Named) q. WasTaken ts old mid n q) (Ok n) (Ok (x, a)) → Is old mid ts n x a
 named_is old mid ts n x a t =
     let e = t.1 in
     let p : t.0 ≡ (x, a) = cc in
-    (t.2.0 ∙ ap (λ (q : List ℕ × ℕ). q.0) p, t.2.1 ∙ ap (λ (q : List ℕ × ℕ). q.1) p, t.2.2)
+    (t.2.0 ∙ ap (λ (q : Name × ℕ). q.0) p, t.2.1 ∙ ap (λ (q : Name × ℕ). q.1) p, t.2.2)
 
 -- a step before the place with this name
-so : (integers : Integers) (line : ℕ → ℕ) (n : ℕ) (st : State) (x : List ℕ) (a : ℕ) (i : Index) (d : g.Direction) (at : ℕ)
-    (k : Integers) (l v : ℕ) (y : List ℕ) (b : ℕ) → k ≡ integers
+so : (integers : Integers) (line : ℕ → ℕ) (n : ℕ) (st : State) (x : Name) (a : ℕ) (i : Index) (d : g.Direction) (at : ℕ)
+    (k : Integers) (l v : ℕ) (y : Name) (b : ℕ) → k ≡ integers
     → l ≡ line at → v ≡ n → y ≡ x → b ≡ a → read_update integers line n st (step_before d at (place x a i)) ≡ by_parts k v l at st y b i
     (steps d at)
 so integers line n st x a i d at k l v y b j p q r s = step_so integers line n st x a i d at k l v j p q
@@ -85,7 +85,7 @@ returns-in_err-target-clause-reads c = λ p rest gp f h. on p rest gp f h where
       let l : ℕ = c.site-site.result.line in
       let v : ℕ = c.site-site.result.variables in
       let st : State = c.args.known.now in
-      let y : List ℕ = c.in_ok-first.first.name in
+      let y : Name = name_of c.in_ok-first.first in
       let b : ℕ = c.in_ok-first.first.at in
       let d : g.Direction = direction_of c.args.direction in
       let t : Is old mid (onto_index i rest) c.in_ok-first.first x a = named_is old mid (onto_index i rest) c.in_ok-first.first x a
@@ -114,7 +114,7 @@ returns-in_err-changed-clause-reads c = λ p rest gp f h. on p rest gp f h where
       let l : ℕ = c.site-site.result.line in
       let v : ℕ = c.site-site.result.variables in
       let st : State = c.args.known.now in
-      let y : List ℕ = c.in_ok-first.first.name in
+      let y : Name = name_of c.in_ok-first.first in
       let b : ℕ = c.in_ok-first.first.at in
       let d : g.Direction = direction_of c.args.direction in
       let t : Is old mid (onto_index i rest) c.in_ok-first.first x a = named_is old mid (onto_index i rest) c.in_ok-first.first x a
@@ -147,7 +147,7 @@ returns-clause-reads c = λ p rest gp f h. on p rest gp f h where
       let l : ℕ = c.site-site.result.line in
       let v : ℕ = c.site-site.result.variables in
       let st : State = c.args.known.now in
-      let y : List ℕ = c.in_ok-first.first.name in
+      let y : Name = name_of c.in_ok-first.first in
       let b : ℕ = c.in_ok-first.first.at in
       let d : g.Direction = direction_of c.args.direction in
       let t : Is old mid (onto_index i rest) c.in_ok-first.first x a = named_is old mid (onto_index i rest) c.in_ok-first.first x a

@@ -3,7 +3,7 @@ use Rattle.lang_tokens.specs.Lines.{line_at}
 use Rattle.std.specs.declared.alloc.Global.{Global}
 use Rattle.std.specs.declared.vec.Vec.{Vec}
 use Rattle.lang_tree.specs.declared.deed.Deed as code_deed
-use Rattle.source_grammar.specs.Tokens.{Token}
+use Rattle.source_grammar.specs.Tokens.{Name, Token}
 use Rattle.source_grammar.proofs.grammar.Follow.{part_expr}
 use Rattle.source_tree.specs.Statements.{Change}
 use Rattle.source_core.specs.Core.{change_deeds}
@@ -14,7 +14,7 @@ use Rattle.source_reader.specs.Answers.{Answers}
 use Rattle.source_reader.specs.Reading.{Reading, at_tokens, first_kind}
 use Rattle.source_change.specs.Onto.{onto_effect}
 use Rattle.source_change.specs.Changed.{Aim, StandsChange, StandsTarget, aim, done_to, counted_change}
-use Rattle.source_change.specs.Tests.{WasChanged, WasCounted}
+use Rattle.source_change.specs.Tests.{WasChanged, WasCounted, name_of}
 use Rattle.source_change.specs.declared.deeds.Changed.{Changed}
 use Rattle.source_change.specs.declared.places.Target.{Target}
 use Rattle.source_change.proofs.changed.Updated.{effect_follows, update_so}
@@ -34,6 +34,24 @@ Done integers v l old new ts t g = StandsChange integers v l t g × (new ≡ at_
 abbrev Read : (integers : Integers) (n : ℕ) → List Token → Reading → Reading → State → Vec code_deed.Deed Global → State × Change → Type 0
 Read integers n rest old new met v r = WasChanged integers n rest old new met v.items r
 
+pub returns-in_err-target-clause-reads : goal.returns-in_err-target-clause-reads
+returns-in_err-target-clause-reads c = λ i f rest gi gf e h.
+    let old : Reading = c.args.reader.now in
+    let mid : Reading = c.place.new.reader in
+    let k : Integers = c.site-site.result.integers in
+    let l : ℕ = c.site-site.result.line in
+    let v : ℕ = c.site-site.result.variables in
+    let st : State = c.args.known.now in
+    let x : Name = name_of c.args.first.now in
+    let a : ℕ = c.args.first.now.at in
+    let is = Read old.integers old.variables rest old mid st in
+    let P : Result (State × Change) FunctionFault → Type 0 = λ w. Answers is c.from_residual.result w in
+    subst P (sym (update_so old.integers (line_at old.text) old.variables st x a i f k l v c.site-site.ensures.integers
+    c.site-site.ensures.line c.site-site.ensures.variables))
+    (err_then (Placed k v l old mid (onto_effect f rest)) is c.from_residual.result c.in_err-target.field-0.0 (aim k v l st x a i)
+    (λ t. done_to k v l st t f >>= λ g. counted_change k v l a st g) c.from_residual.ensures.1
+    (c.in_err-target.ensures.reads i (onto_effect f rest) gi e (effect_follows f rest)))
+
 pub returns-in_err-changed-clause-reads : goal.returns-in_err-changed-clause-reads
 returns-in_err-changed-clause-reads c = λ i f rest gi gf e h.
     let old : Reading = c.args.reader.now in
@@ -42,7 +60,7 @@ returns-in_err-changed-clause-reads c = λ i f rest gi gf e h.
     let l : ℕ = c.site-site.result.line in
     let v : ℕ = c.site-site.result.variables in
     let st : State = c.args.known.now in
-    let x : List ℕ = c.args.first.now.name in
+    let x : Name = name_of c.args.first.now in
     let a : ℕ = c.args.first.now.at in
     let is = Read old.integers old.variables rest old c.effect.new.reader st in
     let P : Result (State × Change) FunctionFault → Type 0 = λ w. Answers is c.from_residual-in_err-changed.result w in
@@ -65,7 +83,7 @@ returns-clause-reads c = λ i f rest gi gf e h.
     let l : ℕ = c.site-site.result.line in
     let v : ℕ = c.site-site.result.variables in
     let st : State = c.args.known.now in
-    let x : List ℕ = c.args.first.now.name in
+    let x : Name = name_of c.args.first.now in
     let a : ℕ = c.args.first.now.at in
     let is = Read old.integers old.variables rest old new c.counted_change.new.known in
     let P : Result (State × Change) FunctionFault → Type 0 = λ w. Answers is c.counted_change.result w in

@@ -5,14 +5,14 @@ use Rattle.lang_tokens.specs.Lines.{line_at}
 use Rattle.lang_tree.specs.Tree as tree
 use Rattle.lang_tree.specs.View.{statements_of}
 use Rattle.lang_tree.specs.declared.deed.Deed as code_deed
-use Rattle.source_grammar.specs.Tokens.{Token}
+use Rattle.source_grammar.specs.Tokens.{Name, Token}
 use Rattle.source_grammar.specs.Grammar.{Expr, spell_expr}
 use Rattle.source_grammar.proofs.grammar.Follow.{part_expr}
 use Rattle.source_tree.specs.Statements.{Change, Statements, sets, changes}
 use Rattle.source_core.specs.Core.{behind, change_deeds, followed_by}
 use Rattle.source_meaning.specs.declared.fault.FunctionFault.{FunctionFault}
 use Rattle.source_meaning.specs.Results.{◌>>=◌, provided}
-use Rattle.source_meaning.specs.Names.{State, with_variable}
+use Rattle.source_meaning.specs.Names.{State, with_variable, declared_number}
 use Rattle.std.specs.Prelude.{◌+◌, ◌&&◌, nat_le}
 use Rattle.std.specs.List.{list_all}
 use Rattle.lang_tree.specs.declared.limits.TheConstants.{MOST_HIDDEN}
@@ -28,11 +28,11 @@ use Rattle.source_reader.specs.declared.stop.Stop.{Stop}
 use Rattle.source_reader.specs.Reading.{Reading, at_tokens, behind_first, first_kind}
 use Rattle.source_expression.specs.Sides.{IsRead}
 use Rattle.source_change.specs.Changed.{counted_change}
-use Rattle.source_change.specs.Tests.{WasCounted, WasRead}
+use Rattle.source_change.specs.Tests.{WasCounted, WasRead, name_of}
 use Rattle.source_change.proofs.lists.Deeds.{followed_nil}
 use Rattle.source_change.proofs.firsts.Going.{came_to}
 use Rattle.source_change.proofs.limited.Limits.{limited_as}
-use Rattle.source_change.proofs.results.Answered.{err_then, ok_then}
+use Rattle.source_change.proofs.results.Answered.{err_given, err_then, ok_then}
 use Rattle.source_change.proofs.results.Binds.{bind_assoc}
 use Rattle.base_integers.specs.declared.integers.Integers.{Integers}
 use Rattle.source_change.proofs.declarations.given.Goals as goal
@@ -68,9 +68,60 @@ counts integers v l at now g =
     ∙ sym (bind_assoc (few integers v l at g g) count put_on)
 
 -- a declaration with a value, over v variables, in this line
-abbrev by_parts : (integers : Integers) (v l : ℕ) → State → List ℕ → (at : ℕ) → Expr → Result (State × Statements) FunctionFault
+abbrev by_parts : (integers : Integers) (v l : ℕ) → State → Name → (at : ℕ) → Expr → Result (State × Statements) FunctionFault
 by_parts integers v l st x at e = read integers l st e v >>= λ y. with_variable x at st >>= λ now. set_so integers v l at now
-    (sets st.variables y l)
+    (sets (declared_number now) y l)
+
+pub returns-in_err-value-clause-reads : goal.returns-in_err-value-clause-reads
+returns-in_err-value-clause-reads c = λ b e rest g f h.
+    let old : Reading = c.args.reader.now in
+    let behind_it : List Token = spell_expr e ++ rest in
+    let mid : c.skip.new.self ≡ at_tokens old behind_it = c.skip.ensures ∙ ap (λ ts. at_tokens old (behind_first ts)) f in
+    let st : State = c.args.known.now in
+    let x : Name = name_of c.args.first.now in
+    let at : ℕ = c.args.first.now.at in
+    let j : Integers = c.site-site.result.integers in
+    let l : ℕ = c.site-site.result.line in
+    let v : ℕ = c.site-site.result.variables in
+    let by : j ≡ old.integers = c.site-site.ensures.integers ∙ ap (λ (r : Reading). r.integers) mid in
+    let line : l ≡ line_at old.text at = c.site-site.ensures.line ∙ ap (λ (r : Reading). line_at r.text at) mid in
+    let many : v ≡ old.variables = c.site-site.ensures.variables ∙ ap (λ (r : Reading). r.variables) mid in
+    let new : Reading = c.expression.new.reader in
+    let is : Unit {0} → State × Statements → Type 0 =
+    λ _ r. WasRead old.integers old.variables rest old new st c.args.out.now.items c.args.out.now.items r in
+    let P : Result (State × Statements) FunctionFault → Type 0 = λ w. Answers is c.from_residual.result w in
+    subst P (ap (λ j. by_parts j v l st x at e) by ∙ ap₂ (λ v l. by_parts old.integers v l st x at e) many line)
+    (err_then (λ (w : Value) y. IsRead c.site-site.result v w y × (new.ahead ≡ rest)) is c.from_residual.result c.in_err-value.field-0.0
+    (read j l st e v) (λ y. with_variable x at st >>= λ now. set_so j v l at now (sets (declared_number now) y l))
+    c.from_residual.ensures.1
+    (c.in_err-value.ensures.reads e rest g (part_expr (first_kind rest) h) (ap (λ (r : Reading). r.ahead) mid)))
+
+pub returns-in_err-var-clause-reads : goal.returns-in_err-var-clause-reads
+returns-in_err-var-clause-reads c = λ b e rest g f h.
+    let old : Reading = c.args.reader.now in
+    let behind_it : List Token = spell_expr e ++ rest in
+    let mid : c.skip.new.self ≡ at_tokens old behind_it = c.skip.ensures ∙ ap (λ ts. at_tokens old (behind_first ts)) f in
+    let st : State = c.args.known.now in
+    let x : Name = name_of c.args.first.now in
+    let at : ℕ = c.args.first.now.at in
+    let j : Integers = c.site-site.result.integers in
+    let l : ℕ = c.site-site.result.line in
+    let v : ℕ = c.site-site.result.variables in
+    let by : j ≡ old.integers = c.site-site.ensures.integers ∙ ap (λ (r : Reading). r.integers) mid in
+    let line : l ≡ line_at old.text at = c.site-site.ensures.line ∙ ap (λ (r : Reading). line_at r.text at) mid in
+    let many : v ≡ old.variables = c.site-site.ensures.variables ∙ ap (λ (r : Reading). r.variables) mid in
+    let new : Reading = c.expression.new.reader in
+    let is : Unit {0} → State × Statements → Type 0 =
+    λ _ r. WasRead old.integers old.variables rest old new c.add_variable.new.self c.args.out.now.items c.args.out.now.items r in
+    let P : Result (State × Statements) FunctionFault → Type 0 = λ w. Answers is c.from_residual-in_err-var.result w in
+    subst P (ap (λ j. by_parts j v l st x at e) by ∙ ap₂ (λ v l. by_parts old.integers v l st x at e) many line)
+    (ok_then (λ (w : Value) y. IsRead c.site-site.result v w y ×
+    (new.ahead ≡ rest)) is c.in_ok-value.value c.from_residual-in_err-var.result
+    (read j l st e v) (λ y. with_variable x at st >>= λ now. set_so j v l at now (sets (declared_number now) y l))
+    (c.in_ok-value.ensures.reads e rest g (part_expr (first_kind rest) h) (ap (λ (r : Reading). r.ahead) mid))
+    (λ y k. err_given {A = ℕ} (λ _. c.add_variable.new.self) is c.from_residual-in_err-var.result c.in_err-var.field-0.0
+    (with_variable x at st) (λ now. set_so j v l at now (sets (declared_number now) y l)) c.from_residual-in_err-var.ensures.1
+    c.in_err-var.ensures.known))
 
 pub returns-in_err-deeds-clause-reads : goal.returns-in_err-deeds-clause-reads
 returns-in_err-deeds-clause-reads c = λ b e rest g f h.
@@ -78,7 +129,7 @@ returns-in_err-deeds-clause-reads c = λ b e rest g f h.
     let behind_it : List Token = spell_expr e ++ rest in
     let mid : c.skip.new.self ≡ at_tokens old behind_it = c.skip.ensures ∙ ap (λ ts. at_tokens old (behind_first ts)) f in
     let st : State = c.args.known.now in
-    let x : List ℕ = c.args.first.now.name in
+    let x : Name = name_of c.args.first.now in
     let at : ℕ = c.args.first.now.at in
     let j : Integers = c.site-site.result.integers in
     let l : ℕ = c.site-site.result.line in
@@ -95,14 +146,15 @@ returns-in_err-deeds-clause-reads c = λ b e rest g f h.
     subst P (ap (λ j. by_parts j v l st x at e) by ∙ ap₂ (λ v l. by_parts old.integers v l st x at e) many line)
     (ok_then (λ (w : Value) y. IsRead c.site-site.result v w y ×
     (new.ahead ≡ rest)) is c.in_ok-value.value c.from_residual-in_err-deeds.result
-    (read j l st e v) (λ y. with_variable x at st >>= λ now. set_so j v l at now (sets st.variables y l))
+    (read j l st e v) (λ y. with_variable x at st >>= λ now. set_so j v l at now (sets (declared_number now) y l))
     (c.in_ok-value.ensures.reads e rest g (part_expr (first_kind rest) h) (ap (λ (r : Reading). r.ahead) mid))
-    (λ y k. let t : Change = sets st.variables y l in
-    subst P (sym (ap (λ w. w >>= λ now. set_so j v l at now t) c.in_ok-add_variable.ensures ∙ counts j v l at now t))
+    (λ y k. let t : Change = sets (declared_number now) y l in
+    subst P (sym (ap (λ w. w >>= λ now. set_so j v l at now (sets (declared_number now) y l)) c.in_ok-var.ensures.known
+    ∙ counts j v l at now t))
     (err_then (λ (w : Vec code_deed.Deed Global) r. WasCounted j v c.counted_change.new.known w.items r) is
     c.from_residual-in_err-deeds.result s
     (counted_change j v l at now t) (λ r. Ok (r.0, one (changes r.1))) c.from_residual-in_err-deeds.ensures.1
-    (c.in_err-deeds.ensures t (c.variables-var.ensures, refl, k.0)))))
+    (c.in_err-deeds.ensures t (c.in_ok-var.ensures.number, refl, k.0)))))
 
 pub returns-clause-reads : goal.returns-clause-reads
 returns-clause-reads c = λ b e rest g f h.
@@ -110,7 +162,7 @@ returns-clause-reads c = λ b e rest g f h.
     let behind_it : List Token = spell_expr e ++ rest in
     let mid : c.skip.new.self ≡ at_tokens old behind_it = c.skip.ensures ∙ ap (λ ts. at_tokens old (behind_first ts)) f in
     let st : State = c.args.known.now in
-    let x : List ℕ = c.args.first.now.name in
+    let x : Name = name_of c.args.first.now in
     let at : ℕ = c.args.first.now.at in
     let j : Integers = c.site-site.result.integers in
     let l : ℕ = c.site-site.result.line in
@@ -126,13 +178,14 @@ returns-clause-reads c = λ b e rest g f h.
     let P : Result (State × Statements) FunctionFault → Type 0 = λ w. Answers is (Ok tt) w in
     subst P (ap (λ j. by_parts j v l st x at e) by ∙ ap₂ (λ v l. by_parts old.integers v l st x at e) many line)
     (ok_then (λ (w : Value) y. IsRead c.site-site.result v w y × (new.ahead ≡ rest)) is c.in_ok-value.value (Ok tt)
-    (read j l st e v) (λ y. with_variable x at st >>= λ now. set_so j v l at now (sets st.variables y l))
+    (read j l st e v) (λ y. with_variable x at st >>= λ now. set_so j v l at now (sets (declared_number now) y l))
     (c.in_ok-value.ensures.reads e rest g (part_expr (first_kind rest) h) (ap (λ (r : Reading). r.ahead) mid))
-    (λ y k. let t : Change = sets st.variables y l in
-    subst P (sym (ap (λ w. w >>= λ now. set_so j v l at now t) c.in_ok-add_variable.ensures ∙ counts j v l at now t))
+    (λ y k. let t : Change = sets (declared_number now) y l in
+    subst P (sym (ap (λ w. w >>= λ now. set_so j v l at now (sets (declared_number now) y l)) c.in_ok-var.ensures.known
+    ∙ counts j v l at now t))
     (ok_then (λ (w : Vec code_deed.Deed Global) r. WasCounted j v c.counted_change.new.known w.items r) is c.in_ok-deeds.deeds (Ok tt)
     (counted_change j v l at now t) (λ r. Ok (r.0, one (changes r.1)))
-    (c.in_ok-deeds.ensures t (c.variables-var.ensures, refl, k.0))
+    (c.in_ok-deeds.ensures t (c.in_ok-var.ensures.number, refl, k.0))
     (λ r m. (
       (r.0, one (changes r.1)),
       refl,

@@ -7,7 +7,7 @@ use Rattle.source_core.specs.Core as core
 use Rattle.source_meaning.specs.Results.{◌>>=◌}
 use Rattle.source_meaning.specs.Statements.{one}
 use Rattle.source_reader.specs.Reading.{Reading, at_tokens, behind_first}
-use Rattle.source_statement.proofs.parts.Pushed.{one_pushed}
+use Rattle.source_change.proofs.lists.Pushed.{one_pushed}
 use Rattle.base_integers.specs.declared.integers.Integers.{Integers}
 use Rattle.source_statement.proofs.body.label.Goals as goal
 
@@ -20,7 +20,7 @@ returns-clause-reads c = λ b rest e.
     let mid : c.take.new.self ≡ at_tokens old rest = c.in_ok-take.ensures.2 ∙ ap (λ ts. at_tokens old (behind_first ts)) e in
     let s : Statement = label c.args.first.name (line_at old.text at) in (
       (c.add_label.new.self, one s),
-      ap (λ w. w >>= λ now. Ok (now, one s)) c.in_ok-add_label.ensures,
+      ap (λ w. w >>= λ now. Ok (now, one s)) (c.in_ok-add_label.ensures c.args.first.value),
       record {
         known = refl;
         out = one_pushed integers n c.args.out.now.items c.push.new.self.items

@@ -1,7 +1,7 @@
 use Rattle.std.proofs.Common.{◌≡◌, ◌∙◌, ◌∷◌, ◌++◌, ℕ, List, Option, Some, None, Result, Ok, Err, refl, sym, ap, subst}
 use Rattle.lang_tokens.specs.Lines.{line_at}
 use Rattle.lang_tree.specs.Tree.{nodes_in}
-use Rattle.source_grammar.specs.Tokens.{Token, token, right_paren, semicolon}
+use Rattle.source_grammar.specs.Tokens.{Name, Token, token, right_paren, semicolon}
 use Rattle.source_grammar.specs.Grammar.{spell_arguments}
 use Rattle.source_tree.specs.Expressions.{Expressions}
 use Rattle.source_tree.specs.Statements.{Statements, evaluates}
@@ -9,7 +9,7 @@ use Rattle.source_core.specs.Elaborated.{evaluated}
 use Rattle.source_core.specs.Core.{core_in}
 use Rattle.source_meaning.specs.declared.fault.FunctionFault.{FunctionFault}
 use Rattle.source_meaning.specs.Results.{◌>>=◌}
-use Rattle.source_meaning.specs.Names.{State, Thing, as_called, known}
+use Rattle.source_meaning.specs.Names.{State, Thing, as_called, thing_of}
 use Rattle.source_meaning.specs.Limits.{counted}
 use Rattle.source_meaning.specs.Expressions.{read_arguments}
 use Rattle.source_meaning.specs.Statements.{call_of, followed_by, read_evaluated}
@@ -18,11 +18,12 @@ use Rattle.source_value.specs.declared.value.Evaluated.{Evaluated}
 use Rattle.source_reader.specs.Answers.{Answers}
 use Rattle.source_reader.specs.declared.stop.Stop.{Stop}
 use Rattle.source_reader.specs.Reading.{Reading, at_tokens, behind_first, passed}
-use Rattle.source_statement.specs.Pushed.{WasPushed}
+use Rattle.source_change.specs.Pushed.{WasPushed}
+use Rattle.source_change.specs.Tests.{name_of}
 use Rattle.source_change.proofs.firsts.Going.{came_to}
 use Rattle.source_change.proofs.results.Answered.{answers_so, err_then, ok_then}
-use Rattle.source_statement.specs.Headed.{WasEvaluated}
-use Rattle.source_statement.proofs.parts.Pushed.{then_pushed}
+use Rattle.source_change.specs.Pushed.{WasEvaluated}
+use Rattle.source_change.proofs.lists.Pushed.{then_pushed}
 use Rattle.base_integers.specs.declared.integers.Integers.{Integers}
 use Rattle.source_statement.proofs.call.call.Goals as goal
 
@@ -40,6 +41,40 @@ called_then {A} Was res w y f e a = let P : Result A FunctionFault → Type 0 = 
 abbrev Were : Reading → List Token → Integers → ℕ → ℕ → Evaluated → Expressions → Type 0
 Were new ts integers l v w ys = StandsEvaluated v w (evaluated integers l ys v) × (new.ahead ≡ ts)
 
+pub returns-in_err-all-clause-reads : goal.returns-in_err-all-clause-reads
+returns-in_err-all-clause-reads c = λ inside b es d i rest g e.
+    let old : Reading = c.args.reader.now in
+    let integers : Integers = old.integers in
+    let n : ℕ = old.variables in
+    let line : ℕ → ℕ = line_at old.text in
+    let st : State = c.args.known.now in
+    let x : Name = name_of c.args.first.now in
+    let at : ℕ = c.args.first.now.at in
+    let ts : List Token = token right_paren d ∷ token semicolon i ∷ rest in
+    let mid : c.skip.new.self ≡ at_tokens old (spell_arguments es ++ ts) = c.skip.ensures ∙ ap (λ ts. at_tokens old (behind_first ts)) e in
+    let new : Reading = c.arguments.new.reader in
+    let j : Integers = c.site-site.result.integers in
+    let l : ℕ = c.site-site.result.line in
+    let v : ℕ = c.site-site.result.variables in
+    let by : j ≡ integers = c.site-site.ensures.integers ∙ ap (λ (r : Reading). r.integers) mid in
+    let lined : l ≡ line at = c.site-site.ensures.line ∙ ap (λ (r : Reading). line_at r.text at) mid in
+    let many : v ≡ n = c.site-site.ensures.variables ∙ ap (λ (r : Reading). r.variables) mid in
+    let s : Stop = c.in_err-all.field-0.0 in
+    let after : Statements = call_of x at (line at) in
+    let called : as_called at (thing_of x st) es ≡ Ok es = called_ok at (thing_of x st) es c.in_ok-called.field-0
+    (c.in_ok-called.ensures ∙ ap (λ y. as_called at (thing_of (record { text = y; value = c.args.first.now.value }) st) tt)
+    c.bytes.ensures.bytes) in
+    let A : Integers → ℕ → ℕ → Type 0 = λ j l v. Answers (Were new ts j l v) (Err s) (read_arguments j l st es v) in
+    let raw : A j l v = c.in_err-all.ensures.reads es ts g refl (ap (λ (r : Reading). r.ahead) mid) in
+    let q : A integers (line at) n =
+    subst (λ v. A integers (line at) v) many (subst (λ l. A integers l v) lined (subst (λ j. A j l v) by raw)) in
+    let put : State × Statements → Result (State × Statements) FunctionFault = λ r. counted at (nodes_in (core_in integers n after)) r.0
+    >>= λ now. Ok (now, followed_by r.1 after) in
+    called_then _ c.from_residual-in_err-all.result (as_called at (thing_of x st) es) es
+    (λ es. read_arguments integers (line at) st es n >>= λ ys. read_evaluated integers line n st at (evaluates ys (line at)) >>= put) called
+    (err_then (Were new ts integers (line at) n) _ c.from_residual-in_err-all.result s (read_arguments integers (line at) st es n)
+    (λ ys. read_evaluated integers line n st at (evaluates ys (line at)) >>= put) c.from_residual-in_err-all.ensures.1 q)
+
 pub returns-in_err-push_evaluated-clause-reads : goal.returns-in_err-push_evaluated-clause-reads
 returns-in_err-push_evaluated-clause-reads c = λ inside b es d i rest g e.
     let old : Reading = c.args.reader.now in
@@ -47,7 +82,7 @@ returns-in_err-push_evaluated-clause-reads c = λ inside b es d i rest g e.
     let n : ℕ = old.variables in
     let line : ℕ → ℕ = line_at old.text in
     let st : State = c.args.known.now in
-    let x : List ℕ = c.args.first.now.name in
+    let x : Name = name_of c.args.first.now in
     let at : ℕ = c.args.first.now.at in
     let ts : List Token = token right_paren d ∷ token semicolon i ∷ rest in
     let mid : c.skip.new.self ≡ at_tokens old (spell_arguments es ++ ts) = c.skip.ensures ∙ ap (λ ts. at_tokens old (behind_first ts)) e in
@@ -61,15 +96,16 @@ returns-in_err-push_evaluated-clause-reads c = λ inside b es d i rest g e.
     let many : v ≡ n = c.site-site.ensures.variables ∙ ap (λ (r : Reading). r.variables) mid in
     let s : Stop = c.in_err-push_evaluated.field-0.0 in
     let after : Statements = call_of x at (line at) in
-    let called : as_called at (known x st.names) es ≡ Ok es = called_ok at (known x st.names) es c.in_ok-called.field-0
-    (c.in_ok-called.ensures ∙ ap (λ y. as_called at (known y st.names) tt) c.bytes.ensures.bytes) in
+    let called : as_called at (thing_of x st) es ≡ Ok es = called_ok at (thing_of x st) es c.in_ok-called.field-0
+    (c.in_ok-called.ensures ∙ ap (λ y. as_called at (thing_of (record { text = y; value = c.args.first.now.value }) st) tt)
+    c.bytes.ensures.bytes) in
     let A : Integers → ℕ → ℕ → Type 0 = λ j l v. Answers (Were new ts j l v) (Ok all) (read_arguments j l st es v) in
     let raw : A j l v = c.in_ok-all.ensures.reads es ts g refl (ap (λ (r : Reading). r.ahead) mid) in
     let q : A integers (line at) n =
     subst (λ v. A integers (line at) v) many (subst (λ l. A integers l v) lined (subst (λ j. A j l v) by raw)) in
     let put : State × Statements → Result (State × Statements) FunctionFault = λ r. counted at (nodes_in (core_in integers n after)) r.0
     >>= λ now. Ok (now, followed_by r.1 after) in
-    called_then _ c.from_residual-in_err-push_evaluated.result (as_called at (known x st.names) es) es
+    called_then _ c.from_residual-in_err-push_evaluated.result (as_called at (thing_of x st) es) es
     (λ es. read_arguments integers (line at) st es n >>= λ ys. read_evaluated integers line n st at (evaluates ys (line at)) >>= put) called
     (ok_then (Were new ts integers (line at) n) _ all c.from_residual-in_err-push_evaluated.result (read_arguments integers
     (line at) st es n)
@@ -91,7 +127,7 @@ returns-clause-reads c = λ inside b es d i rest g e.
     let n : ℕ = old.variables in
     let line : ℕ → ℕ = line_at old.text in
     let st : State = c.args.known.now in
-    let x : List ℕ = c.args.first.now.name in
+    let x : Name = name_of c.args.first.now in
     let at : ℕ = c.args.first.now.at in
     let ts : List Token = token right_paren d ∷ token semicolon i ∷ rest in
     let mid : c.skip.new.self ≡ at_tokens old (spell_arguments es ++ ts) = c.skip.ensures ∙ ap (λ ts. at_tokens old (behind_first ts)) e in
@@ -104,8 +140,9 @@ returns-clause-reads c = λ inside b es d i rest g e.
     let lined : l ≡ line at = c.site-site.ensures.line ∙ ap (λ (r : Reading). line_at r.text at) mid in
     let many : v ≡ n = c.site-site.ensures.variables ∙ ap (λ (r : Reading). r.variables) mid in
     let after : Statements = call_of x at (line at) in
-    let called : as_called at (known x st.names) es ≡ Ok es = called_ok at (known x st.names) es c.in_ok-called.field-0
-    (c.in_ok-called.ensures ∙ ap (λ y. as_called at (known y st.names) tt) c.bytes.ensures.bytes) in
+    let called : as_called at (thing_of x st) es ≡ Ok es = called_ok at (thing_of x st) es c.in_ok-called.field-0
+    (c.in_ok-called.ensures ∙ ap (λ y. as_called at (thing_of (record { text = y; value = c.args.first.now.value }) st) tt)
+    c.bytes.ensures.bytes) in
     let A : Integers → ℕ → ℕ → Type 0 = λ j l v. Answers (Were new ts j l v) (Ok all) (read_arguments j l st es v) in
     let raw : A j l v = c.in_ok-all.ensures.reads es ts g refl (ap (λ (r : Reading). r.ahead) mid) in
     let q : A integers (line at) n =
@@ -118,7 +155,7 @@ returns-clause-reads c = λ inside b es d i rest g e.
     × WasPushed m.integers m.variables c.push_evaluated.new.out.items c.push_call.new.out.items (call_of x at (line_at m.text at)))
     c.push_call.result (counted at (nodes_in (core_in m.integers m.variables (call_of x at (line_at m.text at)))) k) in
     let done : C (at_tokens old rest) c.push_evaluated.new.known = subst (λ m. C m c.push_evaluated.new.known) end c.push_call.ensures in
-    called_then _ c.push_call.result (as_called at (known x st.names) es) es
+    called_then _ c.push_call.result (as_called at (thing_of x st) es) es
     (λ es. read_arguments integers (line at) st es n >>= λ ys. read_evaluated integers line n st at (evaluates ys (line at)) >>= put) called
     (ok_then (Were new ts integers (line at) n) _ all c.push_call.result (read_arguments integers (line at) st es n)
     (λ ys. read_evaluated integers line n st at (evaluates ys (line at)) >>= put) q

@@ -12,8 +12,8 @@ use Rattle.source_meaning.specs.Names.{State}
 use Rattle.source_meaning.specs.Limits.{counted}
 use Rattle.source_meaning.specs.Statements.{is_end, is_error, one}
 use Rattle.source_reader.specs.Answers.{Answers}
-use Rattle.source_statement.specs.Pushed.{WasPushed}
-use Rattle.source_statement.proofs.parts.Pushed.{none_pushed, one_pushed, then_pushed}
+use Rattle.source_change.specs.Pushed.{WasPushed}
+use Rattle.source_change.proofs.lists.Pushed.{none_pushed, one_pushed, then_pushed}
 use Rattle.base_integers.specs.declared.integers.Integers.{Integers}
 use Rattle.source_statement.proofs.call.push_call.Goals as goal
 

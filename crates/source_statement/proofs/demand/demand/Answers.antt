@@ -17,7 +17,7 @@ use Rattle.source_reader.specs.declared.stop.Stop.{Stop}
 use Rattle.source_reader.specs.Marks.{mark_in}
 use Rattle.source_reader.specs.Reading.{Reading, at_tokens, behind_first, first_kind, first_place, passed}
 use Rattle.source_change.specs.Tests.{IsTest}
-use Rattle.source_statement.specs.Pushed.{WasPushed}
+use Rattle.source_change.specs.Pushed.{WasPushed}
 use Rattle.source_change.specs.declared.conditions.Test.{Test}
 use Rattle.source_change.proofs.lists.Deeds.{length_deeds}
 use Rattle.source_change.proofs.results.Answered.{err_given, err_then, ok_then}

@@ -9,7 +9,7 @@ use Rattle.source_tree.specs.Statements.{assumes, asserts}
 use Rattle.source_core.specs.Core as core
 use Rattle.source_core.specs.Core.{behind}
 use Rattle.source_meaning.specs.Statements.{demand_of as node_of, one}
-use Rattle.source_statement.specs.Pushed.{WasPushed}
+use Rattle.source_change.specs.Pushed.{WasPushed}
 use Rattle.source_statement.proofs.parts.Demands.{behind_pushed}
 use Rattle.source_statement.proofs.demand.push_demand.Goals as goal
 

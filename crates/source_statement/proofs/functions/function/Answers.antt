@@ -17,7 +17,7 @@ pub returns : goal.returns
 returns c = λ f h v.
     let start : Reading = record {
       text = c.args.text.now;
-      ahead = tokens_of c.args.text.now c.args.tokens.now;
+      ahead = tokens_of c.args.constants.now c.args.text.now c.args.tokens.now;
       variables = c.args.variables;
       integers = c.args.integers;
     } in
@@ -40,7 +40,7 @@ invariant_of-result c =
     let v = c.requires.read.2 in
     let start : Reading = record {
       text = c.args.text.now;
-      ahead = tokens_of c.args.text.now c.args.tokens.now;
+      ahead = tokens_of c.args.constants.now c.args.text.now c.args.tokens.now;
       variables = c.args.variables;
       integers = c.args.integers;
     } in

@@ -12,18 +12,18 @@ use Rattle.source_meaning.specs.declared.fault.FunctionFault.TheVariants.{NoVari
 use Rattle.source_meaning.specs.Results.{◌>>=◌}
 use Rattle.source_meaning.specs.Names.{State, start_state}
 use Rattle.source_meaning.specs.Statements.{followed_by, read_items}
-use Rattle.source_meaning.specs.Walk.{function_of, read_parameters, variables_of, walk, width_of}
+use Rattle.source_meaning.specs.Walk.{function_of, read_parameters, walk, width_of}
 use Rattle.source_reader.specs.Answers.{Answers}
 use Rattle.source_reader.specs.Marks.{mark_in}
 use Rattle.source_reader.specs.Reading.{Reading, at_tokens, first_kind, passed}
 use Rattle.source_change.specs.Tests.{WasRead}
-use Rattle.source_statement.specs.Pushed.{WasPushed}
+use Rattle.source_change.specs.Pushed.{WasPushed}
 use Rattle.source_change.proofs.results.Answered.{err_then}
 use Rattle.source_statement.specs.Onto.{onto_items, onto_parameters}
 use Rattle.source_statement.specs.Whole.{IsWhole}
 use Rattle.source_statement.specs.declared.functions.Whole.{Whole}
 use Rattle.source_statement.proofs.parts.Functions.{no_variables, none_here, some_here, some_variables, spelled_so, walked}
-use Rattle.source_statement.proofs.parts.Pushed.{then_pushed}
+use Rattle.source_change.proofs.lists.Pushed.{then_pushed}
 use Rattle.base_integers.specs.declared.integers.Integers.{Integers}
 use Rattle.source_statement.proofs.functions.read_whole.Goals as goal
 
@@ -31,7 +31,7 @@ pub returns : goal.returns
 returns c = λ f g e v. on f g e v where
   on : (f : Function) → Good f → c.args.reader.now.ahead ≡ spell f → c.args.reader.now.variables ≡ width_of f
       → Answers (λ (w : Whole) r. IsWhole c.args.reader.now.integers (width_of f) w r) (Ok
-      (record { names = c.in_ok-names.names; list = c.items.new.out }))
+      (record { names = c.into_names-names.result; list = c.items.new.out }))
       (walk c.args.reader.now.integers (line_at c.args.reader.now.text) f)
   on (function ss x a ps b i is d) g e v =
       let old : Reading = c.args.reader.now in
@@ -40,7 +40,7 @@ returns c = λ f g e v. on f g e v where
       let n : ℕ = old.variables in
       let o₁ : List Stmt = c.parameters.new.out.items in
       let o₂ : List Stmt = c.items.new.out.items in
-      let names : List (List ℕ) = c.in_ok-names.names in
+      let names : List (List ℕ) = c.into_names-names.result in
       let ts₃ : List Token = onto_items is (token right_brace d ∷ []) in
       let ts₂ : List Token = token left_brace i ∷ ts₃ in
       let ts₁ : List Token = token left_paren a ∷ onto_parameters ps (token right_paren b ∷ ts₂) in
@@ -56,8 +56,8 @@ returns c = λ f g e v. on f g e v where
       let q : Q (at_tokens old ts₃) p.0.0 = subst (λ k. Q (at_tokens old ts₃) k) p.2.known
       (subst (λ m. Q m c.parameters.new.known) mid₂ (c.in_ok-items.ensures.reads is d [] g (ap (λ (r : Reading). r.ahead) mid₂))) in
       let N : ℕ → Type 0 = λ n. read_items integers line n false p.0.0 is ≡ Ok q.0 in
-      let met : names ≡ reverse (variables_of q.0.0.names) = c.in_ok-names.ensures
-      ∙ ap (λ (k : State). reverse (variables_of k.names)) q.2.known in
+      let met : names ≡ reverse q.0.0.variables = c.into_names-names.ensures
+      ∙ ap (λ (k : State). reverse k.variables) q.2.known in
       let body : Statements = followed_by p.0.1 q.0.1 in
       let some : names ≡ [] → ⊥ = λ h. some_here c.as_slice.result.now c.if-is_empty.ensures (c.as_slice.ensures ∙ h) in
       let first : WasPushed integers n [] o₁ p.0.1 = p.2.out ∙ ap (λ o. core.followed_by (statements_of o)
@@ -168,7 +168,7 @@ returns-then-is_empty c = λ f g e v m. on f g e v where
       let n : ℕ = old.variables in
       let o₁ : List Stmt = c.parameters.new.out.items in
       let o₂ : List Stmt = c.items.new.out.items in
-      let names : List (List ℕ) = c.in_ok-names.names in
+      let names : List (List ℕ) = c.into_names-names.result in
       let ts₃ : List Token = onto_items is (token right_brace d ∷ []) in
       let ts₂ : List Token = token left_brace i ∷ ts₃ in
       let ts₁ : List Token = token left_paren a ∷ onto_parameters ps (token right_paren b ∷ ts₂) in
@@ -183,8 +183,8 @@ returns-then-is_empty c = λ f g e v m. on f g e v where
       let q : Q (at_tokens old ts₃) p.0.0 = subst (λ k. Q (at_tokens old ts₃) k) p.2.known
       (subst (λ m. Q m c.parameters.new.known) mid₂ (c.in_ok-items.ensures.reads is d [] g (ap (λ (r : Reading). r.ahead) mid₂))) in
       let N : ℕ → Type 0 = λ n. read_items integers line n false p.0.0 is ≡ Ok q.0 in
-      let met : names ≡ reverse (variables_of q.0.0.names) = c.in_ok-names.ensures
-      ∙ ap (λ (k : State). reverse (variables_of k.names)) q.2.known in
+      let met : names ≡ reverse q.0.0.variables = c.into_names-names.ensures
+      ∙ ap (λ (k : State). reverse k.variables) q.2.known in
       walked integers line ss x a ps b i is d p.0 q.0 p.1 (subst N v q.1)
       ∙ no_variables integers line q.0.0 (followed_by p.0.1 q.0.1) names met
       (sym c.as_slice.ensures ∙ none_here c.as_slice.result.now c.if-is_empty.ensures)

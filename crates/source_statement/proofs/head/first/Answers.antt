@@ -5,7 +5,7 @@ use Rattle.lang_tokens.specs.Lines.{line_at}
 use Rattle.lang_tree.specs.View.{deeds_of}
 use Rattle.lang_tree.specs.declared.deed.Deed.{Deed}
 use Rattle.source_grammar.specs.Tokens.{Token, token, semicolon}
-use Rattle.source_grammar.specs.Grammar.{ForFirst, declared_first, updated_first, GoodFirst}
+use Rattle.source_grammar.specs.Grammar.{ForFirst, declared_first, plain_int, const_int, updated_first, GoodFirst}
 use Rattle.source_meaning.specs.Statements.{as_statements, read_first, read_updates}
 use Rattle.source_reader.specs.Answers.{Answers}
 use Rattle.source_reader.specs.Reading.{first_kind}
@@ -13,8 +13,8 @@ use Rattle.source_change.specs.Tests.{WasRead, WereChanged}
 use Rattle.source_change.proofs.results.Answered.{ok_then}
 use Rattle.source_statement.specs.Onto.{onto_first}
 use Rattle.source_statement.specs.Starts.{start_in}
-use Rattle.source_statement.proofs.parts.Pushed.{changes_pushed}
-use Rattle.source_statement.proofs.parts.Starting.{says_int}
+use Rattle.source_change.proofs.lists.Pushed.{changes_pushed}
+use Rattle.source_statement.proofs.parts.Starting.{says_type}
 use Rattle.source_statement.proofs.head.first.Goals as goal
 
 pub returns-in_ok-push_deeds-in_default : goal.returns-in_ok-push_deeds-in_default
@@ -27,7 +27,9 @@ returns-in_ok-push_deeds-in_default c = record {
       (token semicolon d ∷ rest) c.args.reader.now
       c.updates.new.reader c.updates.new.known c.args.out.now.items c.push_deeds.new.out.items r) (Ok tt)
       (read_first c.args.reader.now.integers (line_at c.args.reader.now.text) c.args.reader.now.variables c.args.known.now f)
-  on (declared_first a xs) d rest g e = absurd (c.in_default.not-Int (says_int c.coming.result
+  on (declared_first (plain_int a) xs) d rest g e = absurd (c.in_default.not-Type (says_type c.coming.result
+      (c.coming.ensures ∙ ap (λ ts. start_in (first_kind ts)) e)))
+  on (declared_first (const_int a b) xs) d rest g e = absurd (c.in_default.not-Type (says_type c.coming.result
       (c.coming.ensures ∙ ap (λ ts. start_in (first_kind ts)) e)))
   on (updated_first us) d rest g e =
       ok_then (λ (v : Vec Deed Global) r. WereChanged c.args.reader.now.integers c.args.reader.now.variables

@@ -12,7 +12,7 @@ use Rattle.source_meaning.specs.Names.{State}
 use Rattle.source_meaning.specs.Limits.{counted}
 use Rattle.source_meaning.specs.Statements.{jump_of as node_of, one}
 use Rattle.source_reader.specs.Reading.{Reading, at_tokens, behind_first, first_place, passed}
-use Rattle.source_statement.proofs.parts.Pushed.{one_pushed}
+use Rattle.source_change.proofs.lists.Pushed.{one_pushed}
 use Rattle.base_integers.specs.declared.integers.Integers.{Integers}
 use Rattle.source_statement.proofs.jump.jump.Goals as goal
 

@@ -14,7 +14,7 @@ use Rattle.source_reader.specs.Answers.{Answers}
 use Rattle.source_reader.specs.Reading.{Reading, at_tokens, behind_first, first_place, passed}
 use Rattle.source_change.specs.Tests.{WasRead}
 use Rattle.source_statement.specs.Onto.{onto_optional}
-use Rattle.source_statement.proofs.parts.Pushed.{one_pushed, then_pushed}
+use Rattle.source_change.proofs.lists.Pushed.{one_pushed, then_pushed}
 use Rattle.base_integers.specs.declared.integers.Integers.{Integers}
 use Rattle.source_statement.proofs.jump.return_statement.Goals as goal
 

@@ -1,7 +1,7 @@
-use Rattle.std.proofs.Common.{◌≡◌, ◌∙◌, ◌∷◌, ℕ, sym, ap, refl, subst, List, Result, Ok, Err, arith}
+use Rattle.std.proofs.Common.{◌≡◌, ◌∙◌, ◌∷◌, ℕ, sym, ap, refl, subst, List, Result, Ok, arith}
 use Rattle.lang_tokens.specs.Lines.{line_at}
-use Rattle.source_grammar.specs.Tokens.{Token, token, a_name, right_paren}
-use Rattle.source_grammar.specs.Grammar.{Parameters, no_parameters, void_parameters, int_parameters}
+use Rattle.source_grammar.specs.Tokens.{Token, token, right_paren}
+use Rattle.source_grammar.specs.Grammar.{Parameters, no_parameters, void_parameters, some_parameters}
 use Rattle.source_tree.specs.Statements.{Statements, nil}
 use Rattle.source_meaning.specs.Results.{◌>>=◌}
 use Rattle.source_meaning.specs.Names.{State}
@@ -13,10 +13,11 @@ use Rattle.source_reader.specs.declared.stop.Stop.{Stop}
 use Rattle.source_change.specs.Tests.{WasRead}
 use Rattle.source_change.proofs.results.Answered.{answers_so, err_then, ok_then}
 use Rattle.source_statement.specs.Onto.{onto_more_parameters, onto_parameters}
-use Rattle.source_statement.specs.Starts.{start_in, start_of, an_int, a_void}
-use Rattle.source_statement.proofs.parts.Pushed.{none_pushed, then_pushed}
+use Rattle.source_statement.specs.Starts.{start_in, start_of, a_type, a_void}
+use Rattle.source_change.proofs.lists.Pushed.{none_pushed, then_pushed}
 use Rattle.source_statement.proofs.parts.Read.{at_first}
-use Rattle.source_statement.proofs.parts.Starting.{says_int, says_void}
+use Rattle.source_statement.proofs.parts.Starting.{says_type, says_void, parameter_begins}
+use Rattle.source_statement.proofs.parts.Parameters.{parameter_follows}
 use Rattle.base_integers.specs.declared.integers.Integers.{Integers}
 use Rattle.source_statement.proofs.parameters.listed.Goals as goal
 
@@ -39,20 +40,21 @@ returns-in-Void-clause-reads c = λ ps b rest e. on ps b rest e
           reader = c.skip.ensures ∙ ap (λ ts. at_tokens c.args.reader.now (behind_first ts)) e;
         },
       )
-      on (int_parameters a x k ms) b rest e h = absurd cc
+      on (some_parameters p ms) b rest e h =
+          let k = sym (parameter_begins p (onto_more_parameters ms (token right_paren b ∷ rest))) ∙ sym h in cc
 
-pub returns-in_err-parameter-in-Int-clause-reads : goal.returns-in_err-parameter-in-Int-clause-reads
-returns-in_err-parameter-in-Int-clause-reads c = λ ps b rest e. on ps b rest e
-    (sym (ap start_of c.in-Int.is) ∙ c.coming.ensures ∙ ap (λ ts. start_in (first_kind ts)) e) where
+pub returns-in_err-parameter-in-Type-clause-reads : goal.returns-in_err-parameter-in-Type-clause-reads
+returns-in_err-parameter-in-Type-clause-reads c = λ ps b rest e. on ps b rest e
+    (sym (ap start_of c.in-Type.is) ∙ c.coming.ensures ∙ ap (λ ts. start_in (first_kind ts)) e) where
       on : (ps : Parameters) (b : ℕ) (rest : List Token) → c.args.reader.now.ahead ≡ onto_parameters ps (token right_paren b ∷ rest)
-          → an_int ≡ start_in (first_kind (onto_parameters ps (token right_paren b ∷ rest)))
+          → a_type ≡ start_in (first_kind (onto_parameters ps (token right_paren b ∷ rest)))
           → Answers {A = Unit {0}} (λ _ r. WasRead c.args.reader.now.integers c.args.reader.now.variables
           (token right_paren b ∷ rest) c.args.reader.now
           c.parameter.new.reader c.parameter.new.known c.args.out.now.items c.parameter.new.out.items r) c.from_residual.result
           (read_parameters c.args.reader.now.integers (line_at c.args.reader.now.text) c.args.known.now ps)
       on no_parameters b rest e h = absurd cc
       on (void_parameters a) b rest e h = absurd cc
-      on (int_parameters a x k ms) b rest e h =
+      on (some_parameters p ms) b rest e h =
           let old : Reading = c.args.reader.now in
           let integers : Integers = old.integers in
           let n : ℕ = old.variables in
@@ -60,31 +62,26 @@ returns-in_err-parameter-in-Int-clause-reads c = λ ps b rest e. on ps b rest e
           let st : State = c.args.known.now in
           let w : List Token = token right_paren b ∷ rest in
           let ts : List Token = onto_more_parameters ms w in
-          let us : List Token = token (a_name x) k ∷ ts in
-          let s : Stop = c.in_err-parameter-in-Int.field-0.0 in
-          let mid : c.skip-in-Int.new.self ≡ at_tokens old us = c.skip-in-Int.ensures ∙ ap (λ ts. at_tokens old (behind_first ts)) e in
-          let P : Reading → Type 0 = λ m. Answers {A =
-          Unit {0}} (λ _ r. WasRead m.integers m.variables ts m c.parameter.new.reader c.parameter.new.known
-          c.args.out.now.items c.parameter.new.out.items r) (Err s) (read_parameter m.integers (line_at m.text) st x k) in
-          let q : P (at_tokens old us) = subst P mid (c.in_err-parameter-in-Int.ensures.reads x k ts (ap (λ (r : Reading). r.ahead) mid)) in
-          err_then {A = Unit {0}} (λ _ r. WasRead integers n ts (at_tokens old us) c.parameter.new.reader c.parameter.new.known
+          let s : Stop = c.in_err-parameter-in-Type.field-0.0 in
+          err_then {A = Unit {0}} (λ _ r. WasRead integers n ts old c.parameter.new.reader c.parameter.new.known
           c.args.out.now.items c.parameter.new.out.items r)
           (λ (u : Unit {0}) r. WasRead integers n w old c.parameter.new.reader c.parameter.new.known
-          c.args.out.now.items c.parameter.new.out.items r) c.from_residual.result s (read_parameter integers line st x k)
-          (λ r. read_more_parameters integers line r.0 ms >>= λ q. Ok (q.0, followed_by r.1 q.1)) c.from_residual.ensures.1 q
+          c.args.out.now.items c.parameter.new.out.items r) c.from_residual.result s (read_parameter integers line st p)
+          (λ r. read_more_parameters integers line r.0 ms >>= λ q. Ok (q.0, followed_by r.1 q.1)) c.from_residual.ensures.1
+          (c.in_err-parameter-in-Type.ensures.reads p ts e (parameter_follows ms b rest))
 
-pub returns-in_ok-parameter-in-Int-clause-reads : goal.returns-in_ok-parameter-in-Int-clause-reads
-returns-in_ok-parameter-in-Int-clause-reads c = λ ps b rest e. on ps b rest e
-    (sym (ap start_of c.in-Int.is) ∙ c.coming.ensures ∙ ap (λ ts. start_in (first_kind ts)) e) where
+pub returns-in_ok-parameter-in-Type-clause-reads : goal.returns-in_ok-parameter-in-Type-clause-reads
+returns-in_ok-parameter-in-Type-clause-reads c = λ ps b rest e. on ps b rest e
+    (sym (ap start_of c.in-Type.is) ∙ c.coming.ensures ∙ ap (λ ts. start_in (first_kind ts)) e) where
       on : (ps : Parameters) (b : ℕ) (rest : List Token) → c.args.reader.now.ahead ≡ onto_parameters ps (token right_paren b ∷ rest)
-          → an_int ≡ start_in (first_kind (onto_parameters ps (token right_paren b ∷ rest)))
+          → a_type ≡ start_in (first_kind (onto_parameters ps (token right_paren b ∷ rest)))
           → Answers {A = Unit {0}} (λ _ r. WasRead c.args.reader.now.integers c.args.reader.now.variables
           (token right_paren b ∷ rest) c.args.reader.now
           c.more_parameters.new.reader c.more_parameters.new.known c.args.out.now.items c.more_parameters.new.out.items r)
           c.more_parameters.result (read_parameters c.args.reader.now.integers (line_at c.args.reader.now.text) c.args.known.now ps)
       on no_parameters b rest e h = absurd cc
       on (void_parameters a) b rest e h = absurd cc
-      on (int_parameters a x k ms) b rest e h =
+      on (some_parameters p ms) b rest e h =
           let old : Reading = c.args.reader.now in
           let integers : Integers = old.integers in
           let n : ℕ = old.variables in
@@ -92,19 +89,14 @@ returns-in_ok-parameter-in-Int-clause-reads c = λ ps b rest e. on ps b rest e
           let st : State = c.args.known.now in
           let w : List Token = token right_paren b ∷ rest in
           let ts : List Token = onto_more_parameters ms w in
-          let us : List Token = token (a_name x) k ∷ ts in
           let res : Result (Unit {0}) Stop = c.more_parameters.result in
           let is : Unit {0} → State × Statements → Type 0 = λ _ r. WasRead integers n w old c.more_parameters.new.reader
           c.more_parameters.new.known
           c.args.out.now.items c.more_parameters.new.out.items r in
-          let mid : c.skip-in-Int.new.self ≡ at_tokens old us = c.skip-in-Int.ensures ∙ ap (λ ts. at_tokens old (behind_first ts)) e in
-          let P : Reading → Type 0 = λ m. Answers {A =
-          Unit {0}} (λ _ r. WasRead m.integers m.variables ts m c.parameter.new.reader c.parameter.new.known
-          c.args.out.now.items c.parameter.new.out.items r) (Ok tt) (read_parameter m.integers (line_at m.text) st x k) in
-          let a : P (at_tokens old us) = subst P mid (c.in_ok-parameter-in-Int.ensures.reads x k ts (ap (λ (r : Reading). r.ahead) mid)) in
-          ok_then {A = Unit {0}} (λ _ r. WasRead integers n ts (at_tokens old us) c.parameter.new.reader c.parameter.new.known
-          c.args.out.now.items c.parameter.new.out.items r) is tt res (read_parameter integers line st x k)
-          (λ r. read_more_parameters integers line r.0 ms >>= λ q. Ok (q.0, followed_by r.1 q.1)) a
+          ok_then {A = Unit {0}} (λ _ r. WasRead integers n ts old c.parameter.new.reader c.parameter.new.known
+          c.args.out.now.items c.parameter.new.out.items r) is tt res (read_parameter integers line st p)
+          (λ r. read_more_parameters integers line r.0 ms >>= λ q. Ok (q.0, followed_by r.1 q.1))
+          (c.in_ok-parameter-in-Type.ensures.reads p ts e (parameter_follows ms b rest))
           (λ r v.
           let Q : Reading → State → Type 0 = λ m k. Answers {A = Unit {0}}
           (λ _ q. WasRead m.integers m.variables w m c.more_parameters.new.reader
@@ -142,4 +134,5 @@ returns-in_default c = record {
     },
   )
   on (void_parameters a) b rest e h = absurd (c.in_default.not-Void (says_void c.coming.result h))
-  on (int_parameters a x k ms) b rest e h = absurd (c.in_default.not-Int (says_int c.coming.result h))
+  on (some_parameters p ms) b rest e h = absurd (c.in_default.not-Type (says_type c.coming.result
+      (h ∙ parameter_begins p (onto_more_parameters ms (token right_paren b ∷ rest)))))

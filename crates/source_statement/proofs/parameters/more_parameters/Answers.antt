@@ -1,6 +1,6 @@
 use Rattle.std.proofs.Common.{◌≡◌, ◌∙◌, ◌≤◌, ◌∷◌, ℕ, sym, ap, subst, arith, length, List, Ok, Err}
 use Rattle.lang_tokens.specs.Lines.{line_at}
-use Rattle.source_grammar.specs.Tokens.{Token, token, a_name, right_paren}
+use Rattle.source_grammar.specs.Tokens.{Token, token, right_paren}
 use Rattle.source_meaning.specs.Walk.{read_parameter, read_more_parameters}
 use Rattle.source_reader.specs.Answers.{Answers}
 use Rattle.source_reader.specs.Reading.{Reading, at_tokens, behind_first, first_kind, passed}
@@ -8,7 +8,7 @@ use Rattle.source_reader.specs.declared.stop.Stop.{Stop}
 use Rattle.source_reader.proofs.Going.{behind_fewer}
 use Rattle.source_change.proofs.results.Answered.{err_cases}
 use Rattle.source_change.specs.Tests.{WasRead}
-use Rattle.source_statement.specs.Onto.{onto_more_parameters}
+use Rattle.source_statement.specs.Onto.{onto_parameter, onto_more_parameters}
 use Rattle.source_statement.specs.Starts.{start_in, start_of, a_comma}
 use Rattle.source_statement.proofs.parts.Parameters.{all_left, next_left, less_left, fault_left, none_left}
 use Rattle.source_statement.proofs.parts.Starting.{says_comma}
@@ -37,21 +37,19 @@ more-preserved c = record {
       c.args.out.now.items
       c.more.out.items (c.more.invariant.left ps b rest e) h in
       let ts : List Token = onto_more_parameters x.zs (token right_paren b ∷ rest) in
-      let mid : c.skip-in-Comma.new.self ≡ at_tokens first (token (a_name x.x) x.at ∷ ts) =
-      c.skip-in-Comma.ensures ∙ ap passed c.skip.ensures ∙ x.reader in
+      let mid : c.skip.new.self ≡ at_tokens first (onto_parameter x.x ts) = c.skip.ensures ∙ x.reader in
       let P : Reading → Type 0 = λ m. Answers {A = Unit {0}} (λ _ r. WasRead m.integers m.variables ts m c.parameter.new.reader
       c.parameter.new.known
-      c.more.out.items c.parameter.new.out.items r) (Ok tt) (read_parameter m.integers (line_at m.text) c.more.known x.x x.at) in
+      c.more.out.items c.parameter.new.out.items r) (Ok tt) (read_parameter m.integers (line_at m.text) c.more.known x.x) in
       less_left first.integers (line_at first.text) n ps (token right_paren b ∷ rest) first c.more.reader c.parameter.new.reader
       c.args.known.now
       c.more.known c.parameter.new.known c.args.out.now.items c.more.out.items c.parameter.new.out.items tt x
-      (subst P mid (c.in_ok-parameter.ensures.reads x.x x.at ts (ap (λ (r : Reading). r.ahead) mid)));
+      (subst P mid (c.in_ok-parameter.ensures.reads x.x ts (ap (λ (r : Reading). r.ahead) mid) x.follow));
   fewer =
       let a = less c.more.reader c.skip.new.self c.skip.ensures in
-      let b = less c.skip.new.self c.skip-in-Comma.new.self c.skip-in-Comma.ensures in
       let d = c.in_ok-parameter.ensures.shorter in
       let i = c.more.invariant.fewer in
-      omega (arith, a, b, d, i);
+      omega (arith, a, d, i);
 }
 
 pub returns-in_err-parameter-clause-reads : goal.returns-in_err-parameter-clause-reads
@@ -65,13 +63,12 @@ returns-in_err-parameter-clause-reads c = λ ps b rest e.
     let x = next_left integers line n ps b rest first c.more.reader c.args.known.now c.more.known c.args.out.now.items
     c.more.out.items (c.more.invariant.left ps b rest e) h in
     let ts : List Token = onto_more_parameters x.zs w in
-    let mid : c.skip-in-Comma.new.self ≡ at_tokens first (token (a_name x.x) x.at ∷ ts) =
-    c.skip-in-Comma.ensures ∙ ap passed c.skip.ensures ∙ x.reader in
+    let mid : c.skip.new.self ≡ at_tokens first (onto_parameter x.x ts) = c.skip.ensures ∙ x.reader in
     let s : Stop = c.in_err-parameter.field-0.0 in
     let P : Reading → Type 0 = λ m. Answers {A = Unit {0}} (λ _ r. WasRead m.integers m.variables ts m c.parameter.new.reader
     c.parameter.new.known
-    c.more.out.items c.parameter.new.out.items r) (Err s) (read_parameter m.integers (line_at m.text) c.more.known x.x x.at) in
-    let a = subst P mid (c.in_err-parameter.ensures.reads x.x x.at ts (ap (λ (r : Reading). r.ahead) mid)) in
+    c.more.out.items c.parameter.new.out.items r) (Err s) (read_parameter m.integers (line_at m.text) c.more.known x.x) in
+    let a = subst P mid (c.in_err-parameter.ensures.reads x.x ts (ap (λ (r : Reading). r.ahead) mid) x.follow) in
     err_cases {A = Unit {0}} (λ _ r. WasRead integers n w first c.parameter.new.reader c.parameter.new.known c.args.out.now.items
     c.parameter.new.out.items r) c.from_residual.result s (read_more_parameters integers line c.args.known.now ps) c.from_residual.ensures.1
     (λ t k. fault_left integers line n {A = Unit {0}} (λ _ r. WasRead integers n w first c.parameter.new.reader c.parameter.new.known

@@ -3,7 +3,7 @@ use Rattle.source_grammar.specs.Tokens.{Token}
 use Rattle.source_grammar.specs.Grammar.{Specifiers, gives_int, gives_void, storage, FunctionName, called, called_main, spell_function_name}
 use Rattle.source_reader.specs.Reading.{Reading, at_tokens, first_kind, passed}
 use Rattle.source_statement.specs.Onto.{onto_specifiers}
-use Rattle.source_statement.specs.Starts.{start_in, start_of, a_storage, an_int, a_void}
+use Rattle.source_statement.specs.Starts.{start_in, start_of, a_storage, a_type, a_void}
 use Rattle.source_statement.proofs.parts.Read.{at_first}
 use Rattle.source_statement.proofs.parts.Starting.{says_storage}
 use Rattle.source_statement.proofs.parameters.pass_name.Goals as goal
@@ -20,7 +20,7 @@ storage-preserved c = record {
   on : (now : Specifiers) (w : List Token) → c.storage.reader ≡ at_tokens c.args.reader.now (onto_specifiers now w)
       → (x : Specifiers) × (c.skip.new.self ≡ at_tokens c.args.reader.now (onto_specifiers x w))
   on (gives_int a) w e =
-      let h : a_storage ≡ an_int = sym (ap start_of c.in-Storage.is) ∙ c.coming.ensures
+      let h : a_storage ≡ a_type = sym (ap start_of c.in-Storage.is) ∙ c.coming.ensures
       ∙ ap (λ (r : Reading). start_in (first_kind r.ahead)) e in absurd cc
   on (gives_void a) w e =
       let h : a_storage ≡ a_void = sym (ap start_of c.in-Storage.is) ∙ c.coming.ensures

@@ -1,7 +1,7 @@
 use Rattle.std.proofs.Common.{◌≡◌, ◌∙◌, ◌∷◌, ◌++◌, ℕ, List, Ok, refl, sym, ap, ap₂, subst}
 use Rattle.lang_tokens.specs.Lines.{line_at}
 use Rattle.source_grammar.specs.Tokens as g
-use Rattle.source_grammar.specs.Tokens.{Token, token, a_name, left_paren, right_paren, semicolon, jump_word, demand_word}
+use Rattle.source_grammar.specs.Tokens.{Name, Token, token, a_name, left_paren, right_paren, semicolon, jump_word, demand_word}
 use Rattle.source_grammar.specs.Symbols.{jump_of, demand_of}
 use Rattle.source_grammar.specs.Grammar.{Core, GoodCore, empty, jumps, returns, demands, calls, updates, update, place, step_before}
 use Rattle.source_grammar.specs.Grammar.{spell_expr, spell_arguments}
@@ -17,7 +17,7 @@ use Rattle.source_statement.specs.Onto.{onto_core}
 use Rattle.source_statement.specs.Parts.{IsSimple}
 use Rattle.source_statement.specs.Starts.{start_in, start_of, a_semicolon, a_jump, a_return, a_demand, a_name as begins_name}
 use Rattle.source_statement.proofs.parts.Named.{taken_is}
-use Rattle.source_statement.proofs.parts.Pushed.{none_pushed}
+use Rattle.source_change.proofs.lists.Pushed.{none_pushed}
 use Rattle.source_statement.proofs.parts.Read.{same_read}
 use Rattle.source_statement.proofs.parts.Simple.{begins, core_begins, says_return, says_name, says_jump, says_demand}
 use Rattle.source_statement.proofs.parts.Starting.{says_semicolon}
@@ -140,7 +140,7 @@ pub returns-in_ok-first-in-Name-clause-reads : goal.returns-in_ok-first-in-Name-
 returns-in_ok-first-in-Name-clause-reads c = λ x rest s g e. on x rest g e
     (sym (ap start_of c.in-Name.is) ∙ c.coming.ensures ∙ ap (λ ts. start_in (first_kind ts)) e ∙ core_begins x rest s) where
       -- what it begins is read behind it
-      named : (x : List ℕ) (a : ℕ) (ts : List Token) (y : Core) (rest : List Token) → GoodCore y → c.args.reader.now.ahead
+      named : (x : Name) (a : ℕ) (ts : List Token) (y : Core) (rest : List Token) → GoodCore y → c.args.reader.now.ahead
           ≡ token (a_name x) a ∷ ts → token (a_name x) a ∷ ts ≡ onto_core y rest
           → Answers {A = Unit {0}} (λ _ r. WasRead c.args.reader.now.integers c.args.reader.now.variables rest c.args.reader.now
           c.named_statement.new.reader

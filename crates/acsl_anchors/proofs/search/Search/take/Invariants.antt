@@ -7,7 +7,7 @@ abbrev pub invariant-loop-goal : goal.invariant-loop-goal
 invariant-loop-goal l =
     (step (stack_of l.fn.self.goals.items) l.part l.at (scope_in l.fn.self) l.fn.self.anchors.items
     ≡ step (stack_of l.self.goals.items) l.part l.at (scope_in l.self) l.self.anchors.items)
-    × (l.self.declared ≡ l.fn.self.declared)
+    × (length l.self.variables.items ≡ length l.fn.self.variables.items)
 
 abbrev pub decreases-loop-goal : goal.decreases-loop-goal
 decreases-loop-goal l = length l.self.goals.items

@@ -1,7 +1,6 @@
-use Rattle.std.proofs.Common.{ap, ap₂, sym, ◌∙◌, ◌++◌, ◌∷◌, [], arith, rules, length, List, ℕ, ◌≡◌, ◌<◌, true, false, subst}
-use Rattle.std.specs.Prelude.{is_some}
+use Rattle.std.proofs.Common.{ap, sym, ◌∙◌, ◌++◌, ◌∷◌, [], arith, rules, length, List, ℕ, ◌≡◌, ◌<◌, true, subst}
 use Rattle.std.proofs.lemmas.List.{length-append}
-use Rattle.source_meaning.specs.Names.{Named, declared}
+use Rattle.source_meaning.specs.Names.{Named}
 use Rattle.source_names.specs.declared.entry.Entry.{Entry}
 use Rattle.source_names.specs.Entries.{names_in, named_of, HavePlaces}
 use Rattle.source_names.proofs.entries.Texts.{reverse_pushed}
@@ -15,19 +14,17 @@ long xs x ys n e f h = let k = ap length e ∙ length-append xs (x ∷ []) in om
 
 pub invariant_of-self-in-Ok : goal.invariant_of-self-in-Ok
 invariant_of-self-in-Ok c =
-    let e : Entry = record { name = c.again.result; thing = c.args.thing; is_known = true } in
+    let e : Entry = record { name = c.again.result; kept = c.args.kept; is_known = true } in
     let items : c.push.new.self.items ≡ c.self.inside.list.items ++ e ∷ [] = c.in_ok-push.ensures.items in
     let names : names_in c.push.new.self.items ≡ named_of e ∷ names_in c.self.inside.list.items =
     ap names_in items ∙ reverse_pushed named_of c.self.inside.list.items e in
     let len : c.len.result ≡ length c.self.inside.list.items = search rules in
     let place : c.len-place.result ≡ length (names_in c.self.inside.list.items) =
     (let l : c.len-place.result ≡ length c.self.inside.list.items = search rules in l ∙ sym (length_names c.self.inside.list.items)) in
-    let absent : is_some (declared e.name (names_in c.self.inside.list.items)) ≡ false =
-    ap₂ (λ x ns. is_some (declared x ns)) c.again.ensures c.self.view_is ∙ c.requires in
     let key : c.in_ok-key.key.items ≡ e.name = c.in_ok-key.ensures.items ∙ c.bytes.ensures.bytes ∙ sym c.again.ensures in
     let have = have_new c.self.inside.places.entries c.insert.new.self.entries (names_in c.self.inside.list.items)
     c.in_ok-key.key (named_of e)
-    c.len-place.result c.self.invariant.0 key place absent c.in-Ok.ensures.entries in
+    c.len-place.result c.self.invariant.0 key place c.in-Ok.ensures.entries in
     let P : List Named → Type 0 = λ ns. HavePlaces c.insert.new.self.entries ns in (
       subst P (sym names) have,
       long c.self.inside.list.items e c.push.new.self.items c.len.result items len c.if-len.false,

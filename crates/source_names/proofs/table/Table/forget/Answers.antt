@@ -1,4 +1,4 @@
-use Rattle.std.proofs.Common.{◌≡◌, ◌∙◌, ap, sym, arith, length, ◌<◌, ℕ, List}
+use Rattle.std.proofs.Common.{◌∙◌, ap, sym, arith, length}
 use Rattle.std.specs.Prelude.{◌-◌}
 use Rattle.source_names.specs.Entries.{names_in, place_of}
 use Rattle.source_names.proofs.entries.Places.{place_forgotten}

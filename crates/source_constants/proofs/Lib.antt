@@ -1,0 +1,3 @@
+pub mod enumerations
+pub mod directives
+pub mod placing

@@ -1,0 +1,5 @@
+pub mod Parts
+pub mod Directives
+pub mod Enumerations
+pub mod Items
+pub mod Definitions
