@@ -1,7 +1,8 @@
 -- Statements of C without their lines and without the places of their tokens.
 use Rattle.std.specs.Prelude.{map}
 use Rattle.source_tree.specs.Expressions.{Expression, Expressions, number, variable, unknown, call, element, grouped, negative, positive}
-use Rattle.source_tree.specs.Expressions.{inverse, joined, compared, both, either, chosen, none, more, Subscripts, no_subscript, subscript}
+use Rattle.source_tree.specs.Expressions.{stepped, inverse, joined, compared, both, either, chosen, none, more}
+use Rattle.source_tree.specs.Expressions.{Subscripts, no_subscript, subscript}
 use Rattle.source_tree.specs.Statements.{Change, sets, evaluates, LoopKind, while_loop, for_loop, do_loop}
 use Rattle.source_tree.specs.Statements.{Statement, Statements, declares, changes, assumes, asserts, never, branch, loop, jump, label, nil}
 use Rattle.source_tree.specs.Statements.{cons}
@@ -14,6 +15,7 @@ abbrev mutual
   expression_without (unknown at) = unknown 0
   expression_without (call es at) = call (expressions_without es) 0
   expression_without (element is at) = element (subscripts_without is) 0
+  expression_without (stepped direction moment i sign at) = stepped direction moment i 0 0
   expression_without (grouped at e) = grouped 0 (expression_without e)
   expression_without (negative at e) = negative 0 (expression_without e)
   expression_without (positive at e) = positive 0 (expression_without e)

@@ -1,5 +1,6 @@
 pub mod Work
 pub mod Reach
+pub mod Passing
 pub mod Steps
 pub mod Simulated
 pub mod Runs

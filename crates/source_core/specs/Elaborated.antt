@@ -17,8 +17,10 @@ use Rattle.base_integers.specs.declared.integers.Integers.TheVariants.{Mathemati
 use Rattle.base_integers.specs.Integers.{greatest}
 use Rattle.source_tree.specs.Expressions.{Operation, plus, minus, times, over, remainder}
 use Rattle.source_tree.specs.Expressions.{Expression, Expressions, number, variable, unknown, call, element, grouped, negative, positive}
-use Rattle.source_tree.specs.Expressions.{inverse, joined, compared, both, either, chosen, none, more}
+use Rattle.source_tree.specs.Expressions.{stepped, inverse, joined, compared, both, either, chosen, none, more}
 use Rattle.source_tree.specs.Expressions.{Extent, endless, elements, Subscripts, no_subscript, subscript}
+use Rattle.source_tree.specs.Expressions.{Direction, up, down, Moment, before, behind}
+use Rattle.source_tree.specs.Values.{step_by}
 use Rattle.source_core.specs.Forms as form
 use Rattle.source_core.specs.Forms.{constant_form, variable_form, opposite, scaled, is_constant}
 use Rattle.source_core.specs.Preludes.{all_under}
@@ -127,6 +129,12 @@ operation_held width over f g r = if is_divisor g then is_held width r else is_d
 operation_held width remainder f g r =
     if is_divisor g then (if int_eq g.constant (negsuc 0) then is_held width (opposite f) else is_held width r) else is_divided width f g
 
+-- the value of a step behind it: that of the variable, or what the variable had before
+abbrev pub step_form : Direction → Moment → (var : ℕ) → Form
+step_form direction before i = variable_form i
+step_form up behind i = form.minus (variable_form i) (constant_form (pos 1))
+step_form down behind i = form.plus (variable_form i) (constant_form (pos 1))
+
 -- the form of a result that is one
 abbrev pub form_in : Result → Form
 form_in (a_form f) = f
@@ -234,6 +242,12 @@ module _ (integers : Integers) (line : ℕ) where
   abbrev pub operation_on : Operation → (sign : ℕ) → List Deed → ℕ → Form → Form → Elaborated
   operation_on o sign ds h f g = ranged sign (λ width r. operation_held width o f g r) (operated o sign ds h f g)
 
+  -- a step of a variable: the operation with its check, and the variable takes its result
+  abbrev pub step_behind : Direction → Moment → (var sign : ℕ) → ℕ → Elaborated
+  step_behind direction moment i sign h =
+      let a = operation_on (step_by direction) sign [] h (variable_form i) (constant_form (pos 1)) in
+      form_behind (a.prelude ++ tree.sets i (form_in a.result) line ∷ []) a.next (step_form direction moment i)
+
   abbrev mutual
     -- hidden variables are taken in order from h, operands read from the left, each with all of its prelude before the next
     pub elaborated : Expression → ℕ → Elaborated
@@ -242,6 +256,7 @@ module _ (integers : Integers) (line : ℕ) where
     elaborated (unknown at) h = record { prelude = []; result = any; next = h }
     elaborated (call es at) h = record { prelude = (evaluated es h).prelude; result = any; next = (evaluated es h).next }
     elaborated (element is at) h = record { prelude = (indexed is h).prelude; result = any; next = (indexed is h).next }
+    elaborated (stepped direction moment i sign at) h = step_behind direction moment i sign h
     elaborated (grouped at e) h = elaborated e h
     elaborated (negative at e) h =
         let a = numbered (elaborated e h) in ranged at is_held (form_behind a.prelude a.next (opposite a.form))

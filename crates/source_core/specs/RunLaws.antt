@@ -1,80 +1,99 @@
 -- What runs of the core keep of those of functions of C.
-use Rattle.std.specs.Prelude.{◌≡◌, ℕ, Bool, true, List, ◌&&◌, nat_lt, IsTrue, Contains}
+use Rattle.std.specs.Prelude.{◌≡◌, ◌+◌, ◌==◌, ℕ, Bool, true, List, ◌&&◌, nat_lt, IsTrue, Contains, if◌then◌else◌}
 use Rattle.std.specs.List.{list_all}
 use Rattle.lang_tree.specs.declared.check.Check.{Check}
 use Rattle.lang_tree.specs.Tree.{Condition}
 use Rattle.lang_tree.specs.Runs as core
 use Rattle.base_integers.specs.declared.integers.Integers.{Integers}
 use Rattle.base_integers.specs.declared.integers.Integers.TheVariants.{Mathematical}
+use Rattle.source_tree.specs.Expressions.{Expression}
 use Rattle.source_tree.specs.Statements.{Change, sets, evaluates, LoopKind, while_loop, for_loop, do_loop}
 use Rattle.source_tree.specs.Statements.{Statement, Statements, declares, changes, assumes, asserts, never, branch, loop, jump, label, nil}
 use Rattle.source_tree.specs.Statements.{cons}
 use Rattle.source_core.specs.Laws.{AreIn, is_over, are_over, is_exact, are_exact}
+use Rattle.source_core.specs.Laws.{occurrences, occurrences_in, all_steps, all_steps_in}
+use Rattle.source_core.specs.Laws.{are_steps_certain, are_steps_certain_in, steps_apart}
 use Rattle.source_core.specs.Core.{core_in}
 use Rattle.source_core.specs.SourceRuns.{Configuration, IsRun, IsAt, CheckIsTrue}
+
+-- what is asked of the variables that are declared without a value, of the changes, and of the conditions of statements
+pub record Test : Type 0 where
+  pub declared : (var : ℕ) → Bool
+  pub changed : Change → Bool
+  pub tested : (line : ℕ) → Expression → Bool
+
+module _ (test : Test) where
+  -- the changes of a `for` pass
+  abbrev pub kind_passes : LoopKind → Bool
+  kind_passes while_loop = true
+  kind_passes (for_loop gs) = list_all test.changed gs
+  kind_passes do_loop = true
+
+  abbrev mutual
+    -- what a statement declares, its changes and its conditions pass
+    pub passes : Statement → Bool
+    passes (declares var line) = test.declared var
+    passes (changes g) = test.changed g
+    passes (assumes e line) = test.tested line e
+    passes (asserts e at line) = test.tested line e
+    passes (never at line) = true
+    passes (branch e first second line) = test.tested line e && (all_pass first && all_pass second)
+    passes (loop kind e body line) = kind_passes kind && (test.tested line e && all_pass body)
+    passes (jump kind line) = true
+    passes (label name line) = true
+
+    -- those of statements in order pass
+    pub all_pass : Statements → Bool
+    all_pass nil = true
+    all_pass (cons s ss) = passes s && all_pass ss
 
 -- a change has no variables but the first n
 abbrev pub is_change_over : ℕ → Change → Bool
 is_change_over n (sets var e line) = nat_lt var n && is_over n e
 is_change_over n (evaluates es line) = are_over n es
 
--- nor have the changes of a `for`
-abbrev pub is_kind_over : ℕ → LoopKind → Bool
-is_kind_over n while_loop = true
-is_kind_over n (for_loop gs) = list_all (is_change_over n) gs
-is_kind_over n do_loop = true
+-- no variables but the first n
+abbrev pub over_test : ℕ → Test
+over_test n = record { declared = λ var. nat_lt var n; changed = is_change_over n; tested = λ line e. is_over n e }
 
-abbrev mutual
-  -- a statement has no variables but the first n
-  pub is_statement_over : ℕ → Statement → Bool
-  is_statement_over n (declares var line) = nat_lt var n
-  is_statement_over n (changes g) = is_change_over n g
-  is_statement_over n (assumes e line) = is_over n e
-  is_statement_over n (asserts e at line) = is_over n e
-  is_statement_over n (never at line) = true
-  is_statement_over n (branch e first second line) = is_over n e && (are_statements_over n first && are_statements_over n second)
-  is_statement_over n (loop kind e body line) = is_kind_over n kind && (is_over n e && are_statements_over n body)
-  is_statement_over n (jump kind line) = true
-  is_statement_over n (label name line) = true
+-- a statement has no variables but the first n
+abbrev pub is_statement_over : ℕ → Statement → Bool
+is_statement_over n s = passes (over_test n) s
 
-  -- nor has any of these
-  pub are_statements_over : ℕ → Statements → Bool
-  are_statements_over n nil = true
-  are_statements_over n (cons s ss) = is_statement_over n s && are_statements_over n ss
+-- nor has any of these
+abbrev pub are_statements_over : ℕ → Statements → Bool
+are_statements_over n ss = all_pass (over_test n) ss
+
+-- C comes to each step in a change, and a variable of which a step stands there occurs once, its target counted
+abbrev pub is_change_apart : Change → Bool
+is_change_apart (sets var e line) = all_steps (λ i. (if var == i then 1 else 0) + occurrences i e == 1) e && are_steps_certain e
+is_change_apart (evaluates es line) = all_steps_in (λ i. occurrences_in i es == 1) es && are_steps_certain_in es
+
+-- so in each change and each condition
+abbrev pub apart_test : Test
+apart_test = record { declared = λ var. true; changed = is_change_apart; tested = λ line e. steps_apart e }
+
+-- so in those of statements
+abbrev pub are_statements_apart : Statements → Bool
+are_statements_apart ss = all_pass apart_test ss
 
 -- the operations of a change have the values that they have by C, and no more
 abbrev pub is_change_exact : ℕ → Change → Bool
 is_change_exact n (sets var e line) = is_exact line e n
 is_change_exact n (evaluates es line) = are_exact line es n
 
--- those of the changes of a `for`
-abbrev pub is_kind_exact : ℕ → LoopKind → Bool
-is_kind_exact n while_loop = true
-is_kind_exact n (for_loop gs) = list_all (is_change_exact n) gs
-is_kind_exact n do_loop = true
+-- so those of each change and each condition
+abbrev pub exact_test : ℕ → Test
+exact_test n = record { declared = λ var. true; changed = is_change_exact n; tested = λ line e. is_exact line e n }
 
-abbrev mutual
-  -- those of a statement
-  pub is_statement_exact : ℕ → Statement → Bool
-  is_statement_exact n (declares var line) = true
-  is_statement_exact n (changes g) = is_change_exact n g
-  is_statement_exact n (assumes e line) = is_exact line e n
-  is_statement_exact n (asserts e at line) = is_exact line e n
-  is_statement_exact n (never at line) = true
-  is_statement_exact n (branch e first second line) =
-      is_exact line e n && (are_statements_exact n first && are_statements_exact n second)
-  is_statement_exact n (loop kind e body line) = is_kind_exact n kind && (is_exact line e n && are_statements_exact n body)
-  is_statement_exact n (jump kind line) = true
-  is_statement_exact n (label name line) = true
-
-  -- those of statements in order
-  pub are_statements_exact : ℕ → Statements → Bool
-  are_statements_exact n nil = true
-  are_statements_exact n (cons s ss) = is_statement_exact n s && are_statements_exact n ss
+-- so those of statements
+abbrev pub are_statements_exact : ℕ → Statements → Bool
+are_statements_exact n ss = all_pass (exact_test n) ss
 
 -- for each run of a source program there is a run of its core that is at the same points in the same states of its variables
 abbrev pub RunsAreKept : Type 0
-RunsAreKept = (integers : Integers) (n : ℕ) (body : Statements) → IsTrue (are_statements_over n body) → (run : List Configuration)
+RunsAreKept = (integers : Integers) (n : ℕ) (body : Statements) → IsTrue (are_statements_over n body)
+    → IsTrue (are_statements_apart body) → (run : List Configuration)
     → IsRun integers n body run
     → (kept : List core.Configuration) × core.IsRun n (core_in integers n body) kept
     × ((c : Configuration) → Contains run c → (p : ℕ) → IsAt c p
@@ -82,7 +101,8 @@ RunsAreKept = (integers : Integers) (n : ℕ) (body : Statements) → IsTrue (ar
 
 -- a check that is true in each run of the core, whatever its condition there, is true in each run of the source
 abbrev pub ChecksAreKept : Type 0
-ChecksAreKept = (integers : Integers) (n : ℕ) (body : Statements) → IsTrue (are_statements_over n body) → (about : Check)
+ChecksAreKept = (integers : Integers) (n : ℕ) (body : Statements) → IsTrue (are_statements_over n body)
+    → IsTrue (are_statements_apart body) → (about : Check)
     → ((run : List core.Configuration) → core.IsRun n (core_in integers n body) run → (cond : Condition) → core.CheckIsTrue about cond run)
     → (run : List Configuration) → IsRun integers n body run → CheckIsTrue integers about run
 
@@ -99,7 +119,8 @@ StatesAreInRange = (integers : Integers) (n : ℕ) (body : Statements) → IsTru
 -- the other way round where operations are exact: for each run of the core there is a run of the source that is at the same points in the
 -- same states
 abbrev pub RunsAreExact : Type 0
-RunsAreExact = (n : ℕ) (body : Statements) → IsTrue (are_statements_over n body) → IsTrue (are_statements_exact n body)
+RunsAreExact = (n : ℕ) (body : Statements) → IsTrue (are_statements_over n body) → IsTrue (are_statements_apart body)
+    → IsTrue (are_statements_exact n body)
     → (run : List core.Configuration) → core.IsRun n (core_in Mathematical n body) run
     → (kept : List Configuration) × IsRun Mathematical n body kept
     × ((d : core.Configuration) → Contains run d → (p : ℕ) → core.IsAt d p

@@ -28,8 +28,8 @@ pub data Item : Type 0 where
 
 -- a change may lead from one state to another
 abbrev pub Changes : Integers → Change → State → State → Type 0
-Changes integers (sets var e line) x y = (z : ℤ) × May integers e x z × (y ≡ put (pos 0) x var z)
-Changes integers (evaluates es line) x y = AllMay integers es x × (y ≡ x)
+Changes integers (sets var e line) x y = (z : ℤ) × (u : State) × May integers e x z u × (y ≡ put (pos 0) u var z)
+Changes integers (evaluates es line) x y = AllMay integers es x y
 
 -- the work past the innermost loop
 abbrev pub past_loop : List Item → List Item
@@ -106,19 +106,19 @@ module _ (integers : Integers) (n : ℕ) where
   Does exit (change g) rest x work y = (work ≡ rest) × Changes integers g x y
   Does exit (node (declares var line) m) rest x work y = (z : ℤ) × Has integers z × (work ≡ rest) × (y ≡ put (pos 0) x var z)
   Does exit (node (changes g) m) rest x work y = (work ≡ rest) × Changes integers g x y
-  Does exit (node (assumes e line) m) rest x work y = (z : ℤ) × May integers e x z × (z ≢ pos 0)
-      × (work ≡ (if splits (condition_of integers n line e).condition then mark m ∷ rest else rest)) × (y ≡ x)
-  Does exit (node (asserts e at line) m) rest x work y = (z : ℤ) × May integers e x z × (z ≢ pos 0) × (work ≡ rest) × (y ≡ x)
+  Does exit (node (assumes e line) m) rest x work y = (z : ℤ) × May integers e x z y × (z ≢ pos 0)
+      × (work ≡ (if splits (condition_of integers n line e).condition then mark m ∷ rest else rest))
+  Does exit (node (asserts e at line) m) rest x work y = (z : ℤ) × May integers e x z y × (z ≢ pos 0) × (work ≡ rest)
   Does exit (node (never at line) m) rest x work y = (work ≡ rest) × (y ≡ x)
-  Does exit (node (branch e first second line) m) rest x work y = (z : ℤ) × (t : Bool) × May integers e x z × Tells t z
-      × (work ≡ branch_work t first second m rest) × (y ≡ x)
+  Does exit (node (branch e first second line) m) rest x work y = (z : ℤ) × (t : Bool) × May integers e x z y × Tells t z
+      × (work ≡ branch_work t first second m rest)
   Does exit (node (loop kind e body line) m) rest x work y = (work ≡ mark m ∷ head_work kind e body line m rest) × (y ≡ x)
   Does exit (node (jump breaks line) m) rest x work y = (work ≡ past_loop rest) × (y ≡ x)
   Does exit (node (jump continues line) m) rest x work y = (work ≡ end_of_body rest) × (y ≡ x)
   Does exit (node (jump returns line) m) rest x work y = (work ≡ mark exit ∷ []) × (y ≡ x)
   Does exit (node (label name line) m) rest x work y = (work ≡ mark m ∷ rest) × (y ≡ x)
-  Does exit (turn kind e body line m) rest x work y = (z : ℤ) × (t : Bool) × May integers e x z × Tells t z
-      × (work ≡ turn_work t kind e body line m rest) × (y ≡ x)
+  Does exit (turn kind e body line m) rest x work y = (z : ℤ) × (t : Bool) × May integers e x z y × Tells t z
+      × (work ≡ turn_work t kind e body line m rest)
   Does exit (end kind e body line m) rest x work y = (work ≡ end_work kind e body line m rest) × (y ≡ x)
 
 -- the work that is left, and a state
@@ -161,8 +161,8 @@ ItemBreaks integers (change g) x about = ChangeBreaks integers g x about
 ItemBreaks integers (node (declares var line) m) x about = ⊥
 ItemBreaks integers (node (changes g) m) x about = ChangeBreaks integers g x about
 ItemBreaks integers (node (assumes e line) m) x about = Breaks integers e x about
-ItemBreaks integers (node (asserts e at line) m) x about = Breaks integers e x about ⊎ (May integers e x (pos 0)
-    × (about ≡ record { kind = Assert; at = at }))
+ItemBreaks integers (node (asserts e at line) m) x about = Breaks integers e x about
+    ⊎ ((y : State) × May integers e x (pos 0) y × (about ≡ record { kind = Assert; at = at }))
 ItemBreaks integers (node (never at line) m) x about = about ≡ record { kind = Error; at = at }
 ItemBreaks integers (node (branch e first second line) m) x about = Breaks integers e x about
 ItemBreaks integers (node (loop kind e body line) m) x about = ⊥

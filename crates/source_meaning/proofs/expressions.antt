@@ -1,3 +1,4 @@
 pub mod Over
 pub mod Within
 pub mod Fits
+pub mod Stepless

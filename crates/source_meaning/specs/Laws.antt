@@ -7,7 +7,7 @@ use Rattle.lang_tree.specs.Tree.{Condition}
 use Rattle.lang_tree.specs.Runs as core
 use Rattle.source_grammar.specs.Grammar.{Function}
 use Rattle.source_tree.specs.Statements.{Statements}
-use Rattle.source_core.specs.RunLaws.{are_statements_over}
+use Rattle.source_core.specs.RunLaws.{are_statements_over, are_statements_apart}
 use Rattle.source_core.specs.Core.{core_in}
 use Rattle.source_core.specs.SourceRuns.{Configuration, IsRun, IsAt, CheckIsTrue}
 use Rattle.source_meaning.specs.Walk.{width_of, walk}
@@ -28,6 +28,12 @@ abbrev pub NamesAreResolved : Type 0
 NamesAreResolved = (integers : Integers) (line : ℕ → ℕ) (f : Function) (names : List (List ℕ)) (body : Statements)
     → walk integers line f ≡ Ok (names, body)
     → IsTrue (are_statements_over (length names) body)
+
+-- C comes to each step in a change or a condition, and a variable of which a step stands there occurs once in it
+abbrev pub StepsAreApart : Type 0
+StepsAreApart = (integers : Integers) (line : ℕ → ℕ) (f : Function) (names : List (List ℕ)) (body : Statements)
+    → walk integers line f ≡ Ok (names, body)
+    → IsTrue (are_statements_apart body)
 
 -- no two variables have one name
 abbrev pub VariablesAreApart : Type 0

@@ -1,17 +1,19 @@
 //! Laws of what functions mean, each the contract of a function that does nothing.
 
 ghost use Rattle.source_meaning.specs.Laws.{FunctionsAreWithinLimits, FunctionsKeepChecks, FunctionsKeepRuns, HiddenAreBehind};
-ghost use Rattle.source_meaning.specs.Laws.{NamesAreResolved, VariablesAreApart, VariablesAreFew};
+ghost use Rattle.source_meaning.specs.Laws.{NamesAreResolved, StepsAreApart, VariablesAreApart, VariablesAreFew};
 
 /// The names of a function that is read are resolved to its variables (docs/MEANING.md, "Functions of C").
 ///
 /// `resolved`: each variable of its statements is one of the function's. `apart`: no two of these have one name. `few`: there is at least
-/// one, and no more than `MOST_VARIABLES`. `behind`: hidden variables are numbered from their number on.
+/// one, and no more than `MOST_VARIABLES`. `behind`: hidden variables are numbered from their number on. `steps`: where `++` or `--` stands
+/// in a change or a condition, C comes to it, and its variable occurs nowhere else in that.
 pub fn names_are_resolved()
     ensures resolved { NamesAreResolved }
     ensures apart { VariablesAreApart }
     ensures few { VariablesAreFew }
     ensures behind { HiddenAreBehind }
+    ensures steps { StepsAreApart }
 {}
 
 /// A function that is read keeps its runs in the core (docs/MEANING.md, "Functions of C").

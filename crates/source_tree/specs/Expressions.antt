@@ -16,6 +16,20 @@ pub data Operation : Type 0 where
   -- `%`
   remainder : Operation
 
+-- where a step of a variable goes
+pub data Direction : Type 0 where
+  -- `++`
+  up : Direction
+  -- `--`
+  down : Direction
+
+-- where the sign of a step stands, and so what its value is
+pub data Moment : Type 0 where
+  -- before the name: what the variable has behind the step
+  before : Moment
+  -- behind the name: what the variable had before the step
+  behind : Moment
+
 -- how many elements an array has
 pub data Extent : Type 0 where
   -- one at each index from 0 on
@@ -36,6 +50,8 @@ mutual
     call : Expressions → (at : ℕ) → Expression
     -- an element of an array, by its indexes
     element : Subscripts → (at : ℕ) → Expression
+    -- a step of a variable: its value is taken, and the variable is changed by 1
+    stepped : Direction → Moment → (var sign at : ℕ) → Expression
     -- one in parentheses
     grouped : (at : ℕ) → Expression → Expression
     -- `-e`

@@ -1,15 +1,16 @@
--- Which values an expression may have at an integer state, by C, and where an operation in it has none.
+-- Which values an expression may have at an integer state, by C, which states it leaves, and where an operation in it has no value.
 use Rattle.std.specs.Prelude.{◌≡◌, ◌≢◌, ◌⊎◌, ℕ, ℤ, pos, neg_ℤ, ◌+ℤ◌, ◌-ℤ◌, ◌*ℤ◌, ◌≤ℤ◌, ◌<ℤ◌, int_div, int_rem, Bool, true, false, get_or}
 use Rattle.lang_tree.specs.declared.cond.Rel.{Rel}
 use Rattle.lang_tree.specs.declared.check.Check.{Check}
 use Rattle.lang_tree.specs.declared.check.CheckKind.TheVariants.{Divisor, Index, Range}
-use Rattle.lang_tree.specs.Meaning.{State, Relates}
+use Rattle.lang_tree.specs.Meaning.{State, Relates, put}
 use Rattle.base_integers.specs.declared.integers.Integers.{Integers}
 use Rattle.base_integers.specs.Integers.{Has}
 use Rattle.source_tree.specs.Expressions.{Operation, plus, minus, times, over, remainder}
 use Rattle.source_tree.specs.Expressions.{Expression, Expressions, number, variable, unknown, call, element, grouped, negative, positive}
-use Rattle.source_tree.specs.Expressions.{inverse, joined, compared, both, either, chosen, none, more}
-use Rattle.source_tree.specs.Expressions.{Extent, endless, elements, Subscripts, no_subscript, subscript}
+use Rattle.source_tree.specs.Expressions.{stepped, inverse, joined, compared, both, either, chosen, none, more}
+use Rattle.source_tree.specs.Expressions.{Direction, up, down, Moment, before, behind, Extent, endless}
+use Rattle.source_tree.specs.Expressions.{elements, Subscripts, no_subscript, subscript}
 
 -- the number that a truth is
 abbrev pub truth_number : Bool → ℤ
@@ -40,6 +41,16 @@ abbrev pub IsIndex : Extent → ℤ → Type 0
 IsIndex endless i = pos 0 ≤ℤ i
 IsIndex (elements size) i = (pos 0 ≤ℤ i) × (i <ℤ pos size)
 
+-- a step is an operation with 1
+abbrev pub step_by : Direction → Operation
+step_by up = plus
+step_by down = minus
+
+-- the value of a step, which is what the variable has behind it or had before it
+abbrev pub value_at : Moment → (old new : ℤ) → ℤ
+value_at before old new = new
+value_at behind old new = old
+
 -- by these integers
 module _ (integers : Integers) where
   -- an operation on two numbers has this exact result, which is one of the integers; a remainder is taken by a quotient that is one, too
@@ -51,38 +62,45 @@ module _ (integers : Integers) where
   IsHeld remainder a b z = Has integers (int_div a b) × Has integers z
 
   abbrev mutual
-    -- the expression may have this value at the state. What isn't evaluated needs none: the right side of `&&` where the left one is
-    -- false, that of `||` where it is true, and one side of `?:`. `nondet()`, a call and an element may have any of the integers, and the
-    -- exact result of an operation has to be one of them
-    pub May : Expression → State → ℤ → Type 0
-    May (number v at) x z = (z ≡ v) × Has integers z
-    May (variable i at) x z = z ≡ get_or x i (pos 0)
-    May (unknown at) x z = Has integers z
-    May (call es at) x z = AllMay es x × Has integers z
-    May (element is at) x z = AreIndexes is x × Has integers z
-    May (grouped at e) x z = May e x z
-    May (negative at e) x z = (a : ℤ) × May e x a × (z ≡ neg_ℤ a) × Has integers z
-    May (positive at e) x z = May e x z
-    May (inverse at e) x z = (a : ℤ) × (t : Bool) × May e x a × Tells t a × (z ≡ pos 1 -ℤ truth_number t)
-    May (joined o sign e f) x z = (a b : ℤ) × May e x a × May f x b × Gives o a b z × IsHeld o a b z
-    May (compared rel sign e f) x z = (a b : ℤ) × (t : Bool) × May e x a × May f x b × Compares t rel a b × (z ≡ truth_number t)
-    May (both c d) x z =
-        (May c x (pos 0) × (z ≡ pos 0))
-        ⊎ ((a b : ℤ) × (t : Bool) × May c x a × (a ≢ pos 0) × May d x b × Tells t b × (z ≡ truth_number t))
-    May (either c d) x z =
-        ((a : ℤ) × May c x a × (a ≢ pos 0) × (z ≡ pos 1))
-        ⊎ ((b : ℤ) × (t : Bool) × May c x (pos 0) × May d x b × Tells t b × (z ≡ truth_number t))
-    May (chosen sign c e f) x z = ((a : ℤ) × May c x a × (a ≢ pos 0) × May e x z) ⊎ (May c x (pos 0) × May f x z)
+    -- from the first state the expression may have this value, and leave the second state. It is evaluated from the left, each operand in
+    -- the state that the one before leaves. What isn't evaluated needs no value: the right side of `&&` where the left one is false, that
+    -- of `||` where it is true, and one side of `?:`. `nondet()`, a call and an element may have any of the integers, and the exact result
+    -- of an operation has to be one of them
+    pub May : Expression → State → ℤ → State → Type 0
+    May (number v at) x z y = (z ≡ v) × Has integers z × (y ≡ x)
+    May (variable i at) x z y = (z ≡ get_or x i (pos 0)) × (y ≡ x)
+    May (unknown at) x z y = Has integers z × (y ≡ x)
+    May (call es at) x z y = AllMay es x y × Has integers z
+    May (element is at) x z y = AreIndexes is x y × Has integers z
+    May (stepped direction moment i sign at) x z y =
+        (w : ℤ) × Gives (step_by direction) (get_or x i (pos 0)) (pos 1) w × Has integers w
+        × (z ≡ value_at moment (get_or x i (pos 0)) w) × (y ≡ put (pos 0) x i w)
+    May (grouped at e) x z y = May e x z y
+    May (negative at e) x z y = (a : ℤ) × May e x a y × (z ≡ neg_ℤ a) × Has integers z
+    May (positive at e) x z y = May e x z y
+    May (inverse at e) x z y = (a : ℤ) × (t : Bool) × May e x a y × Tells t a × (z ≡ pos 1 -ℤ truth_number t)
+    May (joined o sign e f) x z y =
+        (u : State) × (a b : ℤ) × May e x a u × May f u b y × Gives o a b z × IsHeld o a b z
+    May (compared rel sign e f) x z y =
+        (u : State) × (a b : ℤ) × (t : Bool) × May e x a u × May f u b y × Compares t rel a b × (z ≡ truth_number t)
+    May (both c d) x z y =
+        (May c x (pos 0) y × (z ≡ pos 0))
+        ⊎ ((u : State) × (a b : ℤ) × (t : Bool) × May c x a u × (a ≢ pos 0) × May d u b y × Tells t b × (z ≡ truth_number t))
+    May (either c d) x z y =
+        ((a : ℤ) × May c x a y × (a ≢ pos 0) × (z ≡ pos 1))
+        ⊎ ((u : State) × (b : ℤ) × (t : Bool) × May c x (pos 0) u × May d u b y × Tells t b × (z ≡ truth_number t))
+    May (chosen sign c e f) x z y =
+        ((u : State) × (a : ℤ) × May c x a u × (a ≢ pos 0) × May e u z y) ⊎ ((u : State) × May c x (pos 0) u × May f u z y)
 
     -- each of them may have some value
-    pub AllMay : Expressions → State → Type 0
-    AllMay none x = Unit {0}
-    AllMay (more e es) x = ((z : ℤ) × May e x z) × AllMay es x
+    pub AllMay : Expressions → State → State → Type 0
+    AllMay none x y = y ≡ x
+    AllMay (more e es) x y = (u : State) × (z : ℤ) × May e x z u × AllMay es u y
 
     -- each index may have some value within its extent
-    pub AreIndexes : Subscripts → State → Type 0
-    AreIndexes no_subscript x = Unit {0}
-    AreIndexes (subscript extent bracket e is) x = ((i : ℤ) × May e x i × IsIndex extent i) × AreIndexes is x
+    pub AreIndexes : Subscripts → State → State → Type 0
+    AreIndexes no_subscript x y = y ≡ x
+    AreIndexes (subscript extent bracket e is) x y = (u : State) × (i : ℤ) × May e x i u × IsIndex extent i × AreIndexes is u y
 
 -- an operation of this sign has no value, since the number on its right is 0, as a check of it says
 abbrev pub DividesByZero : Operation → (sign : ℕ) → Check → ℤ → Type 0
@@ -113,30 +131,37 @@ module _ (integers : Integers) where
     Breaks (unknown at) x about = ⊥
     Breaks (call es at) x about = SomeBreaks es x about
     Breaks (element is at) x about = IndexBreaks is x about
+    Breaks (stepped direction moment i sign at) x about = Overflows (step_by direction) sign about (get_or x i (pos 0)) (pos 1)
     Breaks (grouped at e) x about = Breaks e x about
-    Breaks (negative at e) x about = Breaks e x about ⊎ ((a : ℤ) × May integers e x a × Exceeds at about (neg_ℤ a))
+    Breaks (negative at e) x about =
+        Breaks e x about ⊎ ((a : ℤ) × (u : State) × May integers e x a u × Exceeds at about (neg_ℤ a))
     Breaks (positive at e) x about = Breaks e x about
     Breaks (inverse at e) x about = Breaks e x about
     Breaks (joined o sign e f) x about =
         Breaks e x about
-        ⊎ (((a : ℤ) × May integers e x a × Breaks f x about)
-        ⊎ ((a b : ℤ) × May integers e x a × May integers f x b × Fails o sign about a b))
-    Breaks (compared rel sign e f) x about = Breaks e x about ⊎ ((a : ℤ) × May integers e x a × Breaks f x about)
-    Breaks (both c d) x about = Breaks c x about ⊎ ((a : ℤ) × May integers c x a × (a ≢ pos 0) × Breaks d x about)
-    Breaks (either c d) x about = Breaks c x about ⊎ (May integers c x (pos 0) × Breaks d x about)
+        ⊎ (((a : ℤ) × (u : State) × May integers e x a u × Breaks f u about)
+        ⊎ ((u v : State) × (a b : ℤ) × May integers e x a u × May integers f u b v × Fails o sign about a b))
+    Breaks (compared rel sign e f) x about =
+        Breaks e x about ⊎ ((a : ℤ) × (u : State) × May integers e x a u × Breaks f u about)
+    Breaks (both c d) x about =
+        Breaks c x about ⊎ ((a : ℤ) × (u : State) × May integers c x a u × (a ≢ pos 0) × Breaks d u about)
+    Breaks (either c d) x about = Breaks c x about ⊎ ((u : State) × May integers c x (pos 0) u × Breaks d u about)
     Breaks (chosen sign c e f) x about =
         Breaks c x about
-        ⊎ (((a : ℤ) × May integers c x a × (a ≢ pos 0) × Breaks e x about) ⊎ (May integers c x (pos 0) × Breaks f x about))
+        ⊎ (((a : ℤ) × (u : State) × May integers c x a u × (a ≢ pos 0) × Breaks e u about)
+        ⊎ ((u : State) × May integers c x (pos 0) u × Breaks f u about))
 
     -- one of them may, those before it having values
     pub SomeBreaks : Expressions → State → Check → Type 0
     SomeBreaks none x about = ⊥
-    SomeBreaks (more e es) x about = Breaks e x about ⊎ (((z : ℤ) × May integers e x z) × SomeBreaks es x about)
+    SomeBreaks (more e es) x about =
+        Breaks e x about ⊎ ((z : ℤ) × (u : State) × May integers e x z u × SomeBreaks es u about)
 
     -- an index may, or may leave its extent, those before it being within theirs
     pub IndexBreaks : Subscripts → State → Check → Type 0
     IndexBreaks no_subscript x about = ⊥
     IndexBreaks (subscript extent bracket e is) x about =
         Breaks e x about
-        ⊎ (((i : ℤ) × May integers e x i × ¬ (IsIndex extent i) × (about ≡ record { kind = Index; at = bracket }))
-        ⊎ (((i : ℤ) × May integers e x i × IsIndex extent i) × IndexBreaks is x about))
+        ⊎ (((i : ℤ) × (u : State) × May integers e x i u × ¬ (IsIndex extent i)
+        × (about ≡ record { kind = Index; at = bracket }))
+        ⊎ ((i : ℤ) × (u : State) × May integers e x i u × IsIndex extent i × IndexBreaks is u about))

@@ -17,7 +17,9 @@ use Rattle.source_core.specs.Elaborated.{Result, a_form, a_truth, any, Elaborate
 use Rattle.source_core.specs.Elaborated.{tested, form_behind, is_unit, is_divisor, is_index, as_number, numbered, product}
 use Rattle.source_core.specs.Elaborated.{unless_zero, quotient_by, remainder_by, operated, index_behind, choice, elaborated, evaluated}
 use Rattle.source_core.specs.Elaborated.{checked, divides, havocked, is_held, operation_held, form_in, held, ranged, number_at, has}
-use Rattle.source_core.specs.Elaborated.{indexed}
+use Rattle.source_tree.specs.Expressions.{Direction, Moment, stepped}
+use Rattle.source_tree.specs.Values.{step_by}
+use Rattle.source_core.specs.Elaborated.{indexed, step_behind, step_form}
 use Rattle.source_core.specs.Elaborated.{operation_on}
 use Rattle.source_core.specs.Core.{taken_any}
 use Rattle.acsl_shift.specs.Sources.{expression_without, expressions_without, subscripts_without}
@@ -138,6 +140,17 @@ module _ (integers : Integers) (line : ℕ) where
       ranged_bare integers line sign (λ width r. operation_held width o f g r) (operated integers line o sign ds h f g)
       ∙ ap (λ (x : Elaborated). ranged integers 0 0 (λ width r. operation_held width o f g r) x) (operated_bare o sign ds h f g)
 
+  -- a step
+  step_bare : (direction : Direction) (moment : Moment) (i sign h : ℕ)
+      → bare (step_behind integers line direction moment i sign h) ≡ step_behind integers 0 direction moment i 0 h
+  step_bare direction moment i sign h =
+      let one = constant_form (pos 1) in
+      let a = operation_on integers line (step_by direction) sign [] h (variable_form i) one in
+      let left = step_form direction moment i in
+      ap (behind (a_form left) a.next) (bare_append a.prelude (tree.sets i (form_in a.result) line ∷ []))
+      ∙ ap (λ (x : Elaborated). form_behind (x.prelude ++ tree.sets i (form_in x.result) 0 ∷ []) x.next left)
+      (operation_bare (step_by direction) sign [] h (variable_form i) one)
+
   -- an index with its check
   index_bare : (extent : Extent) (bracket : ℕ) (i j : Numbered) → bare_number i ≡ j
       → bare_evaluated (index_behind line extent bracket i) ≡ index_behind 0 extent 0 j
@@ -221,6 +234,7 @@ module _ (integers : Integers) (line : ℕ) where
     elaborated_bare (unknown at) h = refl
     elaborated_bare (call es at) h = ap (λ (x : Evaluated). behind any x.next x.prelude) (evaluated_bare es h)
     elaborated_bare (element is at) h = ap (λ (x : Evaluated). behind any x.next x.prelude) (indexed_bare is h)
+    elaborated_bare (stepped direction moment i sign at) h = step_bare direction moment i sign h
     elaborated_bare (grouped at e) h = elaborated_bare e h
     elaborated_bare (negative at e) h =
         let a = numbered integers line (elaborated integers line e h) in

@@ -8,15 +8,14 @@ use Rattle.lang_tree.specs.Runs.{left_at}
 use Rattle.source_tree.specs.Statements.{declares, changes, assumes, asserts, never, branch, loop, jump, label}
 use Rattle.source_core.specs.Preludes.{AllLeave}
 use Rattle.source_core.specs.Laws.{Agree}
-use Rattle.source_core.specs.RunLaws.{RunsAreExact}
+use Rattle.source_core.specs.RunLaws.{over_test, apart_test, exact_test, RunsAreExact}
 use Rattle.source_core.specs.SourceRuns.{Item, node, change, mark, turn, end, Configuration, Follows, IsAt, exit_of, start_work}
 use Rattle.source_core.proofs.forms.Over.{agree_refl}
 use Rattle.source_core.proofs.runs.Work.{deed_items, image, image-nodes_then}
-use Rattle.source_core.proofs.runs.Steps.{over-nodes}
+use Rattle.source_core.proofs.runs.Passing.{passing-nodes}
 use Rattle.source_core.proofs.backward.Completed.{nothing_there}
 use Rattle.source_core.proofs.backward.Items.{parts, control, number_of}
 use Rattle.source_core.proofs.runs.Runs.{Among, among-first, contains-among, among-contains, same_state, taken_ends, take-all}
-use Rattle.source_core.proofs.backward.ExactWork.{exact-nodes}
 use Rattle.source_core.proofs.backward.Middle.{Settled, Live, final_of, settle}
 use Rattle.source_core.proofs.backward.Reverse.{advances, cons_head}
 use Rattle.base_integers.specs.declared.integers.Integers.TheVariants.{Mathematical}
@@ -126,8 +125,8 @@ traced n exit s c (e ∷ es) (inr m) f =
 
 -- where operations are exact, for each run of the core there is one of the source
 pub runs-exact : RunsAreExact
-runs-exact n body o q [] r = absurd r
-runs-exact n body o q (c ∷ cs) r =
+runs-exact n body o p q [] r = absurd r
+runs-exact n body o p q (c ∷ cs) r =
     let exit = exit_of Mathematical n body in
     let s : Configuration = record { work = start_work Mathematical n body; state = c.state } in
     let ends = mark exit ∷ [] in
@@ -136,7 +135,9 @@ runs-exact n body o q (c ∷ cs) r =
     let kept = ap (λ w. left_at n w c.state) r.0 ∙ take-all n c.state r.1 in
     let long : n ≤ length c.state = omega (arith, r.1) in
     let b = settle n exit (start_work Mathematical n body) c.state c.work c.state e (agree_refl n c.state) r.1 long
-    (tt, over-nodes Mathematical n body 1 ends o (tt, tt)) (tt, exact-nodes n body 1 ends q (tt, tt)) kept in
+    (tt, passing-nodes (over_test n) Mathematical n body 1 ends o (tt, tt))
+    (tt, passing-nodes apart_test Mathematical n body 1 ends p (tt, tt))
+    (tt, passing-nodes (exact_test n) Mathematical n body 1 ends q (tt, tt)) kept in
     let t = traced n exit b.0 c cs b.2 r.2 in
     let path = b.1.path ++ t.path in (
       s ∷ path,
@@ -147,7 +148,7 @@ runs-exact n body o q (c ∷ cs) r =
         follows-on n exit s b.1.path t.path b.1.follows (subst (λ v. Follows Mathematical n exit v t.path)
             (sym b.1.ends) t.follows),
       ),
-      λ d h p at.
-          let u = t.each d (contains-among c cs d h) p at in
+      λ d h i at.
+          let u = t.each d (contains-among c cs d h) i at in
           (u.0, among-contains s path u.0 (among-on s b.1.path t.path u.0 (subst (λ v. Among v t.path u.0) (sym b.1.ends) u.1)), u.2, u.3),
     )

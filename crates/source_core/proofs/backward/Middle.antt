@@ -7,12 +7,12 @@ use Rattle.lang_tree.specs.Runs as core
 use Rattle.lang_tree.specs.Runs.{left_at}
 use Rattle.source_core.specs.Preludes.{AllLeave}
 use Rattle.source_core.specs.Laws.{Agree}
+use Rattle.source_core.specs.RunLaws.{over_test, apart_test, exact_test}
 use Rattle.source_core.specs.SourceRuns.{Item, Configuration, Step, Follows}
 use Rattle.source_core.proofs.runs.Work.{deed_items, image}
-use Rattle.source_core.proofs.runs.Steps.{item_over, work_over}
-use Rattle.source_core.proofs.backward.Completed.{item_exact, completes}
+use Rattle.source_core.proofs.runs.Passing.{item_passes, work_passes}
+use Rattle.source_core.proofs.backward.Completed.{Asked, completes}
 use Rattle.source_core.proofs.backward.Items.{parts, control, number_of, item_core-is}
-use Rattle.source_core.proofs.backward.ExactWork.{work_exact}
 use Rattle.base_integers.specs.declared.integers.Integers.TheVariants.{Mathematical}
 
 -- ---- steps of the source one after another
@@ -62,9 +62,11 @@ pub record Mid (n : ℕ) (s : Configuration) (c : core.Configuration) : Type 0 w
   -- the core's has a value for each, and maybe hidden ones
   pub enough : n ≤ length start
   -- the source's work has no variables but these
-  pub over : item_over n item × work_over n rest
+  pub over : item_passes (over_test n) item × work_passes (over_test n) rest
+  -- steps in it stand apart
+  pub apart : item_passes apart_test item × work_passes apart_test rest
   -- its operations are exact
-  pub exact : item_exact n item × work_exact n rest
+  pub exact : item_passes (exact_test n) item × work_passes (exact_test n) rest
   -- the deeds of the item that are done
   pub done : List Deed
   -- the deeds that are not
@@ -88,12 +90,12 @@ Settled n s c = ((s.work ≡ []) × (c.work ≡ [])) ⊎ Mid n s c
 pub settle : (n exit : ℕ) (is : List Item) (y : State) (w : List core.Item) (z : State) → w ≡ image Mathematical n is → Agree n y z
     → length y ≡ n
     → n ≤ length z
-    → work_over n is → work_exact n is → left_at n w z ≡ z
+    → work_passes (over_test n) is → work_passes apart_test is → work_passes (exact_test n) is → left_at n w z ≡ z
     → (t : Configuration) × Comes n exit record { work = is; state = y } t × Settled n t record { work = w; state = z }
-settle n exit [] y w z e a l g o q k =
+settle n exit [] y w z e a l g o p q k =
     (record { work = []; state = y }, comes-same n exit record { work = []; state = y }, inl (refl, e))
-settle n exit (i ∷ is) y w z e a l g o q k =
-    by (λ v f b m. settle n exit is v w z f b m g o.1 q.1 k) (parts n i) (control n i) refl refl
+settle n exit (i ∷ is) y w z e a l g o p q k =
+    by (λ v f b m. settle n exit is v w z f b m g o.1 p.1 q.1 k) (parts n i) (control n i) refl refl
   where
     here : Live (parts n i) (control n i) → Settled n record { work = i ∷ is; state = y } record { work = w; state = z }
     here v = inr record {
@@ -105,6 +107,7 @@ settle n exit (i ∷ is) y w z e a l g o q k =
       size = l;
       enough = g;
       over = o;
+      apart = p;
       exact = q;
       done = [];
       todo = parts n i;
@@ -123,12 +126,13 @@ settle n exit (i ∷ is) y w z e a l g o q k =
         → (t : Configuration) × Comes n exit record { work = is; state = v } t × Settled n t record { work = w; state = z })
         → (ds : List Deed) (ks : List core.Item) → parts n i ≡ ds → control n i ≡ ks
         → (t : Configuration) × Comes n exit record { work = i ∷ is; state = y } t × Settled n t record { work = w; state = z }
-    by later (d ∷ ds) ks p c = stay (subst (λ v. Live v (control n i)) (sym p) tt)
-    by later [] (x ∷ ks) p c = stay (subst (λ v. Live (parts n i) v) (sym c) (subst (λ v. Live v (x ∷ ks)) (sym p) tt))
-    by later [] [] p c =
-        let r = completes n i y z z c o.0 q.0 a l (subst (λ v. AllLeave v z z) (sym p) refl) in
+    by later (d ∷ ds) ks f c = stay (subst (λ v. Live v (control n i)) (sym f) tt)
+    by later [] (x ∷ ks) f c = stay (subst (λ v. Live (parts n i) v) (sym c) (subst (λ v. Live v (x ∷ ks)) (sym f) tt))
+    by later [] [] f c =
+        let asked : Asked n i = record { over = o.0; apart = p.0; exact = q.0 } in
+        let r = completes n i y z z c asked a l (subst (λ v. AllLeave v z z) (sym f) refl) in
         let next : w ≡ image Mathematical n is = e ∙ item_core-is n i (image Mathematical n is)
-        ∙ ap₂ (λ (v : List Deed) (u : List core.Item). deed_items (number_of i) v (u ++ image Mathematical n is)) p c in
+        ∙ ap₂ (λ (v : List Deed) (u : List core.Item). deed_items (number_of i) v (u ++ image Mathematical n is)) f c in
         let more = later r.0 next r.2 r.3 in (
           more.0,
           comes-step n exit record { work = i ∷ is; state = y } record { work = is; state = r.0 } more.0

@@ -1,7 +1,7 @@
 -- Where operations are exact each run of the core is one of the source: in the middle of an item the source stands where the item began.
 use Rattle.std.proofs.Common.{◌≡◌, inr, ◌≤◌, ℕ, true, List, [], ◌∷◌, ◌++◌, length, append-nil}
 use Rattle.std.proofs.Common.{refl, sym, ap, subst, ◌∙◌, arith}
-use Rattle.std.specs.Prelude.{◌&&◌, if◌then◌else◌, get_or, drop}
+use Rattle.std.specs.Prelude.{if◌then◌else◌, get_or, drop}
 use Rattle.lang_tree.specs.Tree.{Deed, statement_by, breaks, continues, returns}
 use Rattle.lang_tree.specs.Tree as tree
 use Rattle.lang_tree.specs.Meaning.{State}
@@ -10,21 +10,18 @@ use Rattle.lang_tree.specs.Runs as core
 use Rattle.lang_tree.specs.Runs.{left_at}
 use Rattle.source_tree.specs.Statements.{declares, changes, assumes, asserts, never, branch, loop, jump, label}
 use Rattle.source_core.specs.Preludes.{Leaves, AllLeave}
-use Rattle.source_core.specs.Laws.{is_over, is_exact, Agree}
-use Rattle.source_core.specs.RunLaws.{are_statements_exact, are_statements_over}
+use Rattle.source_core.specs.Laws.{Agree}
+use Rattle.source_core.specs.RunLaws.{over_test, apart_test, exact_test}
 use Rattle.source_core.specs.Core.{condition_of, kind_of, core_in}
 use Rattle.source_core.specs.SourceRuns.{Item, node, change, mark, turn, end, Does, Configuration, past_loop, end_of_body}
 use Rattle.source_core.specs.SourceRuns.{head_work, turn_work, end_work, branch_work}
-use Rattle.source_core.proofs.forms.Tests.{both_of}
 use Rattle.source_core.proofs.preludes.Preludes.{leave-then}
 use Rattle.source_core.proofs.runs.Work.{deed_items, image, image-branch, image-head, image-turn, image-end, image-split, image-past}
 use Rattle.source_core.proofs.runs.Work.{image-ending}
-use Rattle.source_core.proofs.runs.Steps.{item_over, work_over, over-past, over-ending, left-agrees, left-enough, left-left, leave-longer}
-use Rattle.source_core.proofs.runs.Simulated.{over-branch, over-head, over-turn, over-end, over-split, condition_over}
-use Rattle.source_core.proofs.backward.Completed.{item_exact, completes, condition_exact, nothing_there}
+use Rattle.source_core.proofs.runs.Passing.{branch_tested, loop_tested, passing-does}
+use Rattle.source_core.proofs.runs.Steps.{condition-size, left-agrees, left-enough, left-left, leave-longer}
+use Rattle.source_core.proofs.backward.Completed.{Asked, completes, condition_exact, nothing_there}
 use Rattle.source_core.proofs.backward.Items.{parts, control, number_of}
-use Rattle.source_core.proofs.backward.ExactWork.{work_exact, exact-past, exact-ending, exact-branch, exact-head, exact-turn, exact-end}
-use Rattle.source_core.proofs.backward.ExactWork.{exact-split, loop_exact}
 use Rattle.source_core.proofs.backward.Middle.{Comes, comes-same, comes-step, Live, Mid, Settled, settle}
 use Rattle.base_integers.specs.declared.integers.Integers.TheVariants.{Mathematical}
 
@@ -79,18 +76,18 @@ unmarked n (end kind e' body line m) d ds k ks more z e c = refl
 pub record Controlled (n exit : ℕ) (item : Item) (rest : List Item) (x : State) (work : List core.Item) (t z : State) : Type 0 where
   -- the source's work behind the item
   pub next : List Item
-  -- a step of the source with the item leads to it, and keeps the state
-  pub does : Does Mathematical n exit item rest x next x
+  -- the state that it leaves
+  pub state : State
+  -- a step of the source with the item leads to both
+  pub does : Does Mathematical n exit item rest x next state
   -- the core's work is that for it
   pub is : work ≡ image Mathematical n next
   -- the core's state stays
   pub same : z ≡ t
   -- it has the source's values of the variables
-  pub agree : Agree n x t
-  -- the source's work has no variables but these
-  pub over : work_over n next
-  -- its operations are exact
-  pub exact : work_exact n next
+  pub agree : Agree n state t
+  -- the source's state has a value for each variable, and no more
+  pub size : length state ≡ n
 
 -- the first of one item
 moved : (exit : ℕ) (first k : core.Item) (ks more : List core.Item) (t : State) (work : List core.Item) (z : State) → first ∷ [] ≡ k ∷ ks
@@ -100,134 +97,134 @@ moved exit first k ks more t work z c d =
     (subst (λ (v : List core.Item). core.Does exit k (v ++ more) t work z) (sym (cons_tail first k [] ks c)) d)
 
 controlled : (n exit : ℕ) (item : Item) (rest : List Item) (x s t : State) (k : core.Item) (ks : List core.Item) (work : List core.Item)
-    (z : State) → control n item ≡ k ∷ ks → item_over n item × work_over n rest → item_exact n item × work_exact n rest → Agree n x s
+    (z : State) → control n item ≡ k ∷ ks → Asked n item → Agree n x s → length x ≡ n
     → AllLeave (parts n item) s t → core.Does exit k (ks ++ image Mathematical n rest) t work z → Controlled n exit item rest x work t z
-controlled n exit (change g) rest x s t k ks work z c o q a l d = nothing_there k ks (sym c)
-controlled n exit (node (declares var line) m) rest x s t k ks work z c o q a l d = nothing_there k ks (sym c)
-controlled n exit (node (changes g) m) rest x s t k ks work z c o q a l d = nothing_there k ks (sym c)
-controlled n exit (node (asserts e at line) m) rest x s t k ks work z c o q a l d = nothing_there k ks (sym c)
-controlled n exit (node (never at line) m) rest x s t k ks work z c o q a l d = nothing_there k ks (sym c)
-controlled n exit (mark p) rest x s t k ks work z c o q a l d =
+controlled n exit (change g) rest x s t k ks work z c o a v l d = nothing_there k ks (sym c)
+controlled n exit (node (declares var line) m) rest x s t k ks work z c o a v l d = nothing_there k ks (sym c)
+controlled n exit (node (changes g) m) rest x s t k ks work z c o a v l d = nothing_there k ks (sym c)
+controlled n exit (node (asserts e at line) m) rest x s t k ks work z c o a v l d = nothing_there k ks (sym c)
+controlled n exit (node (never at line) m) rest x s t k ks work z c o a v l d = nothing_there k ks (sym c)
+controlled n exit (mark p) rest x s t k ks work z c o a v l d =
     let h = moved exit (core.mark p) k ks (image Mathematical n rest) t work z c d in
     record {
       next = rest;
+      state = x;
       does = (refl, refl);
       is = h.0;
       same = h.1;
       agree = subst (λ w. Agree n x w) (sym l) a;
-      over = o.1;
-      exact = q.1;
+      size = v;
     }
-controlled n exit (node (assumes e line) m) rest x s t k ks work z c o q a l d =
+controlled n exit (node (assumes e line) m) rest x s t k ks work z c o a v l d =
     let con = (condition_of Mathematical n line e).condition in
     let h = moved exit (core.node (tree.assume con line) m) k ks (image Mathematical n rest) t work z c d in
-    let r = condition_exact n line e x s t true o.0 q.0 a l h.0 in
+    let r = condition_exact n line e x s t true o.over o.apart o.exact a l h.0 in
     record {
       next = if splits con then mark m ∷ rest else rest;
-      does = (r.0.0, r.0.1, r.0.2, refl, refl);
+      state = r.1;
+      does = (r.0, r.2, r.3, refl);
       is = h.1 ∙ image-split Mathematical n (splits con) m rest;
       same = h.2;
-      agree = r.1;
-      over = over-split n (splits con) m rest o.1;
-      exact = exact-split n (splits con) m rest q.1;
+      agree = r.4;
+      size = condition-size Mathematical n e x r.0 r.1 o.over v r.2;
     }
-controlled n exit (node (branch e first second line) m) rest x s t k ks work z c o q a l d =
+controlled n exit (node (branch e first second line) m) rest x s t k ks work z c o a v l d =
     let con = (condition_of Mathematical n line e).condition in
     let h = moved exit (core.node (tree.branch con (core_in Mathematical n first) (core_in Mathematical n second) line) m) k ks
     (image Mathematical n rest) t work z c d in
-    let p = both_of (is_over n e) (are_statements_over n first && are_statements_over n second) o.0 in
-    let p' = both_of (are_statements_over n first) (are_statements_over n second) p.1 in
-    let u = both_of (is_exact line e n) (are_statements_exact n first && are_statements_exact n second) q.0 in
-    let u' = both_of (are_statements_exact n first) (are_statements_exact n second) u.1 in
-    let r = condition_exact n line e x s t h.0 p.0 u.0 a l h.1 in
+    let over = branch_tested (over_test n) e first second line o.over in
+    let r = condition_exact n line e x s t h.0 over (branch_tested apart_test e first second line o.apart)
+    (branch_tested (exact_test n) e first second line o.exact) a l h.1 in
     record {
       next = branch_work Mathematical n h.0 first second m rest;
-      does = (r.0.0, h.0, r.0.1, r.0.2, refl, refl);
+      state = r.1;
+      does = (r.0, h.0, r.2, r.3, refl);
       is = h.2 ∙ image-branch Mathematical n h.0 first second m rest;
       same = h.3;
-      agree = r.1;
-      over = over-branch Mathematical n h.0 first second m rest p'.0 p'.1 o.1;
-      exact = exact-branch n h.0 first second m rest u'.0 u'.1 q.1;
+      agree = r.4;
+      size = condition-size Mathematical n e x r.0 r.1 over v r.2;
     }
-controlled n exit (node (loop kind e body line) m) rest x s t k ks work z c o q a l d =
+controlled n exit (node (loop kind e body line) m) rest x s t k ks work z c o a v l d =
     let h = moved exit _ k ks (image Mathematical n rest) t work z c d in
     record {
       next = mark m ∷ head_work Mathematical n kind e body line m rest;
+      state = x;
       does = (refl, refl);
       is = h.0 ∙ ap (λ w. core.mark m ∷ w) (image-head Mathematical n kind e body line m rest);
       same = h.1;
       agree = subst (λ w. Agree n x w) (sym l) a;
-      over = (tt, over-head Mathematical n kind e body line m rest o.0 o.1);
-      exact = (tt, exact-head n kind e body line m rest q.0 q.1);
+      size = v;
     }
-controlled n exit (node (jump breaks line) m) rest x s t k ks work z c o q a l d =
+controlled n exit (node (jump breaks line) m) rest x s t k ks work z c o a v l d =
     let h = moved exit (core.node (tree.jump breaks line) m) k ks (image Mathematical n rest) t work z c d in
     record {
       next = past_loop rest;
+      state = x;
       does = (refl, refl);
       is = h.0 ∙ image-past Mathematical n rest;
       same = h.1;
       agree = subst (λ w. Agree n x w) (sym l) a;
-      over = over-past n rest o.1;
-      exact = exact-past n rest q.1;
+      size = v;
     }
-controlled n exit (node (jump continues line) m) rest x s t k ks work z c o q a l d =
+controlled n exit (node (jump continues line) m) rest x s t k ks work z c o a v l d =
     let h = moved exit (core.node (tree.jump continues line) m) k ks (image Mathematical n rest) t work z c d in
     record {
       next = end_of_body rest;
+      state = x;
       does = (refl, refl);
       is = h.0 ∙ image-ending Mathematical n rest;
       same = h.1;
       agree = subst (λ w. Agree n x w) (sym l) a;
-      over = over-ending n rest o.1;
-      exact = exact-ending n rest q.1;
+      size = v;
     }
-controlled n exit (node (jump returns line) m) rest x s t k ks work z c o q a l d =
+controlled n exit (node (jump returns line) m) rest x s t k ks work z c o a v l d =
     let h = moved exit (core.node (tree.jump returns line) m) k ks (image Mathematical n rest) t work z c d in
     record {
       next = mark exit ∷ [];
+      state = x;
       does = (refl, refl);
       is = h.0;
       same = h.1;
       agree = subst (λ w. Agree n x w) (sym l) a;
-      over = (tt, tt);
-      exact = (tt, tt);
+      size = v;
     }
-controlled n exit (node (label name line) m) rest x s t k ks work z c o q a l d =
+controlled n exit (node (label name line) m) rest x s t k ks work z c o a v l d =
     let h = moved exit (core.node (tree.label name line) m) k ks (image Mathematical n rest) t work z c d in
     record {
       next = mark m ∷ rest;
+      state = x;
       does = (refl, refl);
       is = h.0;
       same = h.1;
       agree = subst (λ w. Agree n x w) (sym l) a;
-      over = (tt, o.1);
-      exact = (tt, q.1);
+      size = v;
     }
-controlled n exit (turn kind e body line m) rest x s t k ks work z c o q a l d =
+controlled n exit (turn kind e body line m) rest x s t k ks work z c o a v l d =
     let con = condition_of Mathematical n line e in
     let h = moved exit (core.turn (kind_of Mathematical n kind con.prelude) con.condition (core_in Mathematical n body) line m) k ks
     (image Mathematical n rest) t work z c d in
-    let r = condition_exact n line e x s t h.0 (condition_over n kind e body line o.0) (loop_exact n kind e body line q.0) a l h.1 in
+    let over = loop_tested (over_test n) kind e body line o.over in
+    let r = condition_exact n line e x s t h.0 over (loop_tested apart_test kind e body line o.apart)
+    (loop_tested (exact_test n) kind e body line o.exact) a l h.1 in
     record {
       next = turn_work Mathematical n h.0 kind e body line m rest;
-      does = (r.0.0, h.0, r.0.1, r.0.2, refl, refl);
+      state = r.1;
+      does = (r.0, h.0, r.2, r.3, refl);
       is = h.2 ∙ image-turn Mathematical n h.0 kind e body line m rest;
       same = h.3;
-      agree = r.1;
-      over = over-turn Mathematical n h.0 kind e body line m rest o.0 o.1;
-      exact = exact-turn n h.0 kind e body line m rest q.0 q.1;
+      agree = r.4;
+      size = condition-size Mathematical n e x r.0 r.1 over v r.2;
     }
-controlled n exit (end kind e body line m) rest x s t k ks work z c o q a l d =
+controlled n exit (end kind e body line m) rest x s t k ks work z c o a v l d =
     let h = moved exit _ k ks (image Mathematical n rest) t work z c d in
     record {
       next = end_work Mathematical n kind e body line m rest;
+      state = x;
       does = (refl, refl);
       is = h.0 ∙ image-end Mathematical n kind e body line m rest;
       same = h.1;
       agree = subst (λ w. Agree n x w) (sym l) a;
-      over = over-end Mathematical n kind e body line m rest o.0 o.1;
-      exact = exact-end n kind e body line m rest q.0 q.1;
+      size = v;
     }
 
 -- ---- each step
@@ -250,14 +247,20 @@ advances n exit s c d m step = by m.todo m.all m.work m.live
     longer : AllLeave m.done m.start c.state → n ≤ length c.state
     longer l = let g = leave-longer m.done m.start c.state l in omega (arith, g, m.enough)
 
+    asked : Asked n m.item
+    asked = record { over = m.over.0; apart = m.apart.0; exact = m.exact.0 }
+
     -- the item ends
     ended : (next : List Item) (y z : State) → Does Mathematical n exit m.item m.rest s.state next y
         → d.work ≡ image Mathematical n next → Agree n y z
-        → length y ≡ n → n ≤ length z → work_over n next → work_exact n next → d.state ≡ left_at n d.work z
+        → length y ≡ n → n ≤ length z → d.state ≡ left_at n d.work z
         → (t : Configuration) × Comes n exit s t × Settled n t d
-    ended next y z does is a l g o q k =
+    ended next y z does is a l g k =
         let w = left_at n d.work z in
-        let r = settle n exit next y d.work w is (left-agrees n d.work y z a) l (left-enough n d.work z g) o q (left-left n d.work z) in
+        let r = settle n exit next y d.work w is (left-agrees n d.work y z a) l (left-enough n d.work z g)
+        (passing-does (over_test n) Mathematical n exit m.item m.rest next s.state y m.over.0 m.over.1 does)
+        (passing-does apart_test Mathematical n exit m.item m.rest next s.state y m.apart.0 m.apart.1 does)
+        (passing-does (exact_test n) Mathematical n exit m.item m.rest next s.state y m.exact.0 m.exact.1 does) (left-left n d.work z) in
         let e : record { work = d.work; state = w } ≡ d =
         ap (λ v. let r : core.Configuration = record { work = d.work; state = v } in r) (sym k) in (
           r.0,
@@ -284,6 +287,7 @@ advances n exit s c d m step = by m.todo m.all m.work m.live
             size = m.size;
             enough = m.enough;
             over = m.over;
+            apart = m.apart;
             exact = m.exact;
             done = done;
             todo = todo;
@@ -304,10 +308,10 @@ advances n exit s c d m step = by m.todo m.all m.work m.live
         let h = step_does n exit c d k (ks ++ image Mathematical n m.rest) step (work
         ∙ ap (λ (v : List core.Item). v ++ image Mathematical n m.rest) e) in
         let whole = subst (λ v. AllLeave v m.start c.state) (sym (all ∙ append-nil m.done)) m.left in
-        let r = controlled n exit m.item m.rest s.state m.start c.state k ks d.work h.0 e m.over m.exact m.agree whole h.1 in
+        let r = controlled n exit m.item m.rest s.state m.start c.state k ks d.work h.0 e asked m.agree m.size whole h.1 in
         let size = longer m.left in
-        ended r.next s.state h.0 r.does r.is (subst (λ v. Agree n s.state v) (sym r.same) r.agree) m.size
-        (subst (λ (v : State). n ≤ length v) (sym r.same) size) r.over r.exact h.2
+        ended r.next r.state h.0 r.does r.is (subst (λ v. Agree n r.state v) (sym r.same) r.agree) r.size
+        (subst (λ (v : State). n ≤ length v) (sym r.same) size) h.2
 
     -- a deed, by what is left behind it
     deed_left : (e : Deed) (ds : List Deed) (ks : List core.Item) (z : State) → control n m.item ≡ ks
@@ -317,10 +321,10 @@ advances n exit s c d m step = by m.todo m.all m.work m.live
         → d.state ≡ left_at n d.work z → (t : Configuration) × Comes n exit s t × Settled n t d
     deed_left e [] [] z ct all left work k =
         let whole = subst (λ v. AllLeave v m.start z) (sym (all ∙ append-nil (m.done ++ (e ∷ [])))) left in
-        let r = completes n m.item s.state m.start z ct m.over.0 m.exact.0 m.agree m.size whole in
+        let r = completes n m.item s.state m.start z ct asked m.agree m.size whole in
         let g = leave-longer (m.done ++ (e ∷ [])) m.start z left in
         ended m.rest r.0 z (r.1 exit m.rest) (work ∙ ap (λ (v : List core.Item). v ++ image Mathematical n m.rest) ct) r.2 r.3
-        (omega (arith, g, m.enough)) m.over.1 m.exact.1 k
+        (omega (arith, g, m.enough)) k
     deed_left e [] (x ∷ ks) z ct all left work k =
         let first = all ∙ append-nil (m.done ++ (e ∷ [])) in
         goes_on (m.done ++ (e ∷ [])) [] z all left work (subst (λ v. Live [] v) (sym ct) tt)

@@ -1,5 +1,5 @@
 -- Where no operation may give other values than it has, an expression has each value that its result has behind its prelude.
-use Rattle.std.proofs.Common.{◌≡◌, ◌≢◌, ◌⊎◌, inl, inr, ⊎_elim, ℕ, zero, suc, Bool, true, false, List, [], ◌∷◌, ◌++◌}
+use Rattle.std.proofs.Common.{◌≡◌, ◌≢◌, ◌⊎◌, inl, inr, ⊎_elim, ◌≤◌, ℕ, zero, suc, Bool, true, false, List, [], ◌∷◌, ◌++◌}
 use Rattle.std.proofs.Common.{refl, sym, ap, ap₂, subst, ◌∙◌, arith, true≢false}
 use Rattle.std.specs.Prelude.{ℤ, pos, negsuc, ◌-ℤ◌, ◌*ℤ◌, int_div, int_rem, ◌||◌, IsTrue, if◌then◌else◌}
 use Rattle.std.proofs.lemmas.Int.{ints}
@@ -12,7 +12,7 @@ use Rattle.source_tree.specs.Values.{truth_number, Tells, Gives, IsHeld}
 use Rattle.source_core.specs.Forms as form
 use Rattle.source_core.specs.Forms.{constant_form, variable_form, scaled, is_constant}
 use Rattle.source_core.specs.Preludes.{AllLeave, all_under}
-use Rattle.source_core.specs.Laws.{MayResult}
+use Rattle.source_core.specs.Laws.{Agree, MayResult}
 use Rattle.source_core.specs.Elaborated.{Result, a_form, a_truth, any, Elaborated, Numbered, Tested, tested, as_number}
 use Rattle.source_core.specs.Elaborated.{as_condition, selects, divides, operated, form_behind, havocked, quotient_by, remainder_by}
 use Rattle.source_core.specs.Elaborated.{unless_zero, quotient_behind, is_unit}
@@ -24,7 +24,7 @@ use Rattle.source_core.proofs.expressions.Operated.{Given, is_divisor_of, is_uni
 use Rattle.source_core.proofs.forms.Forms.{value-plus, value-minus, value-scaled, value-constant, value-is_constant}
 use Rattle.source_core.proofs.forms.Over.{FormOver, ConditionOver, agree_sym, value-agrees, may_be-agrees}
 use Rattle.source_core.proofs.forms.Over.{over_constant}
-use Rattle.source_core.proofs.preludes.Preludes.{WritesFrom, leave-agrees}
+use Rattle.source_core.proofs.preludes.Preludes.{WritesFrom, leave-agrees, hidden-agrees}
 use Rattle.base_integers.specs.declared.integers.Integers.TheVariants.{Mathematical}
 
 -- ---- preludes in two parts
@@ -42,17 +42,19 @@ leave-from_under c (tree.wheres d line ∷ ds) x y h = (h.0, h.1, leave-from_und
 leave-from_under c (tree.checks about d line ∷ ds) x y h = (h.0, h.1, leave-from_under c ds h.0 y h.2)
 
 -- ---- what an operand has
--- the values of a result behind its prelude are among these
-abbrev pub Has : (State → ℤ → Type 0) → Elaborated → Type 0
-Has P e = (x y : State) (z : ℤ) → AllLeave e.prelude x y → MayResult Mathematical e.result y z → P x z
+-- the values of a result behind its prelude are among these, in the states that are left
+abbrev pub Has : ℕ → (State → ℤ → State → Type 0) → Elaborated → Type 0
+Has n P e = (x s t : State) (z : ℤ) → Agree n x s → AllLeave e.prelude s t → MayResult Mathematical e.result t z
+    → (y : State) × P x z y × Agree n y t
 
 -- the values of a form behind its prelude are among these
-abbrev pub HasNumber : (State → ℤ → Type 0) → Numbered → Type 0
-HasNumber P e = (x y : State) → AllLeave e.prelude x y → P x (value e.form y)
+abbrev pub HasNumber : ℕ → (State → ℤ → State → Type 0) → Numbered → Type 0
+HasNumber n P e = (x s t : State) → Agree n x s → AllLeave e.prelude s t → (y : State) × P x (value e.form t) y × Agree n y t
 
 -- what a condition may be behind its prelude is what one of these tells
-abbrev pub HasTruth : (State → ℤ → Type 0) → Tested → Type 0
-HasTruth P e = (x y : State) (t : Bool) → AllLeave e.prelude x y → MayBe t e.condition y → (z : ℤ) × P x z × Tells t z
+abbrev pub HasTruth : ℕ → (State → ℤ → State → Type 0) → Tested → Type 0
+HasTruth n P e = (x s t : State) (b : Bool) → Agree n x s → AllLeave e.prelude s t → MayBe b e.condition t
+    → (z : ℤ) × (y : State) × P x z y × Tells b z × Agree n y t
 
 -- ---- one of two values
 one_zero : (a b : ℤ) → a -ℤ b ≡ pos 0 → a ≡ b
@@ -80,16 +82,33 @@ selected line c h f g x y o p q l =
 
 -- ---- results as numbers and as conditions
 -- a result has no other values as a number
-pub number-of_result : (line : ℕ) (P : State → ℤ → Type 0) (ds : List Deed) (h : ℕ) (r : Result) → ResultOver h r
-    → ((x y : State) (z : ℤ) → AllLeave ds x y → MayResult Mathematical r y z → P x z) → HasNumber P (as_number Mathematical line ds h r)
-number-of_result line P ds h (a_form f) o has = λ x y l. has x y (value f y) l refl
-number-of_result line P ds h (a_truth c) o has = λ x y l.
-    let s = leave-split ds _ x y l in
+pub number-of_result : (line n : ℕ) (P : State → ℤ → State → Type 0) (ds : List Deed) (h : ℕ) (r : Result) → n ≤ h → ResultOver h r
+    → ((x s t : State) (z : ℤ) → Agree n x s → AllLeave ds s t → MayResult Mathematical r t z → (y : State) × P x z y × Agree n y t)
+    → HasNumber n P (as_number Mathematical line ds h r)
+number-of_result line n P ds h (a_form f) above o has = λ x s t a l. has x s t (value f t) a l refl
+number-of_result line n P ds h (a_truth c) above o has = λ x s t a l.
+    let one = constant_form (pos 1) in
+    let none = constant_form (pos 0) in
+    let more = havocs h line ∷ wheres (selects c h one none) line ∷ [] in
+    let p = leave-split ds more s t l in
     ⊎_elim
-    (λ m. subst (λ z. P x z) (sym (m.1 ∙ value-constant (pos 1) s.0)) (has x s.0 (pos 1) s.1 (true, m.0, refl)))
-    (λ m. subst (λ z. P x z) (sym (m.1 ∙ value-constant (pos 0) s.0)) (has x s.0 (pos 0) s.1 (false, m.0, refl)))
-    (selected line c h (constant_form (pos 1)) (constant_form (pos 0)) s.0 y o (over_constant h (pos 1)) (over_constant h (pos 0)) s.2)
-number-of_result line P ds h any o has = λ x y l. let s = leave-split ds _ x y l in has x s.0 (value (variable_form h) y) s.1 tt
+    (λ m.
+    let k = has x s p.0 (pos 1) a p.1 (true, m.0, refl) in (
+      k.0,
+      subst (λ z. P x z k.0) (sym (m.1 ∙ value-constant (pos 1) p.0)) k.1,
+      hidden-agrees n h more k.0 p.0 t above (omega arith, tt) k.2 p.2,
+    ))
+    (λ m.
+    let k = has x s p.0 (pos 0) a p.1 (false, m.0, refl) in (
+      k.0,
+      subst (λ z. P x z k.0) (sym (m.1 ∙ value-constant (pos 0) p.0)) k.1,
+      hidden-agrees n h more k.0 p.0 t above (omega arith, tt) k.2 p.2,
+    ))
+    (selected line c h one none p.0 t o (over_constant h (pos 1)) (over_constant h (pos 0)) p.2)
+number-of_result line n P ds h any above o has = λ x s t a l.
+    let p = leave-split ds (havocs h line ∷ []) s t l in
+    let k = has x s p.0 (value (variable_form h) t) a p.1 tt in
+    (k.0, k.1, hidden-agrees n h (havocs h line ∷ []) k.0 p.0 t above (omega arith, tt) k.2 p.2)
 
 not_unequal : (z : ℤ) → ¬ (z ≢ pos 0) → z ≡ pos 0
 not_unequal (pos zero) h = refl
@@ -101,16 +120,16 @@ tells_itself true = λ e. omega (arith, ints, e)
 tells_itself false = refl
 
 -- a result tells nothing as a condition but what one of its values tells
-pub truth-of_result : (P : State → ℤ → Type 0) (e : Elaborated) → Has P e → HasTruth P (tested e)
-truth-of_result P e has = λ x y t l m. by e.result t x y l m (λ z. has x y z l)
+pub truth-of_result : (n : ℕ) (P : State → ℤ → State → Type 0) (e : Elaborated) → Has n P e → HasTruth n P (tested e)
+truth-of_result n P e has = λ x s t b a l m. by e.result b x t m (λ z. has x s t z a l)
   where
-    by : (r : Result) (t : Bool) (x y : State) → AllLeave e.prelude x y → MayBe t (as_condition r) y → ((z : ℤ)
-        → MayResult Mathematical r y z → P x z)
-        → (z : ℤ) × P x z × Tells t z
-    by (a_form f) true x y l m k = (value f y, k (value f y) refl, m)
-    by (a_form f) false x y l m k = (value f y, k (value f y) refl, not_unequal (value f y) m)
-    by (a_truth c) t x y l m k = (truth_number t, k (truth_number t) (t, m, refl), tells_itself t)
-    by any t x y l m k = (truth_number t, k (truth_number t) tt, tells_itself t)
+    by : (r : Result) (b : Bool) (x t : State) → MayBe b (as_condition r) t
+        → ((z : ℤ) → MayResult Mathematical r t z → (y : State) × P x z y × Agree n y t)
+        → (z : ℤ) × (y : State) × P x z y × Tells b z × Agree n y t
+    by (a_form f) true x t m k = let r = k (value f t) refl in (value f t, r.0, r.1, m, r.2)
+    by (a_form f) false x t m k = let r = k (value f t) refl in (value f t, r.0, r.1, not_unequal (value f t) m, r.2)
+    by (a_truth c) b x t m k = let r = k (truth_number b) (b, m, refl) in (truth_number b, r.0, r.1, tells_itself b, r.2)
+    by any b x t m k = let r = k (truth_number b) tt in (truth_number b, r.0, r.1, tells_itself b, r.2)
 
 -- ---- quotients
 -- a form has the value that it had before a hidden variable is given a quotient
@@ -129,8 +148,8 @@ behind_deeds line f c h x y o n l =
 
 -- ---- operations
 -- the values of two forms behind a prelude are among these
-abbrev pub HasBoth : (State → ℤ → ℤ → Type 0) → List Deed → Form → Form → Type 0
-HasBoth R ds f g = (x y : State) → AllLeave ds x y → R x (value f y) (value g y)
+abbrev pub HasBoth : ℕ → (State → ℤ → ℤ → State → Type 0) → List Deed → Form → Form → Type 0
+HasBoth n R ds f g = (x s t : State) → Agree n x s → AllLeave ds s t → (y : State) × R x (value f t) (value g t) y × Agree n y t
 
 -- all numbers are among all integers
 pub held_by_all : (o : Operation) (u v z : ℤ) → IsHeld Mathematical o u v z
@@ -140,37 +159,51 @@ held_by_all times u v z = tt
 held_by_all over u v z = tt
 held_by_all remainder u v z = (tt, tt)
 
-given : (o : Operation) (R : State → ℤ → ℤ → Type 0) (x : State) (u v z w : ℤ) → R x u v → Gives o u v z → w ≡ z
-    → Given Mathematical o R x w
-given o R x u v z w r g e = (u, v, r, subst (λ k. Gives o u v k) (sym e) g, held_by_all o u v w)
+given : (o : Operation) (R : State → ℤ → ℤ → State → Type 0) (x : State) (u v z w : ℤ) (y : State) → R x u v y → Gives o u v z → w ≡ z
+    → Given Mathematical o R x w y
+given o R x u v z w y r g e = (u, v, r, subst (λ k. Gives o u v k) (sym e) g, held_by_all o u v w)
 
 -- the result of an exact operation has no values but numbers that the operation gives
-pub operated-has : (line : ℕ) (o : Operation) (sign : ℕ) (R : State → ℤ → ℤ → Type 0) (ds : List Deed) (h : ℕ) (f g : Form) → FormOver h f
-    → IsTrue (is_exact_on o f g) → HasBoth R ds f g → Has (Given Mathematical o R) (operated Mathematical line o sign ds h f g)
-operated-has line plus sign R ds h f g o t has = λ x y z l m.
-    given plus R x (value f y) (value g y) _ z (has x y l) refl (m ∙ value-plus f g y)
-operated-has line minus sign R ds h f g o t has = λ x y z l m.
-    given minus R x (value f y) (value g y) _ z (has x y l) refl (m ∙ value-minus f g y)
-operated-has line times sign R ds h f g o t has = by (is_constant f) (is_constant g) refl refl
+pub operated-has : (line n : ℕ) (o : Operation) (sign : ℕ) (R : State → ℤ → ℤ → State → Type 0) (ds : List Deed) (h : ℕ) (f g : Form)
+    → n ≤ h → FormOver h f
+    → IsTrue (is_exact_on o f g) → HasBoth n R ds f g → Has n (Given Mathematical o R) (operated Mathematical line o sign ds h f g)
+operated-has line n plus sign R ds h f g above o exact has = λ x s t z a l m.
+    let k = has x s t a l in
+    (k.0, given plus R x (value f t) (value g t) _ z k.0 k.1 refl (m ∙ value-plus f g t), k.2)
+operated-has line n minus sign R ds h f g above o exact has = λ x s t z a l m.
+    let k = has x s t a l in
+    (k.0, given minus R x (value f t) (value g t) _ z k.0 k.1 refl (m ∙ value-minus f g t), k.2)
+operated-has line n times sign R ds h f g above o exact has = by (is_constant f) (is_constant g) refl refl
   where
     neither : is_constant f ≡ false → is_constant g ≡ false → IsTrue (is_constant f || is_constant g) → ⊥
     neither p q t = true≢false (sym t ∙ ap₂ (λ a b. a || b) p q)
 
     by : (s u : Bool) → is_constant f ≡ s → is_constant g ≡ u
-        → Has (Given Mathematical times R) (if s then form_behind ds h (scaled f.constant g)
+        → Has n (Given Mathematical times R) (if s then form_behind ds h (scaled f.constant g)
         else (if u then form_behind ds h (scaled g.constant f) else havocked Mathematical line ds h))
-    by true u p q = λ x y z l m. given times R x (value f y) (value g y) _ z (has x y l) refl
-        (m ∙ value-scaled f.constant g y ∙ ap (λ k. k *ℤ value g y) (sym (value-is_constant f y p)))
-    by false true p q = λ x y z l m. given times R x (value f y) (value g y) _ z (has x y l) refl
-        (m ∙ value-scaled g.constant f y ∙ ap (λ k. k *ℤ value f y) (sym (value-is_constant g y q)) ∙ *ℤ_comm (value g y) (value f y))
-    by false false p q = absurd (neither p q t)
-operated-has line over sign R ds h f g o t has =
-    subst (λ s. Has (Given Mathematical over R)
-    (if s then quotient_by line ds h f g.constant else unless_zero Mathematical line ds h sign g)) (sym t)
+    by true u p q = λ x s t z a l m.
+        let k = has x s t a l in (
+          k.0,
+          given times R x (value f t) (value g t) _ z k.0 k.1 refl
+              (m ∙ value-scaled f.constant g t ∙ ap (λ k. k *ℤ value g t) (sym (value-is_constant f t p))),
+          k.2,
+        )
+    by false true p q = λ x s t z a l m.
+        let k = has x s t a l in (
+          k.0,
+          given times R x (value f t) (value g t) _ z k.0 k.1 refl
+              (m ∙ value-scaled g.constant f t ∙ ap (λ k. k *ℤ value f t) (sym (value-is_constant g t q))
+              ∙ *ℤ_comm (value g t) (value f t)),
+          k.2,
+        )
+    by false false p q = absurd (neither p q exact)
+operated-has line n over sign R ds h f g above o exact has =
+    subst (λ s. Has n (Given Mathematical over R)
+    (if s then quotient_by line ds h f g.constant else unless_zero Mathematical line ds h sign g)) (sym exact)
     (by (is_unit g.constant) (is_constant f) refl refl)
   where
     d : IsTrue (is_constant g) × (g.constant ≢ pos 0)
-    d = is_divisor_of g t
+    d = is_divisor_of g exact
 
     divisor : (y : State) → value g y ≡ g.constant
     divisor y = value-is_constant g y d.0
@@ -179,27 +212,42 @@ operated-has line over sign R ds h f g o t has =
     not_zero y = λ e. d.1 (sym (divisor y) ∙ e)
 
     by : (s u : Bool) → is_unit g.constant ≡ s → is_constant f ≡ u
-        → Has (Given Mathematical over R) (if s then form_behind ds h (scaled g.constant f)
+        → Has n (Given Mathematical over R) (if s then form_behind ds h (scaled g.constant f)
         else (if u then form_behind ds h (constant_form (int_div f.constant g.constant))
         else form_behind (quotient_behind line ds h f g.constant) (suc h) (variable_form h)))
-    by true u p q = λ x y z l m. given over R x (value f y) (value g y) _ z (has x y l) (not_zero y, refl)
-        (m ∙ value-scaled g.constant f y ∙ sym (quotient_by_unit (value f y) g.constant (is_unit_of g.constant p))
-        ∙ ap (λ k. int_div (value f y) k) (sym (divisor y)))
-    by false true p q = λ x y z l m. given over R x (value f y) (value g y) _ z (has x y l) (not_zero y, refl)
-        (m ∙ value-constant (int_div f.constant g.constant) y ∙ ap₂ int_div (sym (value-is_constant f y q)) (sym (divisor y)))
-    by false false p q = λ x y z l m.
-        let s = leave-split ds _ x y l in
-        let r = behind_deeds line f g.constant h s.0 y o d.1 s.2 in
-        given over R x (value f s.0) (value g s.0) _ z (has x s.0 s.1) (not_zero s.0, refl)
-        (m ∙ r ∙ ap (λ k. int_div (value f s.0) k) (sym (divisor s.0)))
-operated-has line remainder sign R ds h f g o t has =
-    subst (λ s. Has (Given Mathematical remainder R)
+    by true u p q = λ x s t z a l m.
+        let k = has x s t a l in (
+          k.0,
+          given over R x (value f t) (value g t) _ z k.0 k.1 (not_zero t, refl)
+              (m ∙ value-scaled g.constant f t ∙ sym (quotient_by_unit (value f t) g.constant (is_unit_of g.constant p))
+              ∙ ap (λ k. int_div (value f t) k) (sym (divisor t))),
+          k.2,
+        )
+    by false true p q = λ x s t z a l m.
+        let k = has x s t a l in (
+          k.0,
+          given over R x (value f t) (value g t) _ z k.0 k.1 (not_zero t, refl)
+              (m ∙ value-constant (int_div f.constant g.constant) t ∙ ap₂ int_div (sym (value-is_constant f t q)) (sym (divisor t))),
+          k.2,
+        )
+    by false false p q = λ x s t z a l m.
+        let more = havocs h line ∷ wheres (divides f g.constant h) line ∷ [] in
+        let w = leave-split ds more s t l in
+        let r = behind_deeds line f g.constant h w.0 t o d.1 w.2 in
+        let k = has x s w.0 a w.1 in (
+          k.0,
+          given over R x (value f w.0) (value g w.0) _ z k.0 k.1 (not_zero w.0, refl)
+              (m ∙ r ∙ ap (λ k. int_div (value f w.0) k) (sym (divisor w.0))),
+          hidden-agrees n h more k.0 w.0 t above (omega arith, tt) k.2 w.2,
+        )
+operated-has line n remainder sign R ds h f g above o exact has =
+    subst (λ s. Has n (Given Mathematical remainder R)
     (if s then remainder_by line ds h f g.constant else unless_zero Mathematical line ds h sign g))
-    (sym t)
+    (sym exact)
     (by (is_unit g.constant) (is_constant f) refl refl)
   where
     d : IsTrue (is_constant g) × (g.constant ≢ pos 0)
-    d = is_divisor_of g t
+    d = is_divisor_of g exact
 
     divisor : (y : State) → value g y ≡ g.constant
     divisor y = value-is_constant g y d.0
@@ -208,20 +256,35 @@ operated-has line remainder sign R ds h f g o t has =
     not_zero y = λ e. d.1 (sym (divisor y) ∙ e)
 
     by : (s u : Bool) → is_unit g.constant ≡ s → is_constant f ≡ u
-        → Has (Given Mathematical remainder R) (if s then form_behind ds h (constant_form (pos 0))
+        → Has n (Given Mathematical remainder R) (if s then form_behind ds h (constant_form (pos 0))
         else (if u then form_behind ds h (constant_form (int_rem f.constant g.constant))
         else form_behind (quotient_behind line ds h f g.constant) (suc h) (form.minus f (scaled g.constant (variable_form h)))))
-    by true u p q = λ x y z l m. given remainder R x (value f y) (value g y) _ z (has x y l) (not_zero y, refl)
-        (m ∙ value-constant (pos 0) y ∙ sym (remainder_by_unit (value f y) g.constant (is_unit_of g.constant p))
-        ∙ ap (λ k. int_rem (value f y) k) (sym (divisor y)))
-    by false true p q = λ x y z l m. given remainder R x (value f y) (value g y) _ z (has x y l) (not_zero y, refl)
-        (m ∙ value-constant (int_rem f.constant g.constant) y ∙ ap₂ int_rem (sym (value-is_constant f y q)) (sym (divisor y)))
-    by false false p q = λ x y z l m.
-        let s = leave-split ds _ x y l in
-        let r = behind_deeds line f g.constant h s.0 y o d.1 s.2 in
-        let a = same_behind line f g.constant h s.0 y o s.2 in
-        let w = value-minus f (scaled g.constant (variable_form h)) y
-        ∙ ap₂ (λ (a b : ℤ). a -ℤ b) a (value-scaled g.constant (variable_form h) y ∙ ap (λ k. g.constant *ℤ k) r)
-        ∙ rest_is (value f s.0) g.constant in
-        given remainder R x (value f s.0) (value g s.0) _ z (has x s.0 s.1) (not_zero s.0, refl)
-        (m ∙ w ∙ ap (λ k. int_rem (value f s.0) k) (sym (divisor s.0)))
+    by true u p q = λ x s t z a l m.
+        let k = has x s t a l in (
+          k.0,
+          given remainder R x (value f t) (value g t) _ z k.0 k.1 (not_zero t, refl)
+              (m ∙ value-constant (pos 0) t ∙ sym (remainder_by_unit (value f t) g.constant (is_unit_of g.constant p))
+              ∙ ap (λ k. int_rem (value f t) k) (sym (divisor t))),
+          k.2,
+        )
+    by false true p q = λ x s t z a l m.
+        let k = has x s t a l in (
+          k.0,
+          given remainder R x (value f t) (value g t) _ z k.0 k.1 (not_zero t, refl)
+              (m ∙ value-constant (int_rem f.constant g.constant) t ∙ ap₂ int_rem (sym (value-is_constant f t q)) (sym (divisor t))),
+          k.2,
+        )
+    by false false p q = λ x s t z a l m.
+        let more = havocs h line ∷ wheres (divides f g.constant h) line ∷ [] in
+        let w = leave-split ds more s t l in
+        let r = behind_deeds line f g.constant h w.0 t o d.1 w.2 in
+        let e = same_behind line f g.constant h w.0 t o w.2 in
+        let left = value-minus f (scaled g.constant (variable_form h)) t
+        ∙ ap₂ (λ (a b : ℤ). a -ℤ b) e (value-scaled g.constant (variable_form h) t ∙ ap (λ k. g.constant *ℤ k) r)
+        ∙ rest_is (value f w.0) g.constant in
+        let k = has x s w.0 a w.1 in (
+          k.0,
+          given remainder R x (value f w.0) (value g w.0) _ z k.0 k.1 (not_zero w.0, refl)
+              (m ∙ left ∙ ap (λ k. int_rem (value f w.0) k) (sym (divisor w.0))),
+          hidden-agrees n h more k.0 w.0 t above (omega arith, tt) k.2 w.2,
+        )

@@ -24,12 +24,12 @@ use Rattle.source_core.specs.Preludes.{AllLeave, MayFail}
 use Rattle.source_core.specs.Elaborated.{Result, a_form, Elaborated, form_behind, form_in, havocked, held, is_divided, is_divisor, is_held}
 use Rattle.source_core.specs.Elaborated.{is_unit, never, operation_on, quotient_behind, quotient_by, ranged}
 use Rattle.source_core.specs.Elaborated.{related, remainder_by, unless_zero}
-use Rattle.source_core.specs.Laws.{MayResult}
+use Rattle.source_core.specs.Laws.{Agree, MayResult}
 use Rattle.source_core.proofs.forms.Forms.{value-plus, value-minus, value-opposite, value-constant, value-is_constant}
 use Rattle.source_core.proofs.forms.Over.{value-agrees}
 use Rattle.source_core.proofs.forms.Quotients.{wide, quotient_in, remainder_in, least_alone}
 use Rattle.source_core.proofs.preludes.Preludes.{leave-then, leave-agrees}
-use Rattle.source_core.proofs.preludes.Held.{fits-any, held-false}
+use Rattle.source_core.proofs.preludes.Held.{fits-any, writes-any, held-false}
 use Rattle.source_core.proofs.expressions.Operated.{Both, is_divisor_of, keeps-quotient}
 use Rattle.source_core.proofs.expressions.Operated.{leave-check, quotient_by_unit, times_constant}
 use Rattle.source_core.proofs.expressions.Exact.{held_by_all}
@@ -83,9 +83,9 @@ equal_to f k y e = no_difference _ (value f y) k
 never_may : (y : State) → MayBe false never y
 never_may y = λ d. d (value-constant (pos 0) y)
 
-module _ (width : Width) (line n sign : ℕ) (R : State → ℤ → ℤ → Type 0) (ds : List Deed) (h : ℕ) (f g : Form) (b : Both n R ds h f g)
-    (x y : State) (u v : ℤ) (r : R x u v) (l : AllLeave ds x y) (fy : u ≡ value f y) (gy : v ≡ value g y)
-    (inside : Has (Machine width) u) where
+module _ (width : Width) (line n : ℕ) (S : ℕ → Type 0) (low sign : ℕ) (R : State → ℤ → ℤ → State → Type 0) (ds : List Deed) (h : ℕ)
+    (f g : Form) (b : Both n S low R ds h f g) (p q x y : State) (u v : ℤ) (agree : Agree n p x) (r : R p u v q) (l : AllLeave ds x y)
+    (fy : u ≡ value f y) (gy : v ≡ value g y) (inside : Has (Machine width) u) where
   abbrev about : Check
   about = record { kind = Range; at = sign }
 
@@ -98,9 +98,9 @@ module _ (width : Width) (line n sign : ℕ) (R : State → ℤ → ℤ → Type
   any_value : (more : List Deed) (w : State) → AllLeave more x y
       → (t : State) × AllLeave (more ++ havocs h line ∷ held (Machine width) line h) x t × (u ≡ value f t) × (v ≡ value g t)
   any_value more w k =
-      let any = fits-any (Machine width) line h in
+      let any = fits-any (Machine width) line n S h (omega (arith, b.fits.above, b.fits.grows)) in
       let t = any.goes y in
-      let same = leave-agrees h (havocs h line ∷ held (Machine width) line h) y t.0 any.writes t.1 in (
+      let same = leave-agrees h (havocs h line ∷ held (Machine width) line h) y t.0 (writes-any (Machine width) line h) t.1 in (
         t.0,
         leave-then more (havocs h line ∷ held (Machine width) line h) x y t.0 k t.1,
         fy ∙ value-agrees h f y t.0 b.first_over same,
@@ -142,11 +142,11 @@ module _ (width : Width) (line n sign : ℕ) (R : State → ℤ → ℤ → Type
           → MayFail (ranged (Machine width) line sign (λ width r. if t then is_held width r else is_divided width f g)
           (if t then quotient_by line ds h f g.constant else unless_zero (Machine width) line ds h sign g)).prelude x about
       by true d =
-          let k = keeps-quotient Mathematical line n R ds h f g d b in
-          let w = k.keeps x z (u, v, r, e, tt) in
+          let k = keeps-quotient Mathematical line n S low R ds h f g d b in
+          let w = k.keeps p x z q agree (u, v, r, e, tt) in
           fails (λ width r. is_held width r) (quotient_by line ds h f g.constant) w.0 w.1
           (held-false width (form_in (quotient_by line ds h f g.constant).result) w.0 z
-          (form_value (quotient_by line ds h f g.constant).result w.0 z (quotient_form line ds h f g.constant) w.2) none)
+          (form_value (quotient_by line ds h f g.constant).result w.0 z (quotient_form line ds h f g.constant) w.3) none)
       by false d = divided_fails (λ q. none (subst (λ k. Has (Machine width) k) (sym e.1) q)) (λ width r. is_divided width f g) (λ k. refl)
 
   remainder_fails : ¬ (Has (Machine width) (int_div u v))
@@ -198,11 +198,13 @@ module _ (width : Width) (line n sign : ℕ) (R : State → ℤ → ℤ → Type
       (λ q. none (q, subst (λ k. Has (Machine width) k) (sym e.1) (remainder_in (greatest width) u v inside)))
 
 -- an operation overflows
-pub fail-overflow : (integers : Integers) (line n : ℕ) (o : Operation) (sign : ℕ) (R : State → ℤ → ℤ → Type 0) (ds : List Deed) (h : ℕ)
-    (f g : Form) → Both n R ds h f g → (x y : State) (u v : ℤ) → R x u v → AllLeave ds x y → u ≡ value f y → v ≡ value g y
+pub fail-overflow : (integers : Integers) (line n : ℕ) (S : ℕ → Type 0) (low : ℕ) (o : Operation) (sign : ℕ)
+    (R : State → ℤ → ℤ → State → Type 0) (ds : List Deed) (h : ℕ) (f g : Form) → Both n S low R ds h f g → (p q x y : State) (u v : ℤ)
+    → Agree n p x → R p u v q → AllLeave ds x y → u ≡ value f y → v ≡ value g y
     → Has integers u → (about : Check) → Overflows integers o sign about u v
     → MayFail (operation_on integers line o sign ds h f g).prelude x about
-fail-overflow Mathematical line n o sign R ds h f g b x y u v r l fy gy inside c m = absurd (m.1.2 (held_by_all o u v m.1.0))
-fail-overflow (Machine width) line n o sign R ds h f g b x y u v r l fy gy inside c m =
-    subst (λ a. MayFail (operation_on (Machine width) line o sign ds h f g).prelude x a) (sym m.0)
-    (failing width line n sign R ds h f g b x y u v r l fy gy inside o m.1.0 m.1.1 m.1.2)
+fail-overflow Mathematical line n S low o sign R ds h f g b p q x y u v a r l fy gy inside c m =
+    absurd (m.1.2 (held_by_all o u v m.1.0))
+fail-overflow (Machine width) line n S low o sign R ds h f g b p q x y u v a r l fy gy inside c m =
+    subst (λ k. MayFail (operation_on (Machine width) line o sign ds h f g).prelude x k) (sym m.0)
+    (failing width line n S low sign R ds h f g b p q x y u v a r l fy gy inside o m.1.0 m.1.1 m.1.2)

@@ -12,54 +12,55 @@ use Rattle.base_integers.specs.declared.integers.Integers.{Integers}
 use Rattle.base_integers.specs.declared.integers.Integers.TheVariants.{Mathematical, Machine}
 use Rattle.source_tree.specs.Expressions.{Operation, plus, minus, times, over, remainder}
 use Rattle.source_tree.specs.Expressions.{Expression, Expressions, number, variable, unknown, call, element, grouped, negative, positive}
-use Rattle.source_tree.specs.Expressions.{inverse, joined, compared, both, either, chosen, none, more}
+use Rattle.source_tree.specs.Expressions.{stepped, inverse, joined, compared, both, either, chosen, none, more}
 use Rattle.source_tree.specs.Expressions.{Subscripts, no_subscript, subscript}
-use Rattle.source_tree.specs.Values.{May, AllMay, AreIndexes}
+use Rattle.source_tree.specs.Values.{May, AllMay, AreIndexes, step_by}
 use Rattle.source_core.specs.Forms.{constant_form, is_constant, opposite, variable_form}
 use Rattle.source_core.specs.Elaborated.{Result, a_form, a_truth, any, Elaborated, Numbered, elaborated, evaluated, indexed, numbered}
-use Rattle.source_core.specs.Elaborated.{as_number, has, as_condition, checked, form_behind, is_divisor, is_held, is_unit, number_at}
-use Rattle.source_core.specs.Elaborated.{operated}
+use Rattle.source_core.specs.Elaborated.{as_number, has, as_condition, checked, form_behind, is_divisor}
+use Rattle.source_core.specs.Elaborated.{is_held, is_unit, number_at, operated}
 use Rattle.source_core.specs.Elaborated.{operation_held}
 use Rattle.source_core.specs.Elaborated.{ranged, related}
 use Rattle.source_core.proofs.expressions.Exact.{held_by_all}
 
 -- ---- values
 mutual
-  -- each value that an expression may have by some integers it may have by all
-  pub may-by_all : (integers : Integers) (e : Expression) (x : State) (z : ℤ) → May integers e x z → May Mathematical e x z
-  may-by_all integers (number v at) x z m = (m.0, tt)
-  may-by_all integers (variable i at) x z m = m
-  may-by_all integers (unknown at) x z m = tt
-  may-by_all integers (call es at) x z m = (all-by_all integers es x m.0, tt)
-  may-by_all integers (element is at) x z m = (indexes-by_all integers is x m.0, tt)
-  may-by_all integers (grouped at e) x z m = may-by_all integers e x z m
-  may-by_all integers (negative at e) x z m = (m.0, may-by_all integers e x m.0 m.1, m.2, tt)
-  may-by_all integers (positive at e) x z m = may-by_all integers e x z m
-  may-by_all integers (inverse at e) x z m = (m.0, m.1, may-by_all integers e x m.0 m.2, m.3, m.4)
-  may-by_all integers (joined o sign e f) x z m =
-      (m.0, m.1, may-by_all integers e x m.0 m.2, may-by_all integers f x m.1 m.3, m.4, held_by_all o m.0 m.1 z)
-  may-by_all integers (compared rel sign e f) x z m =
-      (m.0, m.1, m.2, may-by_all integers e x m.0 m.3, may-by_all integers f x m.1 m.4, m.5, m.6)
-  may-by_all integers (both c d) x z m =
-      ⊎_elim (λ k. inl (may-by_all integers c x (pos 0) k.0, k.1))
-      (λ k. inr (k.0, k.1, k.2, may-by_all integers c x k.0 k.3, k.4, may-by_all integers d x k.1 k.5, k.6, k.7)) m
-  may-by_all integers (either c d) x z m =
-      ⊎_elim (λ k. inl (k.0, may-by_all integers c x k.0 k.1, k.2, k.3))
-      (λ k. inr (k.0, k.1, may-by_all integers c x (pos 0) k.2, may-by_all integers d x k.0 k.3, k.4, k.5)) m
-  may-by_all integers (chosen sign c e f) x z m =
-      ⊎_elim (λ k. inl (k.0, may-by_all integers c x k.0 k.1, k.2, may-by_all integers e x z k.3))
-      (λ k. inr (may-by_all integers c x (pos 0) k.0, may-by_all integers f x z k.1)) m
+  -- each value that an expression may have by some integers it may have by all, and it leaves the same
+  pub may-by_all : (integers : Integers) (e : Expression) (x : State) (z : ℤ) (y : State) → May integers e x z y → May Mathematical e x z y
+  may-by_all integers (number v at) x z y m = (m.0, tt, m.2)
+  may-by_all integers (variable i at) x z y m = m
+  may-by_all integers (unknown at) x z y m = (tt, m.1)
+  may-by_all integers (call es at) x z y m = (all-by_all integers es x y m.0, tt)
+  may-by_all integers (element is at) x z y m = (indexes-by_all integers is x y m.0, tt)
+  may-by_all integers (stepped direction moment i sign at) x z y m = (m.0, m.1, tt, m.3, m.4)
+  may-by_all integers (grouped at e) x z y m = may-by_all integers e x z y m
+  may-by_all integers (negative at e) x z y m = (m.0, may-by_all integers e x m.0 y m.1, m.2, tt)
+  may-by_all integers (positive at e) x z y m = may-by_all integers e x z y m
+  may-by_all integers (inverse at e) x z y m = (m.0, m.1, may-by_all integers e x m.0 y m.2, m.3, m.4)
+  may-by_all integers (joined o sign e f) x z y m =
+      (m.0, m.1, m.2, may-by_all integers e x m.1 m.0 m.3, may-by_all integers f m.0 m.2 y m.4, m.5, held_by_all o m.1 m.2 z)
+  may-by_all integers (compared rel sign e f) x z y m =
+      (m.0, m.1, m.2, m.3, may-by_all integers e x m.1 m.0 m.4, may-by_all integers f m.0 m.2 y m.5, m.6, m.7)
+  may-by_all integers (both c d) x z y m =
+      ⊎_elim (λ k. inl (may-by_all integers c x (pos 0) y k.0, k.1))
+      (λ k. inr (k.0, k.1, k.2, k.3, may-by_all integers c x k.1 k.0 k.4, k.5, may-by_all integers d k.0 k.2 y k.6, k.7, k.8)) m
+  may-by_all integers (either c d) x z y m =
+      ⊎_elim (λ k. inl (k.0, may-by_all integers c x k.0 y k.1, k.2, k.3))
+      (λ k. inr (k.0, k.1, k.2, may-by_all integers c x (pos 0) k.0 k.3, may-by_all integers d k.0 k.1 y k.4, k.5, k.6)) m
+  may-by_all integers (chosen sign c e f) x z y m =
+      ⊎_elim (λ k. inl (k.0, k.1, may-by_all integers c x k.1 k.0 k.2, k.3, may-by_all integers e k.0 z y k.4))
+      (λ k. inr (k.0, may-by_all integers c x (pos 0) k.0 k.1, may-by_all integers f k.0 z y k.2)) m
 
   -- so each of some expressions
-  pub all-by_all : (integers : Integers) (es : Expressions) (x : State) → AllMay integers es x → AllMay Mathematical es x
-  all-by_all integers none x m = tt
-  all-by_all integers (more e es) x m = ((m.0.0, may-by_all integers e x m.0.0 m.0.1), all-by_all integers es x m.1)
+  pub all-by_all : (integers : Integers) (es : Expressions) (x y : State) → AllMay integers es x y → AllMay Mathematical es x y
+  all-by_all integers none x y m = m
+  all-by_all integers (more e es) x y m = (m.0, m.1, may-by_all integers e x m.1 m.0 m.2, all-by_all integers es m.0 y m.3)
 
   -- and each of some indexes
-  pub indexes-by_all : (integers : Integers) (is : Subscripts) (x : State) → AreIndexes integers is x → AreIndexes Mathematical is x
-  indexes-by_all integers no_subscript x m = tt
-  indexes-by_all integers (subscript extent bracket e is) x m =
-      ((m.0.0, may-by_all integers e x m.0.0 m.0.1, m.0.2), indexes-by_all integers is x m.1)
+  pub indexes-by_all : (integers : Integers) (is : Subscripts) (x y : State) → AreIndexes integers is x y → AreIndexes Mathematical is x y
+  indexes-by_all integers no_subscript x y m = m
+  indexes-by_all integers (subscript extent bracket e is) x y m =
+      (m.0, m.1, may-by_all integers e x m.1 m.0 m.2, m.3, indexes-by_all integers is m.0 y m.4)
 
 -- ---- results
 -- two expressions have one result, and take the same hidden variables
@@ -146,6 +147,14 @@ module _ (integers : Integers) (line : ℕ) where
     elaborated_same (unknown at) h = (refl, refl)
     elaborated_same (call es at) h = (refl, evaluated_same es h)
     elaborated_same (element is at) h = (refl, indexed_same is h)
+    elaborated_same (stepped direction moment i sign at) h =
+        let one = constant_form (pos 1) in
+        let a = operated integers line (step_by direction) sign [] h (variable_form i) one in
+        let b = operated Mathematical line (step_by direction) sign [] h (variable_form i) one in (
+          refl,
+          (ranged_same sign (λ width r. operation_held width (step_by direction) (variable_form i) one r) a b
+              (operated_same (step_by direction) sign [] [] h (variable_form i) one)).1,
+        )
     elaborated_same (grouped at e) h = elaborated_same e h
     elaborated_same (negative at e) h =
         let a = numbered_same (elaborated integers line e h) (elaborated Mathematical line e h) (elaborated_same e h) in

@@ -1,5 +1,5 @@
 -- Variables that take any of the integers, and conditions that a form is one of them.
-use Rattle.std.proofs.Common.{◌≡◌, inl, inr, ℕ, suc, true, false, ◌∷◌, refl, sym, ap, ◌∙◌, arith}
+use Rattle.std.proofs.Common.{◌≡◌, inl, inr, ◌≤◌, ℕ, suc, true, false, ◌∷◌, refl, sym, ap, ◌∙◌, arith}
 use Rattle.std.specs.Prelude.{ℤ, pos, negsuc, ◌-ℤ◌, ◌≤ℤ◌, ◌<ℤ◌}
 use Rattle.std.proofs.lemmas.Int.{ints, by_lt_z}
 use Rattle.lang_tree.specs.declared.form.Form.{Form}
@@ -13,6 +13,7 @@ use Rattle.source_core.specs.Forms.{constant_form, variable_form}
 use Rattle.source_core.specs.Preludes.{AllLeave}
 use Rattle.source_core.specs.Elaborated.{held, is_held}
 use Rattle.source_core.proofs.forms.Forms.{value-minus, value-constant}
+use Rattle.source_core.proofs.preludes.Preludes.{WritesFrom}
 use Rattle.source_core.proofs.preludes.Parts.{Fits, hidden-is}
 
 below : (d k v z : ℤ) → d ≡ k -ℤ v → z ≡ v → k ≤ℤ z → d ≤ℤ pos 0
@@ -66,21 +67,23 @@ take-any (Machine width) line h x z m =
     let y = put (pos 0) x h z in
     (y, (z, refl), (y, (held-true width (variable_form h) y z (sym (hidden-is h x z)) m, refl), refl))
 
--- what a variable took is one of the integers, and nothing else was changed
-pub took-any : (integers : Integers) (line h : ℕ) (x y : State) → AllLeave (havocs h line ∷ held integers line h) x y
-    → (z : ℤ) × (y ≡ put (pos 0) x h z)
-took-any Mathematical line h x y l = (l.1.0, l.2 ∙ l.1.1)
-took-any (Machine width) line h x y l = (l.1.0, l.2.2 ∙ l.2.1.1 ∙ l.1.1)
+-- a variable that takes any of the integers is written alone
+pub writes-any : (integers : Integers) (line h : ℕ) → WritesFrom h (havocs h line ∷ held integers line h)
+writes-any Mathematical line h = (omega arith, tt)
+writes-any (Machine width) line h = (omega arith, tt)
 
--- the deeds by which a hidden variable takes any of the integers take this variable alone
-pub fits-any : (integers : Integers) (line h : ℕ) → Fits h (havocs h line ∷ held integers line h) (suc h)
-fits-any Mathematical line h = record {
+-- so these deeds take this hidden variable alone
+pub fits-any : (integers : Integers) (line n : ℕ) (S : ℕ → Type 0) (h : ℕ) → n ≤ h
+    → Fits n S h (havocs h line ∷ held integers line h) (suc h)
+fits-any Mathematical line n S h a = record {
+  above = a;
   grows = omega arith;
-  writes = (omega arith, tt);
+  writes = (inr (omega arith), tt);
   goes = λ x. (put (pos 0) x h (pos 0), take-any Mathematical line h x (pos 0) tt);
 }
-fits-any (Machine width) line h = record {
+fits-any (Machine width) line n S h a = record {
+  above = a;
   grows = omega arith;
-  writes = (omega arith, tt);
+  writes = (inr (omega arith), tt);
   goes = λ x. (put (pos 0) x h (pos 0), take-any (Machine width) line h x (pos 0) (has-zero (Machine width)));
 }

@@ -1,15 +1,16 @@
 -- Preludes one after another, what they write, and those whose checks stand under a condition.
-use Rattle.std.proofs.Common.{◌≡◌, inl, inr, ⊎_elim, ◌≤◌, ℕ, true, List, [], ◌∷◌, ◌++◌, get_or}
+use Rattle.std.proofs.Common.{◌≡◌, ◌≢◌, ◌⊎◌, inl, inr, ⊎_elim, ◌≤◌, ℕ, true, List, [], ◌∷◌, ◌++◌, get_or}
 use Rattle.std.proofs.Common.{sym, ap, subst, ◌∙◌, arith}
 use Rattle.std.specs.Prelude.{ℤ, pos}
 use Rattle.lang_tree.specs.declared.check.Check.{Check}
 use Rattle.lang_tree.specs.Tree.{Condition}
 use Rattle.lang_tree.specs.Meaning.{State, put, MayBe}
-use Rattle.lang_tree.proofs.Put.{get_or-put_other}
+use Rattle.std.proofs.lemmas.Bool.Decides.{eqb_tells}
+use Rattle.lang_tree.proofs.Put.{get_or-put_same, get_or-put_other}
 use Rattle.lang_tree.specs.Tree.{Deed, sets, havocs, wheres, checks}
 use Rattle.source_core.specs.Preludes.{AllLeave, MayFail, all_under}
 use Rattle.source_core.specs.Laws.{Agree}
-use Rattle.source_core.proofs.forms.Over.{agree_refl, agree_trans, ConditionOver, may_be-agrees}
+use Rattle.source_core.proofs.forms.Over.{agree_trans, agree_less, ConditionOver, may_be-agrees}
 
 -- ---- one after another
 -- one list of deeds and then another may leave what the second may leave behind the first
@@ -35,54 +36,82 @@ fail-behind (checks other c line ∷ ds) es x y about h k =
     inr (fail-behind ds es x y about (subst (λ s. AllLeave ds s y) h.1 h.2) k)
 
 -- ---- what they write
+-- no variable is written but these
+abbrev pub WritesIn : (ℕ → Type 0) → List Deed → Type 0
+WritesIn W [] = Unit {0}
+WritesIn W (sets i f line ∷ ds) = W i × WritesIn W ds
+WritesIn W (havocs i line ∷ ds) = W i × WritesIn W ds
+WritesIn W (wheres c line ∷ ds) = WritesIn W ds
+WritesIn W (checks about c line ∷ ds) = WritesIn W ds
+
 -- no variable is written but from the n-th on
 abbrev pub WritesFrom : ℕ → List Deed → Type 0
-WritesFrom n [] = Unit {0}
-WritesFrom n (sets i f line ∷ ds) = (n ≤ i) × WritesFrom n ds
-WritesFrom n (havocs i line ∷ ds) = (n ≤ i) × WritesFrom n ds
-WritesFrom n (wheres c line ∷ ds) = WritesFrom n ds
-WritesFrom n (checks about c line ∷ ds) = WritesFrom n ds
+WritesFrom n ds = WritesIn (λ i. n ≤ i) ds
 
--- where neither of two lists of deeds writes the first variables, both together don't
-pub writes-then : (n : ℕ) (ds es : List Deed) → WritesFrom n ds → WritesFrom n es → WritesFrom n (ds ++ es)
-writes-then n [] es h k = k
-writes-then n (sets i f line ∷ ds) es h k = (h.0, writes-then n ds es h.1 k)
-writes-then n (havocs i line ∷ ds) es h k = (h.0, writes-then n ds es h.1 k)
-writes-then n (wheres c line ∷ ds) es h k = writes-then n ds es h k
-writes-then n (checks about c line ∷ ds) es h k = writes-then n ds es h k
+-- where neither of two lists of deeds writes other variables, both together don't
+pub writes-then : (W : ℕ → Type 0) (ds es : List Deed) → WritesIn W ds → WritesIn W es → WritesIn W (ds ++ es)
+writes-then W [] es h k = k
+writes-then W (sets i f line ∷ ds) es h k = (h.0, writes-then W ds es h.1 k)
+writes-then W (havocs i line ∷ ds) es h k = (h.0, writes-then W ds es h.1 k)
+writes-then W (wheres c line ∷ ds) es h k = writes-then W ds es h k
+writes-then W (checks about c line ∷ ds) es h k = writes-then W ds es h k
 
--- deeds that write none of some variables write none of fewer
-pub writes-less : (n m : ℕ) (ds : List Deed) → n ≤ m → WritesFrom m ds → WritesFrom n ds
-writes-less n m [] s h = tt
-writes-less n m (sets i f line ∷ ds) s h = (omega (arith, s, h.0), writes-less n m ds s h.1)
-writes-less n m (havocs i line ∷ ds) s h = (omega (arith, s, h.0), writes-less n m ds s h.1)
-writes-less n m (wheres c line ∷ ds) s h = writes-less n m ds s h
-writes-less n m (checks about c line ∷ ds) s h = writes-less n m ds s h
+-- deeds that write these variables alone write none but more of them
+pub writes-more : (W V : ℕ → Type 0) (ds : List Deed) → ((i : ℕ) → W i → V i) → WritesIn W ds → WritesIn V ds
+writes-more W V [] f h = tt
+writes-more W V (sets i g line ∷ ds) f h = (f i h.0, writes-more W V ds f h.1)
+writes-more W V (havocs i line ∷ ds) f h = (f i h.0, writes-more W V ds f h.1)
+writes-more W V (wheres c line ∷ ds) f h = writes-more W V ds f h
+writes-more W V (checks about c line ∷ ds) f h = writes-more W V ds f h
 
-put-agrees : (n i : ℕ) (x y : State) (z : ℤ) → n ≤ i → y ≡ put (pos 0) x i z → Agree n x y
-put-agrees n i x y z s e j l =
-    sym (get_or-put_other (pos 0) x i j z (λ same. omega (arith, s, l, same))) ∙ ap (λ (r : State). get_or r j (pos 0)) (sym e)
+-- a variable keeps its value where another one takes one
+pub put-keeps : (i j : ℕ) (x y : State) (z : ℤ) → j ≢ i → y ≡ put (pos 0) x i z → get_or x j (pos 0) ≡ get_or y j (pos 0)
+put-keeps i j x y z d e = sym (get_or-put_other (pos 0) x i j z d) ∙ ap (λ (r : State). get_or r j (pos 0)) (sym e)
+
+other : (W : ℕ → Type 0) (i j : ℕ) → W i → ¬ (W j) → j ≢ i
+other W i j w n e = n (subst W (sym e) w)
 
 -- deeds keep the variables that they don't write
+pub leave-keeps : (W : ℕ → Type 0) (ds : List Deed) (x y : State) (j : ℕ) → WritesIn W ds → AllLeave ds x y → ¬ (W j)
+    → get_or x j (pos 0) ≡ get_or y j (pos 0)
+leave-keeps W [] x y j w h n = ap (λ (r : State). get_or r j (pos 0)) (sym h)
+leave-keeps W (sets i f line ∷ ds) x y j w h n =
+    put-keeps i j x h.0 _ (other W i j w.0 n) h.1 ∙ leave-keeps W ds h.0 y j w.1 h.2 n
+leave-keeps W (havocs i line ∷ ds) x y j w h n =
+    put-keeps i j x h.0 _ (other W i j w.0 n) h.1.1 ∙ leave-keeps W ds h.0 y j w.1 h.2 n
+leave-keeps W (wheres c line ∷ ds) x y j w h n =
+    ap (λ (r : State). get_or r j (pos 0)) (sym h.1.1) ∙ leave-keeps W ds h.0 y j w h.2 n
+leave-keeps W (checks about c line ∷ ds) x y j w h n =
+    ap (λ (r : State). get_or r j (pos 0)) (sym h.1) ∙ leave-keeps W ds h.0 y j w h.2 n
+
+-- so the first ones where others are written
 pub leave-agrees : (n : ℕ) (ds : List Deed) (x y : State) → WritesFrom n ds → AllLeave ds x y → Agree n x y
-leave-agrees n [] x y w h = subst (λ s. Agree n x s) (sym h) (agree_refl n x)
-leave-agrees n (sets i f line ∷ ds) x y w h =
-    agree_trans n x h.0 y (put-agrees n i x h.0 _ w.0 h.1) (leave-agrees n ds h.0 y w.1 h.2)
-leave-agrees n (havocs i line ∷ ds) x y w h =
-    agree_trans n x h.0 y (put-agrees n i x h.0 _ w.0 h.1.1) (leave-agrees n ds h.0 y w.1 h.2)
-leave-agrees n (wheres c line ∷ ds) x y w h =
-    agree_trans n x h.0 y (subst (λ s. Agree n x s) (sym h.1.1) (agree_refl n x)) (leave-agrees n ds h.0 y w h.2)
-leave-agrees n (checks about c line ∷ ds) x y w h =
-    agree_trans n x h.0 y (subst (λ s. Agree n x s) (sym h.1) (agree_refl n x)) (leave-agrees n ds h.0 y w h.2)
+leave-agrees n ds x y w h i l = leave-keeps (λ k. n ≤ k) ds x y i w h (λ k. omega (arith, l, k))
+
+-- states agree still where only hidden variables are written behind one of them
+pub hidden-agrees : (n h : ℕ) (ds : List Deed) (x y z : State) → n ≤ h → WritesFrom h ds → Agree n x y → AllLeave ds y z → Agree n x z
+hidden-agrees n h ds x y z s w a l = agree_trans n x y z a (agree_less n h y z s (leave-agrees h ds y z w l))
+
+put-agrees : (n i : ℕ) (x y : State) (z : ℤ) → n ≤ i → y ≡ put (pos 0) x i z → Agree n x y
+put-agrees n i x y z s e j l = put-keeps i j x y z (λ same. omega (arith, s, l, same)) e
+
+-- states that agree agree when one variable takes a value
+pub put-agree : (n var : ℕ) (x y : State) (z : ℤ) → Agree n x y → Agree n (put (pos 0) x var z) (put (pos 0) y var z)
+put-agree n var x y z a i l = by (⊎_elim (λ h. inl h.1) (λ h. inr h.1) (eqb_tells i var))
+  where
+    by : (i ≡ var) ⊎ (i ≢ var) → get_or (put (pos 0) x var z) i (pos 0) ≡ get_or (put (pos 0) y var z) i (pos 0)
+    by (inl e) = ap (λ k. get_or (put (pos 0) x var z) k (pos 0)) e ∙ get_or-put_same (pos 0) x var z (pos 0)
+        ∙ sym (get_or-put_same (pos 0) y var z (pos 0)) ∙ ap (λ k. get_or (put (pos 0) y var z) k (pos 0)) (sym e)
+    by (inr d) = get_or-put_other (pos 0) x var i z d ∙ a i l ∙ sym (get_or-put_other (pos 0) y var i z d)
 
 -- ---- checks under a condition
 -- deeds write the same variables with their checks under a condition
-pub writes-under : (n : ℕ) (c : Condition) (ds : List Deed) → WritesFrom n ds → WritesFrom n (all_under c ds)
-writes-under n c [] h = tt
-writes-under n c (sets i f line ∷ ds) h = (h.0, writes-under n c ds h.1)
-writes-under n c (havocs i line ∷ ds) h = (h.0, writes-under n c ds h.1)
-writes-under n c (wheres d line ∷ ds) h = writes-under n c ds h
-writes-under n c (checks about d line ∷ ds) h = writes-under n c ds h
+pub writes-under : (W : ℕ → Type 0) (c : Condition) (ds : List Deed) → WritesIn W ds → WritesIn W (all_under c ds)
+writes-under W c [] h = tt
+writes-under W c (sets i f line ∷ ds) h = (h.0, writes-under W c ds h.1)
+writes-under W c (havocs i line ∷ ds) h = (h.0, writes-under W c ds h.1)
+writes-under W c (wheres d line ∷ ds) h = writes-under W c ds h
+writes-under W c (checks about d line ∷ ds) h = writes-under W c ds h
 
 -- deeds leave the same states with their checks under a condition
 pub leave-under : (c : Condition) (ds : List Deed) (x y : State) → AllLeave ds x y → AllLeave (all_under c ds) x y

@@ -112,8 +112,8 @@ module _ (integers : Integers) (n : ℕ) where
 
   -- ---- steps
   change_by_all : (g : Change) (x y : State) → Changes integers g x y → Changes Mathematical g x y
-  change_by_all (set_to var e line) x y m = (m.0, may-by_all integers e x m.0 m.1, m.2)
-  change_by_all (evaluates es line) x y m = (all-by_all integers es x m.0, m.1)
+  change_by_all (set_to var e line) x y m = (m.0, m.1, may-by_all integers e x m.0 m.1 m.2, m.3)
+  change_by_all (evaluates es line) x y m = all-by_all integers es x y m
 
   does_by_all : (exit : ℕ) (item : Item) (rest work : List Item) (x y : State) → Does integers n exit item rest x work y
       → Does Mathematical n exit item rest x work y
@@ -123,15 +123,14 @@ module _ (integers : Integers) (n : ℕ) where
   does_by_all exit (node (changes g) m) rest work x y d = (d.0, change_by_all g x y d.1)
   does_by_all exit (node (assumes e line) m) rest work x y d = (
     d.0,
-    may-by_all integers e x d.0 d.1,
+    may-by_all integers e x d.0 y d.1,
     d.2,
     d.3 ∙ ap (λ c. if splits c then mark m ∷ rest else rest) (condition_same line e),
-    d.4,
   )
-  does_by_all exit (node (asserts e at line) m) rest work x y d = (d.0, may-by_all integers e x d.0 d.1, d.2, d.3, d.4)
+  does_by_all exit (node (asserts e at line) m) rest work x y d = (d.0, may-by_all integers e x d.0 y d.1, d.2, d.3)
   does_by_all exit (node (never at line) m) rest work x y d = d
   does_by_all exit (node (branch e first second line) m) rest work x y d =
-      (d.0, d.1, may-by_all integers e x d.0 d.2, d.3, d.4 ∙ branch_same d.1 first second m rest, d.5)
+      (d.0, d.1, may-by_all integers e x d.0 y d.2, d.3, d.4 ∙ branch_same d.1 first second m rest)
   does_by_all exit (node (loop kind e body line) m) rest work x y d =
       (d.0 ∙ ap (λ w. mark m ∷ w) (head_same kind e body line m rest), d.1)
   does_by_all exit (node (jump breaks line) m) rest work x y d = d
@@ -139,7 +138,7 @@ module _ (integers : Integers) (n : ℕ) where
   does_by_all exit (node (jump returns line) m) rest work x y d = d
   does_by_all exit (node (label name line) m) rest work x y d = d
   does_by_all exit (turn kind e body line m) rest work x y d =
-      (d.0, d.1, may-by_all integers e x d.0 d.2, d.3, d.4 ∙ turn_same d.1 kind e body line m rest, d.5)
+      (d.0, d.1, may-by_all integers e x d.0 y d.2, d.3, d.4 ∙ turn_same d.1 kind e body line m rest)
   does_by_all exit (end kind e body line m) rest work x y d = (d.0 ∙ end_same kind e body line m rest, d.1)
 
   follows_by_all : (exit : ℕ) (c : Configuration) (cs : List Configuration) → Follows integers n exit c cs

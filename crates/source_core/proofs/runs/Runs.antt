@@ -9,13 +9,14 @@ use Rattle.lang_tree.specs.Runs as core
 use Rattle.lang_tree.specs.Runs.{left_at}
 use Rattle.source_tree.specs.Statements.{Statements}
 use Rattle.source_core.specs.Laws.{Agree}
-use Rattle.source_core.specs.RunLaws.{are_statements_over, RunsAreKept}
+use Rattle.source_core.specs.RunLaws.{Test, all_pass, over_test, are_statements_over, apart_test, are_statements_apart, RunsAreKept}
 use Rattle.source_core.specs.Core.{core_in}
 use Rattle.source_core.specs.SourceRuns.{mark, Configuration, Follows, exit_of, start_work}
 use Rattle.source_core.proofs.forms.Over.{agree_refl, agree_sym}
 use Rattle.source_core.proofs.runs.Work.{image, image-nodes_then}
 use Rattle.source_core.proofs.runs.Reach.{last_of, follows-then}
-use Rattle.source_core.proofs.runs.Steps.{Same, work_over, over-nodes}
+use Rattle.source_core.proofs.runs.Passing.{work_passes, passing-nodes}
+use Rattle.source_core.proofs.runs.Steps.{Same}
 use Rattle.source_core.proofs.runs.Simulated.{simulated}
 use Rattle.base_integers.specs.declared.integers.Integers.{Integers}
 
@@ -72,18 +73,25 @@ keep integers n exit s (t ∷ ts) c same f =
 pub take-all : (n : ℕ) (x : State) → length x ≡ n → take n x ≡ x
 take-all n x e = ap (λ k. take k x) (sym e) ∙ take-length x
 
+-- what the source starts with passes what its statements pass
+pub started : (test : Test) (integers : Integers) (n : ℕ) (body : Statements) (s : Configuration) → s.work ≡ start_work integers n body
+    → IsTrue (all_pass test body) → work_passes test s.work
+started test integers n body s w o =
+    subst (work_passes test) (sym w) (tt, passing-nodes test integers n body 1 (mark (exit_of integers n body) ∷ []) o (tt, tt))
+
 -- where the core starts stands for where the source starts, in the same state
 pub starts : (integers : Integers) (n : ℕ) (body : Statements) (s : Configuration) → IsTrue (are_statements_over n body)
-    → s.work ≡ start_work integers n body
+    → IsTrue (are_statements_apart body) → s.work ≡ start_work integers n body
     → length s.state ≡ n → Same integers n s record { work = core.start_work (core_in integers n body); state = s.state }
-starts integers n body s o w l = record {
+starts integers n body s o p w l = record {
   work = sym (ap (image integers n) w ∙ ap (λ r. core.mark 0 ∷ r) (image-nodes_then integers n body 1 (mark
       (exit_of integers n body) ∷ [])));
   agree = agree_refl n s.state;
   size = l;
   enough = omega (arith, l);
   left = take-all n s.state l;
-  over = subst (work_over n) (sym w) (tt, over-nodes integers n body 1 (mark (exit_of integers n body) ∷ []) o (tt, tt));
+  over = started (over_test n) integers n body s w o;
+  apart = started apart_test integers n body s w p;
 }
 
 -- ---- elements of lists
@@ -118,13 +126,13 @@ taken_ends n x e = let k = length-take n x in let t = ap (λ (s : State). length
 -- ---- the law
 -- for each run of the source there is one of its core
 pub runs-kept : RunsAreKept
-runs-kept integers n body o [] r = absurd r
-runs-kept integers n body o (s ∷ ss) r =
+runs-kept integers n body o p [] r = absurd r
+runs-kept integers n body o p (s ∷ ss) r =
     let c : core.Configuration = record { work = core.start_work (core_in integers n body); state = s.state } in
-    let k = keep integers n (exit_of integers n body) s ss c (starts integers n body s o r.0 r.1) r.3 in (
+    let k = keep integers n (exit_of integers n body) s ss c (starts integers n body s o p r.0 r.1) r.3 in (
       c ∷ k.path,
       (refl, r.1, k.follows),
-      λ t h p at.
+      λ t h q at.
           let d = k.each t (contains-among s ss t h) in
           let w = d.2.work ∙ ap (image integers n) at.1 in
           let short = taken_ends n d.0.state (ap (λ v. left_at n v d.0.state) (sym w) ∙ d.2.left) in (

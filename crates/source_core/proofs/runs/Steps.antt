@@ -1,36 +1,34 @@
 -- Each step of a source program is done by steps of its core.
-use Rattle.std.proofs.Common.{◌≡◌, ◌≢◌, ◌⊎◌, inl, inr, ⊎_elim, ◌≤◌, ℕ, zero, suc, Bool, List, [], ◌∷◌, ◌++◌, length, take, get_or}
+use Rattle.std.proofs.Common.{◌≡◌, ◌≤◌, ◌+◌, ℕ, zero, suc, Bool, List, [], ◌∷◌, ◌++◌, length, take}
 use Rattle.std.proofs.Common.{refl, sym, ap, subst, ◌∙◌, arith}
-use Rattle.std.specs.Prelude.{ℤ, pos, nat_lt, IsTrue}
-use Rattle.std.specs.List.{list_all}
+use Rattle.std.specs.Prelude.{ℤ, pos, ◌==◌, nat_lt, IsTrue}
 use Rattle.std.proofs.lemmas.Bool.{ltb-true}
-use Rattle.std.proofs.lemmas.Bool.Decides.{eqb_tells}
 use Rattle.lang_tree.specs.Tree.{Deed}
 use Rattle.lang_tree.specs.Tree as tree
 use Rattle.lang_tree.specs.Meaning.{State, put, value, MayBe}
 use Rattle.lang_tree.specs.Runs as core
 use Rattle.lang_tree.specs.Runs.{left_at}
-use Rattle.lang_tree.proofs.Put.{put_keeps, put_size, get_or-put_same, get_or-put_other}
+use Rattle.lang_tree.proofs.Put.{put_keeps, put_size}
 use Rattle.source_tree.specs.Expressions.{Expression}
 use Rattle.source_tree.specs.Values.{Tells, May}
 use Rattle.source_tree.specs.Statements.{Change, sets, evaluates}
-use Rattle.source_tree.specs.Statements.{Statements, loop, nil, cons}
 use Rattle.source_core.specs.Preludes.{AllLeave}
-use Rattle.source_core.specs.Laws.{is_over, Agree, MayResult}
-use Rattle.source_core.specs.RunLaws.{is_change_over, is_statement_over, are_statements_over}
-use Rattle.source_core.specs.Elaborated.{Result, a_form, a_truth, any, Elaborated, elaborated, evaluated, numbered}
+use Rattle.source_core.specs.Laws.{is_over, Agree, MayResult, occurrences, occurrences_in, steps_apart}
+use Rattle.source_core.specs.RunLaws.{is_change_over, over_test, is_change_apart, apart_test}
+use Rattle.source_core.specs.Elaborated.{Result, a_form, a_truth, any, Elaborated, elaborated, numbered}
 use Rattle.source_core.specs.Core.{behind, taken, change_deeds, condition_of, taken_any}
-use Rattle.source_core.specs.SourceRuns.{Item, node, change, mark, turn, end, Changes, Configuration, nodes, past_loop, end_of_body}
-use Rattle.source_core.specs.SourceRuns.{changes_work}
+use Rattle.source_core.specs.SourceRuns.{Item, Changes, Configuration}
 use Rattle.source_core.proofs.forms.Tests.{both_of}
 use Rattle.source_core.proofs.forms.Over.{agree_trans}
-use Rattle.source_core.proofs.preludes.Preludes.{leave-then, leave-agrees}
+use Rattle.source_core.proofs.preludes.Preludes.{leave-then, put-agree}
 use Rattle.source_core.proofs.preludes.Parts.{Keeps}
 use Rattle.source_core.proofs.preludes.Held.{take-any}
 use Rattle.source_core.proofs.preludes.Results.{keeps-number, keeps-truth}
-use Rattle.source_core.proofs.expressions.Values.{may-agrees, all_may-agrees}
+use Rattle.source_core.proofs.expressions.Apart.{Stepped, counts, occurs_in, apart-alone, apart-target, apart-together}
+use Rattle.source_core.proofs.expressions.Ranges.{left-keeps, all_left-keep, sized}
 use Rattle.source_core.proofs.expressions.Kept.{kept, all_kept}
 use Rattle.source_core.proofs.runs.Work.{deed_items, deed_items-onto, nodes-behind, image}
+use Rattle.source_core.proofs.runs.Passing.{work_passes}
 use Rattle.source_core.proofs.runs.Reach.{Reaches, reaches-same, reaches-step, reaches-then, step, do-deeds}
 use Rattle.base_integers.specs.declared.integers.Integers.{Integers}
 
@@ -91,62 +89,6 @@ leave-longer (tree.wheres c line ∷ ds) x y l =
 leave-longer (tree.checks about c line ∷ ds) x y l =
     let e = ap (λ (s : State). length s) l.1 in let b = leave-longer ds l.0 y l.2 in omega (arith, e, b)
 
--- states that agree agree when one variable takes a value
-pub put-agree : (n var : ℕ) (x y : State) (z : ℤ) → Agree n x y → Agree n (put (pos 0) x var z) (put (pos 0) y var z)
-put-agree n var x y z a i l = by (⊎_elim (λ h. inl h.1) (λ h. inr h.1) (eqb_tells i var))
-  where
-    by : (i ≡ var) ⊎ (i ≢ var) → get_or (put (pos 0) x var z) i (pos 0) ≡ get_or (put (pos 0) y var z) i (pos 0)
-    by (inl e) = ap (λ k. get_or (put (pos 0) x var z) k (pos 0)) e ∙ get_or-put_same (pos 0) x var z (pos 0)
-        ∙ sym (get_or-put_same (pos 0) y var z (pos 0)) ∙ ap (λ k. get_or (put (pos 0) y var z) k (pos 0)) (sym e)
-    by (inr d) = get_or-put_other (pos 0) x var i z d ∙ a i l ∙ sym (get_or-put_other (pos 0) y var i z d)
-
--- ---- work over the first n variables
--- an item has no variables but the first n
-abbrev pub item_over : ℕ → Item → Type 0
-item_over n (node s m) = IsTrue (is_statement_over n s)
-item_over n (change g) = IsTrue (is_change_over n g)
-item_over n (mark p) = Unit {0}
-item_over n (turn kind e body line m) = IsTrue (is_statement_over n (loop kind e body line))
-item_over n (end kind e body line m) = IsTrue (is_statement_over n (loop kind e body line))
-
--- work has no variables but the first n
-abbrev pub work_over : ℕ → List Item → Type 0
-work_over n [] = Unit {0}
-work_over n (i ∷ is) = item_over n i × work_over n is
-
--- the nodes of statements over the first n variables are so, and with such work behind them
-pub over-nodes : (integers : Integers) (n : ℕ) (ss : Statements) (m : ℕ) (is : List Item) → IsTrue (are_statements_over n ss)
-    → work_over n is
-    → work_over n (nodes integers n ss m ++ is)
-over-nodes integers n nil m is o w = w
-over-nodes integers n (cons s ss) m is o w =
-    let p = both_of (is_statement_over n s) (are_statements_over n ss) o in (p.0, over-nodes integers n ss _ is p.1 w)
-
--- past the innermost loop work is over the same variables
-pub over-past : (n : ℕ) (is : List Item) → work_over n is → work_over n (past_loop is)
-over-past n [] w = tt
-over-past n (node s m ∷ is) w = over-past n is w.1
-over-past n (change g ∷ is) w = over-past n is w.1
-over-past n (mark p ∷ is) w = over-past n is w.1
-over-past n (turn kind e body line m ∷ is) w = over-past n is w.1
-over-past n (end kind e body line m ∷ is) w = w.1
-
--- from the end of the innermost loop's body on work is over the same variables
-pub over-ending : (n : ℕ) (is : List Item) → work_over n is → work_over n (end_of_body is)
-over-ending n [] w = tt
-over-ending n (node s m ∷ is) w = over-ending n is w.1
-over-ending n (change g ∷ is) w = over-ending n is w.1
-over-ending n (mark p ∷ is) w = over-ending n is w.1
-over-ending n (turn kind e body line m ∷ is) w = over-ending n is w.1
-over-ending n (end kind e body line m ∷ is) w = w
-
--- the changes of a `for` over the first n variables are so, and with such work behind them
-pub over-changes : (n : ℕ) (gs : List Change) (is : List Item) → IsTrue (list_all (is_change_over n) gs) → work_over n is
-    → work_over n (changes_work gs is)
-over-changes n [] is o w = w
-over-changes n (g ∷ gs) is o w =
-    let p = both_of (is_change_over n g) (list_all (is_change_over n) gs) o in (p.0, over-changes n gs is p.1 w)
-
 -- ---- a source configuration and one of the core
 -- a configuration of the core stands for one of the source
 pub record Same (integers : Integers) (n : ℕ) (s : Configuration) (c : core.Configuration) : Type 0 where
@@ -161,7 +103,9 @@ pub record Same (integers : Integers) (n : ℕ) (s : Configuration) (c : core.Co
   -- no hidden value is there where a mark stands first
   pub left : left_at n c.work c.state ≡ c.state
   -- the source's work has no variables but these
-  pub over : work_over n s.work
+  pub over : work_passes (over_test n) s.work
+  -- its steps stand apart
+  pub apart : work_passes apart_test s.work
 
 -- what a step of the source is done by
 abbrev pub Done : (integers : Integers) (n exit : ℕ) → core.Configuration → Configuration → Type 0
@@ -169,92 +113,88 @@ Done integers n exit c t = (d : core.Configuration) × Reaches n exit c d × Sam
 
 -- a state that is reached before its hidden values are forgotten
 pub arrives : (integers : Integers) (n : ℕ) (work : List Item) (w : List core.Item) (y z : State) → w ≡ image integers n work
-    → Agree n y z → length y ≡ n → n ≤ length z
-    → work_over n work → Same integers n record { work = work; state = y } record { work = w; state = left_at n w z }
-arrives integers n work w y z e a s l o = record {
+    → Agree n y z → length y ≡ n → n ≤ length z → work_passes (over_test n) work → work_passes apart_test work
+    → Same integers n record { work = work; state = y } record { work = w; state = left_at n w z }
+arrives integers n work w y z e a s l o p = record {
   work = e;
   agree = left-agrees n w y z a;
   size = s;
   enough = left-enough n w z l;
   left = left-left n w z;
   over = o;
+  apart = p;
 }
 
 -- ---- changes
--- a variable takes a value that an expression may have
-taken-kept : (integers : Integers) (n line var : ℕ) (P : State → ℤ → Type 0) (e : Elaborated) → Keeps integers n P e
-    → (x : State) (z : ℤ) → P x z
-    → (y : State) × AllLeave (taken integers var line e e.result) x y × Agree n (put (pos 0) x var z) y
-taken-kept integers n line var P e k x z m = by e.result refl
+-- a variable takes a value that an expression may have, in the state that the expression leaves
+taken-kept : (integers : Integers) (n : ℕ) (S : ℕ → Type 0) (line var : ℕ) (P : State → ℤ → State → Type 0) (e : Elaborated)
+    → Keeps integers n S n P e → (x s : State) (z : ℤ) (u : State) → Agree n x s → P x z u
+    → (y : State) × AllLeave (taken integers var line e e.result) s y × Agree n (put (pos 0) u var z) y
+taken-kept integers n S line var P e k x s z u a m = by e.result refl
   where
-    number : (y : State) × AllLeave ((numbered integers line e).prelude ++ (tree.sets var (numbered integers line e).form line ∷ [])) x y
-        × Agree n (put (pos 0) x var z) y
+    number : (y : State) × AllLeave ((numbered integers line e).prelude ++ (tree.sets var (numbered integers line e).form line ∷ [])) s y
+        × Agree n (put (pos 0) u var z) y
     number =
         let f = (numbered integers line e).form in
-        let c = keeps-number integers line n P e k in
-        let r = c.keeps x z m in
-        let a = leave-agrees n (numbered integers line e).prelude x r.0 c.fits.writes r.1 in
+        let c = keeps-number integers line n S n P e k in
+        let r = c.keeps x s z u a m in
         let y = put (pos 0) r.0 var (value f r.0) in (
           y,
-          leave-then (numbered integers line e).prelude (tree.sets var f line ∷ []) x r.0 y r.1 (y, refl, refl),
-          subst (λ v. Agree n (put (pos 0) x var z) (put (pos 0) r.0 var v)) r.2 (put-agree n var x r.0 z a),
+          leave-then (numbered integers line e).prelude (tree.sets var f line ∷ []) s r.0 y r.1 (y, refl, refl),
+          subst (λ v. Agree n (put (pos 0) u var z) (put (pos 0) r.0 var v)) r.3 (put-agree n var u r.0 z r.2),
         )
 
-    by : (r : Result) → e.result ≡ r → (y : State) × AllLeave (taken integers var line e r) x y × Agree n (put (pos 0) x var z) y
-    by (a_form f) s = number
-    by (a_truth c) s = number
-    by any s =
-        let r = k.keeps x z m in
-        let a = leave-agrees n e.prelude x r.0 k.fits.writes r.1 in
+    by : (r : Result) → e.result ≡ r → (y : State) × AllLeave (taken integers var line e r) s y × Agree n (put (pos 0) u var z) y
+    by (a_form f) q = number
+    by (a_truth c) q = number
+    by any q =
+        let r = k.keeps x s z u a m in
         let y = put (pos 0) r.0 var z in (
           y,
-          leave-then e.prelude (taken_any integers var line) x r.0 y r.1
-              (take-any integers line var r.0 z (subst (λ q. MayResult integers q r.0 z) s r.2)),
-          put-agree n var x r.0 z a,
+          leave-then e.prelude (taken_any integers var line) s r.0 y r.1
+              (take-any integers line var r.0 z (subst (λ t. MayResult integers t r.0 z) q r.3)),
+          put-agree n var u r.0 z r.2,
         )
 
 -- each state that a change may leave agrees on the variables with one that its deeds may leave
-pub change-kept : (integers : Integers) (n : ℕ) (g : Change) (x y s : State) → IsTrue (is_change_over n g) → Agree n x s
-    → Changes integers g x y
+pub change-kept : (integers : Integers) (n : ℕ) (g : Change) (x y s : State) → IsTrue (is_change_over n g) → IsTrue (is_change_apart g)
+    → Agree n x s → Changes integers g x y
     → (t : State) × AllLeave (change_deeds integers n g) s t × Agree n y t
-change-kept integers n (sets var e line) x y s o a m =
-    let p = both_of (nat_lt var n) (is_over n e) o in
-    let k = kept integers line e n n (omega arith) p.1 in
-    let r = taken-kept integers n line var (May integers e) (elaborated integers line e n) k s m.0
-    (may-agrees integers e n x s m.0 p.1 a m.1) in (
-      r.0,
-      r.1,
-      agree_trans n y (put (pos 0) s var m.0) r.0
-          (subst (λ w. Agree n w (put (pos 0) s var m.0)) (sym m.2) (put-agree n var x s m.0 a)) r.2,
-    )
-change-kept integers n (evaluates es line) x y s o a m =
-    let k = all_kept integers line es n n (omega arith) o in
-    let r = k.keeps s (all_may-agrees integers es n x s o a m.0) in (
-      r.0,
-      r.1,
-      agree_trans n y s r.0 (subst (λ w. Agree n w s) (sym m.1) a)
-          (leave-agrees n (evaluated integers line es n).prelude s r.0 k.fits.writes r.1),
-    )
+change-kept integers n (sets var e line) x y s o p a m =
+    let test = λ (i : ℕ). occurs_in i var + occurrences i e == 1 in
+    let k = kept integers line e n n test (omega arith) (both_of (nat_lt var n) (is_over n e) o).1 (apart-target var e p) in
+    let r = taken-kept integers n (Stepped n test (counts e)) line var (May integers e) (elaborated integers line e n) k x s m.0 m.1 a
+    m.2 in
+    (r.0, r.1, subst (λ w. Agree n w r.0) (sym m.3) r.2)
+change-kept integers n (evaluates es line) x y s o p a m =
+    let k = all_kept integers line es n n (λ i. occurrences_in i es == 1) (omega arith) o (apart-together es p) in k.keeps x s y a m
 
 -- a change keeps the number of values
 pub change-size : (integers : Integers) (n : ℕ) (g : Change) (x y : State) → IsTrue (is_change_over n g) → length x ≡ n
     → Changes integers g x y → length y ≡ n
 change-size integers n (sets var e line) x y o l m =
-    let v = ltb-true var n (both_of (nat_lt var n) (is_over n e) o).0 in
-    ap (λ (s : State). length s) m.2 ∙ put_size (pos 0) x var m.0 (omega (arith, v, l)) ∙ l
-change-size integers n (evaluates es line) x y o l m = ap (λ (s : State). length s) m.1 ∙ l
+    let p = both_of (nat_lt var n) (is_over n e) o in
+    let v = ltb-true var n p.0 in
+    let u = left-keeps integers n (λ w. length w ≡ n) (sized integers n) e x m.0 m.1 p.1 m.2 l in
+    ap (λ (s : State). length s) m.3 ∙ put_size (pos 0) m.1 var m.0 (omega (arith, v, u)) ∙ u
+change-size integers n (evaluates es line) x y o l m = all_left-keep integers n (λ w. length w ≡ n) (sized integers n) es x y o m l
 
 -- ---- conditions
 -- behind the prelude of a condition it may be true, or false, as the value of its expression says
-pub condition-kept : (integers : Integers) (n line : ℕ) (e : Expression) (x s : State) (z : ℤ) → IsTrue (is_over n e) → Agree n x s
-    → May integers e x z
+pub condition-kept : (integers : Integers) (n line : ℕ) (e : Expression) (x s : State) (z : ℤ) (y : State) → IsTrue (is_over n e)
+    → IsTrue (steps_apart e) → Agree n x s → May integers e x z y
     → (t : State) × AllLeave (condition_of integers n line e).prelude s t × ((b : Bool) → Tells b z
-    → MayBe b (condition_of integers n line e).condition t)
-    × Agree n x t
-condition-kept integers n line e x s z o a m =
-    let k = keeps-truth integers n (May integers e) (elaborated integers line e n) (kept integers line e n n (omega arith) o) in
-    let r = k.keeps s z (may-agrees integers e n x s z o a m) in
-    (r.0, r.1, r.2, agree_trans n x s r.0 a (leave-agrees n (condition_of integers n line e).prelude s r.0 k.fits.writes r.1))
+    → MayBe b (condition_of integers n line e).condition t) × Agree n y t
+condition-kept integers n line e x s z y o p a m =
+    let test = λ (i : ℕ). occurrences i e == 1 in
+    let k = keeps-truth integers n (Stepped n test (counts e)) n (May integers e) (elaborated integers line e n)
+    (kept integers line e n n test (omega arith) o (apart-alone e p)) in
+    let r = k.keeps x s z y a m in (r.0, r.1, r.3, r.2)
+
+-- it keeps the number of values
+pub condition-size : (integers : Integers) (n : ℕ) (e : Expression) (x : State) (z : ℤ) (y : State) → IsTrue (is_over n e)
+    → length x ≡ n → May integers e x z y → length y ≡ n
+condition-size integers n e x z y o l m = left-keeps integers n (λ w. length w ≡ n) (sized integers n) e x z y o m l
 
 -- ---- a step behind a prelude
 -- the work of a statement that is a prelude and a last part

@@ -10,7 +10,7 @@ use Rattle.lang_tree.specs.Tree.{Condition, Deed, sets, havocs, wheres, checks}
 use Rattle.lang_tree.specs.Tree as core
 use Rattle.source_tree.specs.Expressions.{Operation, plus, minus, times, over, remainder}
 use Rattle.source_tree.specs.Expressions.{Expression, Expressions, number, variable, unknown, call, element, grouped, negative, positive}
-use Rattle.source_tree.specs.Expressions.{inverse, joined, compared, both, either, chosen, none, more}
+use Rattle.source_tree.specs.Expressions.{stepped, Direction, Moment, inverse, joined, compared, both, either, chosen, none, more}
 use Rattle.source_tree.specs.Expressions.{Extent, endless, elements, Subscripts, no_subscript, subscript}
 use Rattle.source_core.specs.Forms.{constant_form, variable_form, opposite, scaled, is_constant}
 use Rattle.source_core.specs.Forms as form
@@ -20,11 +20,13 @@ use Rattle.source_core.specs.Elaborated.{Result, a_form, a_truth, any, Elaborate
 use Rattle.source_core.specs.Elaborated.{is_index, is_unit, as_condition, tested, is_divisor, as_number, numbered, havocked, checked}
 use Rattle.source_core.specs.Elaborated.{quotient_behind, unless_zero, operated, choice}
 use Rattle.source_core.specs.Elaborated.{is_held, is_divided, operation_held, form_in, form_behind, held, ranged, number_at}
-use Rattle.source_core.specs.Elaborated.{operation_on}
+use Rattle.source_tree.specs.Values.{step_by}
+use Rattle.source_core.specs.Elaborated.{operation_on, step_behind}
 use Rattle.source_core.specs.Elaborated.{has, index_behind, elaborated, evaluated, indexed}
 use Rattle.source_core.proofs.forms.Over.{FormOver, over_more, over_plus, over_scaled, over_minus, over_constant, over_variable}
 use Rattle.source_core.proofs.forms.Over.{ConditionOver, condition_over_more}
 use Rattle.source_core.proofs.preludes.Parts.{ResultOver}
+use Rattle.source_core.proofs.expressions.Stepping.{step-over}
 use Rattle.base_integers.specs.declared.integers.Integers.{Integers}
 use Rattle.base_integers.specs.declared.integers.Integers.TheVariants.{Mathematical, Machine}
 use Rattle.base_integers.specs.declared.integers.Width.{Width}
@@ -334,6 +336,23 @@ index_within line h extent bracket i k =
     let d = checked line Index bracket (is_index extent i.form) in
     within_then h i.next i.next i.prelude (d ∷ []) k.within (check_within i.next d (is_index_over i.next extent i.form k.over))
 
+-- ---- steps
+step_within : (integers : Integers) (line n h : ℕ) (direction : Direction) (moment : Moment) (i sign : ℕ) → n ≤ h → i < n
+    → IsWithin h (step_behind integers line direction moment i sign h)
+step_within integers line n h direction moment i sign s l =
+    let one = constant_form (pos 1) in
+    let a = operation_on integers line (step_by direction) sign [] h (variable_form i) one in
+    let k = operation_within integers line h (step_by direction) sign [] h (variable_form i) one (within_none h)
+    (over_variable h i (omega (arith, l, s))) (over_constant h (pos 1)) in
+    let low : i < a.next = omega (arith, l, s, k.within.grows) in
+    record {
+      within = within_then h a.next a.next a.prelude (sets i (form_in a.result) line ∷ []) k.within record {
+        grows = omega arith;
+        deeds = ((low, form_in_over a.next a.result k.over), tt);
+      };
+      over = step-over a.next i direction moment low;
+    }
+
 -- ---- expressions
 mutual
   -- what an expression over the first n variables is in the core has these and the hidden ones that it takes
@@ -345,6 +364,8 @@ mutual
   elaborated_within integers line (unknown at) n h s o = record { within = within_none h; over = tt }
   elaborated_within integers line (call es at) n h s o = record { within = evaluated_within integers line es n h s o; over = tt }
   elaborated_within integers line (element is at) n h s o = record { within = indexed_within integers line is n h s o; over = tt }
+  elaborated_within integers line (stepped direction moment i sign at) n h s o =
+      step_within integers line n h direction moment i sign s (ltb-true i n o)
   elaborated_within integers line (grouped at e) n h s o = elaborated_within integers line e n h s o
   elaborated_within integers line (negative at e) n h s o =
       let a = numbered integers line (elaborated integers line e h) in

@@ -17,8 +17,10 @@ use Rattle.source_tree.specs.Expressions.{Expression, number, compared}
 use Rattle.source_tree.specs.Statements.{Change, while_loop, for_loop, do_loop, Statement, Statements, declares}
 use Rattle.source_tree.specs.Statements.{changes, assumes, asserts, never, branch, loop, jump, label, nil, cons}
 use Rattle.source_core.specs.Forms.{constant_form}
-use Rattle.source_core.specs.Laws.{is_over}
-use Rattle.source_core.specs.RunLaws.{is_change_over, is_statement_over, are_statements_over}
+use Rattle.source_core.specs.Laws.{is_over, steps_apart}
+use Rattle.source_core.specs.RunLaws.{Test, passes, all_pass, is_change_over, over_test, are_statements_over, is_change_apart, apart_test}
+use Rattle.source_core.specs.RunLaws.{are_statements_apart}
+use Rattle.source_core.proofs.runs.Passing.{all-pass-more}
 use Rattle.source_core.specs.Core.{taken_any, change_deeds, changes_deeds, condition_of, kind_of, core_of, core_in, behind}
 use Rattle.source_core.specs.Core as kept
 use Rattle.source_meaning.specs.Statements.{followed_by, one, as_statements}
@@ -142,15 +144,37 @@ always_good integers m n line at = by integers where
   by (Machine Bits32) = (refl, tested_good m (condition_of (Machine Bits32) n line always).condition (omega arith) refl refl)
 
 -- ---- what is good
+-- an expression has no variables but the first n, and steps in it stand apart
+abbrev pub is_kept : ℕ → Expression → Bool
+is_kept n e = is_over n e && steps_apart e
+
+-- so a change
+abbrev pub is_change_kept : ℕ → Change → Bool
+is_change_kept n g = is_change_over n g && is_change_apart g
+
+-- so statements
+abbrev pub kept_test : ℕ → Test
+kept_test n = record { declared = λ var. nat_lt var n; changed = is_change_kept n; tested = λ line e. is_kept n e }
+
+-- they have no variables but the first n
+pub kept_over : (n : ℕ) (ss : Statements) → IsTrue (all_pass (kept_test n) ss) → IsTrue (are_statements_over n ss)
+kept_over n ss h = all-pass-more (kept_test n) (over_test n) (λ i k. k)
+    (λ g k. (and_parts (is_change_over n g) (is_change_apart g) k).0) (λ line e k. (and_parts (is_over n e) (steps_apart e) k).0) ss h
+
+-- steps in them stand apart
+pub kept_apart : (n : ℕ) (ss : Statements) → IsTrue (all_pass (kept_test n) ss) → IsTrue (are_statements_apart ss)
+kept_apart n ss h = all-pass-more (kept_test n) apart_test (λ i k. refl)
+    (λ g k. (and_parts (is_change_over n g) (is_change_apart g) k).1) (λ line e k. (and_parts (is_over n e) (steps_apart e) k).1) ss h
+
 module _ (integers : Integers) (n : ℕ) where
   -- a condition has the first n variables, and in the core it keeps to the limits
   abbrev pub GoodCondition : (line : ℕ) → Expression → Type 0
-  GoodCondition line e = IsTrue (is_over n e) × IsTrue (list_all (is_deed (n + MOST_HIDDEN)) (condition_of integers n line e).prelude)
+  GoodCondition line e = IsTrue (is_kept n e) × IsTrue (list_all (is_deed (n + MOST_HIDDEN)) (condition_of integers n line e).prelude)
       × IsTrue (is_tested (n + MOST_HIDDEN) (condition_of integers n line e).condition)
 
   -- so does a change
   abbrev pub GoodChange : Change → Type 0
-  GoodChange g = IsTrue (is_change_over n g) × IsTrue (list_all (is_deed (n + MOST_HIDDEN)) (change_deeds integers n g))
+  GoodChange g = IsTrue (is_change_kept n g) × IsTrue (list_all (is_deed (n + MOST_HIDDEN)) (change_deeds integers n g))
 
   -- so do changes in order
   abbrev pub GoodChanges : List Change → Type 0
@@ -159,10 +183,10 @@ module _ (integers : Integers) (n : ℕ) where
 
   -- so do statements, a jump standing where it may
   abbrev pub GoodStatement : (inside : Bool) → Statement → Type 0
-  GoodStatement inside s = IsTrue (is_statement_over n s) × IsTrue (are_statements (n + MOST_HIDDEN) inside (core_of integers n s))
+  GoodStatement inside s = IsTrue (passes (kept_test n) s) × IsTrue (are_statements (n + MOST_HIDDEN) inside (core_of integers n s))
 
   abbrev pub Good : (inside : Bool) → Statements → Type 0
-  Good inside ss = IsTrue (are_statements_over n ss) × IsTrue (are_statements (n + MOST_HIDDEN) inside (core_in integers n ss))
+  Good inside ss = IsTrue (all_pass (kept_test n) ss) × IsTrue (are_statements (n + MOST_HIDDEN) inside (core_in integers n ss))
 
   -- no statements are good
   pub good_nil : (inside : Bool) → Good inside nil
@@ -171,7 +195,7 @@ module _ (integers : Integers) (n : ℕ) where
   -- a good statement and others
   pub good_cons : (inside : Bool) (s : Statement) (ss : Statements) → GoodStatement inside s → Good inside ss → Good inside (cons s ss)
   good_cons inside s ss g h = (
-    and_from (is_statement_over n s) (are_statements_over n ss) g.0 h.0,
+    and_from (passes (kept_test n) s) (all_pass (kept_test n) ss) g.0 h.0,
     core_then (n + MOST_HIDDEN) inside (core_of integers n s) (core_in integers n ss) g.1 h.1,
   )
 
@@ -181,7 +205,7 @@ module _ (integers : Integers) (n : ℕ) where
 
   good_parts : (inside : Bool) (s : Statement) (ss : Statements) → Good inside (cons s ss) → GoodStatement inside s × Good inside ss
   good_parts inside s ss g =
-      let p = and_parts (is_statement_over n s) (are_statements_over n ss) g.0 in
+      let p = and_parts (passes (kept_test n) s) (all_pass (kept_test n) ss) g.0 in
       let q = core_parts (n + MOST_HIDDEN) inside (core_of integers n s) (core_in integers n ss) g.1 in
       ((p.0, q.0), (p.1, q.1))
 
@@ -211,9 +235,9 @@ module _ (integers : Integers) (n : ℕ) where
   pub more_changes : (g : Change) (gs : List Change) → GoodChange g → GoodChanges gs → GoodChanges (g ∷ gs)
   more_changes g gs h k = (h, k)
 
-  changes_over : (gs : List Change) → GoodChanges gs → IsTrue (list_all (is_change_over n) gs)
+  changes_over : (gs : List Change) → GoodChanges gs → IsTrue (list_all (is_change_kept n) gs)
   changes_over [] h = refl
-  changes_over (g ∷ gs) h = and_from (is_change_over n g) (list_all (is_change_over n) gs) h.0.0 (changes_over gs h.1)
+  changes_over (g ∷ gs) h = and_from (is_change_kept n g) (list_all (is_change_kept n) gs) h.0.0 (changes_over gs h.1)
 
   changes_limited : (gs : List Change) → GoodChanges gs → IsTrue (list_all (is_deed (n + MOST_HIDDEN)) (changes_deeds integers n gs))
   changes_limited [] h = refl
@@ -232,8 +256,8 @@ module _ (integers : Integers) (n : ℕ) where
   good_branch inside line e a b c g h =
       let m = n + MOST_HIDDEN in
       let t = (condition_of integers n line e).condition in (
-        and_from (is_over n e) (are_statements_over n a && are_statements_over n b) c.0
-            (and_from (are_statements_over n a) (are_statements_over n b) g.0 h.0),
+        and_from (is_kept n e) (all_pass (kept_test n) a && all_pass (kept_test n) b) c.0
+            (and_from (all_pass (kept_test n) a) (all_pass (kept_test n) b) g.0 h.0),
         core_behind m inside (condition_of integers n line e).prelude
             (kept.one (core.branch t (core_in integers n a) (core_in integers n b) line)) c.1
             (core_one m inside (core.branch t (core_in integers n a) (core_in integers n b) line)
@@ -256,7 +280,7 @@ module _ (integers : Integers) (n : ℕ) where
   pub good_while : (inside : Bool) (line : ℕ) (e : Expression) (body : Statements) → GoodCondition line e → Good true body
       → GoodStatement inside (loop while_loop e body line)
   good_while inside line e body c g = (
-    and_from (is_over n e) (are_statements_over n body) c.0 g.0,
+    and_from (is_kept n e) (all_pass (kept_test n) body) c.0 g.0,
     core_loop inside line (core.while_loop (condition_of integers n line e).prelude) e body c c.1 g,
   )
 
@@ -264,7 +288,7 @@ module _ (integers : Integers) (n : ℕ) where
   pub good_do : (inside : Bool) (line : ℕ) (e : Expression) (body : Statements) → GoodCondition line e → Good true body
       → GoodStatement inside (loop do_loop e body line)
   good_do inside line e body c g = (
-    and_from (is_over n e) (are_statements_over n body) c.0 g.0,
+    and_from (is_kept n e) (all_pass (kept_test n) body) c.0 g.0,
     core_loop inside line (core.do_loop (condition_of integers n line e).prelude) e body c c.1 g,
   )
 
@@ -274,8 +298,8 @@ module _ (integers : Integers) (n : ℕ) where
   good_for inside line gs e body k c g =
       let m = n + MOST_HIDDEN in
       let p = (condition_of integers n line e).prelude in (
-        and_from (list_all (is_change_over n) gs) (is_over n e && are_statements_over n body) (changes_over gs k)
-            (and_from (is_over n e) (are_statements_over n body) c.0 g.0),
+        and_from (list_all (is_change_kept n) gs) (is_kept n e && all_pass (kept_test n) body) (changes_over gs k)
+            (and_from (is_kept n e) (all_pass (kept_test n) body) c.0 g.0),
         core_loop inside line (core.for_loop p (changes_deeds integers n gs)) e body c
             (and_from (list_all (is_deed m) p) (list_all (is_deed m) (changes_deeds integers n gs)) c.1 (changes_limited gs k)) g,
       )

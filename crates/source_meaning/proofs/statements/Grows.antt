@@ -3,7 +3,7 @@ use Rattle.std.proofs.Common.{◌≡◌, ◌∙◌, ◌≤◌, ◌+◌, ◌++◌
 use Rattle.std.proofs.Common.{refl, sym, ap, subst, arith, cond}
 use Rattle.std.specs.Prelude.{nat_lt}
 use Rattle.std.specs.List.{list_all}
-use Rattle.std.proofs.lemmas.Bool.{lt-ltb, and_from}
+use Rattle.std.proofs.lemmas.Bool.{lt-ltb, and_from, and_parts}
 use Rattle.std.proofs.lemmas.List.{length-append}
 use Rattle.lang_tree.specs.Tree.{returns, nodes_in}
 use Rattle.lang_tree.specs.declared.limits.TheConstants.{MOST_HIDDEN}
@@ -22,8 +22,9 @@ use Rattle.source_tree.specs.Statements.{Change, sets, evaluates, Statement, Sta
 use Rattle.source_tree.specs.Statements.{changes, never, jump, nil, cons}
 use Rattle.source_core.specs.Elaborated.{elaborated, evaluated}
 use Rattle.source_core.specs.Fits.{deeds_fit, fits, tested_fits}
-use Rattle.source_core.specs.Laws.{is_over, are_over}
-use Rattle.source_core.specs.RunLaws.{is_change_over}
+use Rattle.source_core.specs.Laws.{is_over, are_over, has_no_step, steps_apart}
+use Rattle.source_core.specs.RunLaws.{is_change_over, is_change_apart}
+use Rattle.source_core.proofs.expressions.Apart.{none-apart, none-apart_target, none-apart_in}
 use Rattle.source_core.specs.Core.{taken_any, change_deeds, changes_deeds, condition_of, core_of, core_in}
 use Rattle.source_meaning.specs.declared.fault.FunctionFault.{FunctionFault}
 use Rattle.source_meaning.specs.Results.{◌>>=◌}
@@ -36,7 +37,7 @@ use Rattle.source_meaning.specs.Statements.{followed_by, one, as_statements, is_
 use Rattle.source_meaning.specs.Statements.{call_of, read_condition, read_declarator, read_more_declarators, read_declarators}
 use Rattle.source_meaning.specs.Statements.{read_more_updates, read_updates, read_first, read_test, read_evaluated, read_returned}
 use Rattle.source_meaning.specs.Walk.{declared_one, declared_more, declared_in, declared_before}
-use Rattle.source_meaning.proofs.results.Values.{OnValue, on_bind, on_both, on_given}
+use Rattle.source_meaning.proofs.results.Values.{OnValue, on_bind, on_both, on_given, on_weaker}
 use Rattle.source_meaning.proofs.names.Sound.{Sound, Declares, Counts, variable_sound, fresh_array_same, array_sound}
 use Rattle.source_meaning.proofs.names.Sound.{counted_sound}
 use Rattle.source_meaning.proofs.names.Added.{added, added_then}
@@ -45,9 +46,12 @@ use Rattle.source_meaning.proofs.limits.Deeds.{condition_limited, change_limited
 use Rattle.source_meaning.proofs.expressions.Fits.{condition_in_range, read_fits, arguments_fit, values_fit}
 use Rattle.source_meaning.proofs.changes.Fits.{taken_fits, one_evaluated, changed_fits}
 use Rattle.source_meaning.proofs.expressions.Over.{anything, condition_has, read_over, arguments_over, values_over}
+use Rattle.source_meaning.proofs.expressions.Stepless.{no_step_in, read_stepless, arguments_stepless, values_stepless}
 use Rattle.source_meaning.proofs.changes.Over.{changed_over}
+use Rattle.source_meaning.proofs.changes.Stepless.{changed_apart}
 use Rattle.source_meaning.proofs.statements.Good.{nodes, nodes_then, nodes_one, nodes_change, nodes_declares, nodes_changes}
-use Rattle.source_meaning.proofs.statements.Good.{GoodCondition, GoodChange, GoodChanges, GoodStatement, Good, good_nil}
+use Rattle.source_meaning.proofs.statements.Good.{is_kept, is_change_kept, GoodCondition, GoodChange, GoodChanges}
+use Rattle.source_meaning.proofs.statements.Good.{GoodStatement, Good, good_nil}
 use Rattle.source_meaning.proofs.statements.Good.{good_cons, good_one, good_then, good_declares, good_change, no_changes, more_changes}
 use Rattle.source_meaning.proofs.statements.Good.{good_changes, good_always}
 use Rattle.source_meaning.proofs.statements.Good.{good_never, good_returns}
@@ -99,20 +103,35 @@ module _ (integers : Integers) (line : ℕ → ℕ) (n : ℕ) where
   abbrev pub Tests : State → (at : ℕ) → Expression → Type 0
   Tests st at x = length st.variables ≤ n → GoodCondition integers n (line at) x
 
+  -- an expression that is read has the variables, and its steps stand apart
+  expression_kept : (st : State) → Sound st → (at : ℕ) → length st.variables ≤ n → (e : Expr)
+      → OnValue (λ x. IsTrue (is_kept n x)) (read integers (line at) st e n)
+  expression_kept st s at l e = on_weaker (λ x. IsTrue (is_over n x) × IsTrue (has_no_step x)) (λ x. IsTrue (is_kept n x))
+      (read integers (line at) st e n)
+      (on_both (λ x. IsTrue (is_over n x)) (λ x. IsTrue (has_no_step x)) (read integers (line at) st e n)
+      (read_over integers n (line at) st s l e n) (read_stepless integers (line at) st e n))
+      (λ x p. and_from (is_over n x) (steps_apart x) p.0 (none-apart x p.1))
+
+  -- expressions together
+  values_kept : (rest : ℕ) (es : Expressions) → IsTrue (are_over n es) → IsTrue (no_step_in es)
+      → IsTrue (is_change_kept n (evaluates es rest))
+  values_kept rest es o p = and_from (are_over n es) (is_change_apart (evaluates es rest)) o (none-apart_in es p)
+
   -- the condition that is read
   pub condition_good : (st : State) → Sound st → (at : ℕ) (e : Expr) → OnValue (Tests st at) (read_condition integers line n st at e)
   condition_good st s at e =
-      let Over : Expression → Type 0 = λ x. IsTrue (is_over n x) in
+      let Over : Expression → Type 0 = λ x. IsTrue (is_kept n x) in
       let Fit : Expression → Type 0 = λ x. IsTrue (tested_fits (condition_of integers n (line at) x)) in
       on_given (length st.variables ≤ n) (GoodCondition integers n (line at)) (read_condition integers line n st at e) (λ l.
-      on_bind Over (GoodCondition integers n (line at)) (read integers (line at) st e n) _ (read_over integers n (line at) st s l e n)
+      on_bind Over (GoodCondition integers n (line at)) (read integers (line at) st e n) _ (expression_kept st s at l e)
       (λ x o. on_bind (λ x. Over x × Fit x) (GoodCondition integers n (line at)) (as_condition integers (line at) (first_of e) n x) _
       (on_both Over Fit (as_condition integers (line at) (first_of e) n x) (condition_has integers (line at) Over (first_of e) n x o)
       (condition_in_range integers (line at) (first_of e) n x))
       (λ x p. limited_has (GoodCondition integers n (line at)) n at (condition_of integers n (line at) x).next
       (condition_of integers n (line at) x).prelude
       ((condition_of integers n (line at) x).condition ∷ []) x
-      (λ a b c. let q = condition_limited integers n (n + MOST_HIDDEN) (line at) x p.0 p.1 a b c in (p.0, q.0, q.1)))))
+      (λ a b c. let q = condition_limited integers n (n + MOST_HIDDEN) (line at) x
+      (and_parts (is_over n x) (steps_apart x) p.0).0 p.1 a b c in (p.0, q.0, q.1)))))
 
   -- the test of a `for`
   pub test_good : (st : State) → Sound st → (at : ℕ) (t : Optional) → OnValue (Tests st at) (read_test integers line n st at t)
@@ -128,11 +147,14 @@ module _ (integers : Integers) (line : ℕ → ℕ) (n : ℕ) where
   -- a change over the variables, with its numbers in range, is good within the limits
   change_good : (at : ℕ) (g : Change) → IsTrue (deeds_fit (change_deeds integers n g))
       → behind_change integers n (line at) g ≤ n + MOST_HIDDEN
-      → IsTrue (list_all is_small_deed (change_deeds integers n g)) → IsTrue (is_change_over n g) → GoodChange integers n g
-  change_good at g h a b o = (o, change_limited integers n (n + MOST_HIDDEN) (line at) g (omega arith) o h a b)
+      → IsTrue (list_all is_small_deed (change_deeds integers n g)) → IsTrue (is_change_kept n g) → GoodChange integers n g
+  change_good at g h a b o = (
+    o,
+    change_limited integers n (n + MOST_HIDDEN) (line at) g (omega arith) (and_parts (is_change_over n g) (is_change_apart g) o).0 h a b,
+  )
 
   -- a change that is counted
-  counts_change : (at : ℕ) (st : State) → Sound st → (g : Change) → (length st.variables ≤ n → IsTrue (is_change_over n g))
+  counts_change : (at : ℕ) (st : State) → Sound st → (g : Change) → (length st.variables ≤ n → IsTrue (is_change_kept n g))
       → IsTrue (deeds_fit (change_deeds integers n g))
       → OnValue (Turns integers n st)
       (few integers n (line at) at g g >>= λ g. counted at (length (change_deeds integers n g)) st >>= λ st. Ok (st, g))
@@ -148,12 +170,16 @@ module _ (integers : Integers) (line : ℕ → ℕ) (n : ℕ) where
       → OnValue (Turns integers n st) (changed integers n (line at) st p f >>= λ g. few integers n (line at) at g g
       >>= λ g. counted at (length (change_deeds integers n g)) st >>= λ st. Ok (st, g))
   place_turns at st s p f =
-      let Over : Change → Type 0 = λ g. length st.variables ≤ n → IsTrue (is_change_over n g) in
+      let Over : Change → Type 0 = λ g. length st.variables ≤ n → IsTrue (is_change_kept n g) in
       let Fit : Change → Type 0 = λ g. IsTrue (deeds_fit (change_deeds integers n g)) in
       on_bind (λ g. Over g × Fit g) (Turns integers n st) (changed integers n (line at) st p f) _
       (on_both Over Fit (changed integers n (line at) st p f)
-      (on_given (length st.variables ≤ n) (λ g. IsTrue (is_change_over n g)) (changed integers n (line at) st p f)
-      (λ l. changed_over integers n (line at) st s l p f))
+      (on_given (length st.variables ≤ n) (λ g. IsTrue (is_change_kept n g)) (changed integers n (line at) st p f)
+      (λ l. on_weaker (λ g. IsTrue (is_change_over n g) × IsTrue (is_change_apart g)) (λ g. IsTrue (is_change_kept n g))
+      (changed integers n (line at) st p f)
+      (on_both (λ g. IsTrue (is_change_over n g)) (λ g. IsTrue (is_change_apart g)) (changed integers n (line at) st p f)
+      (changed_over integers n (line at) st s l p f) (changed_apart integers n (line at) st p f))
+      (λ g q. and_from (is_change_over n g) (is_change_apart g) q.0 q.1)))
       (changed_fits integers n (line at) st p f))
       (λ g h. counts_change at st s g h.0 h.1)
 
@@ -259,19 +285,21 @@ module _ (integers : Integers) (line : ℕ → ℕ) (n : ℕ) where
 
   -- a value that is read: over the variables, and in range
   abbrev Value : State → (at : ℕ) → Expression → Type 0
-  Value st at x = (length st.variables ≤ n → IsTrue (is_over n x)) × IsTrue (fits (elaborated integers (line at) x n))
+  Value st at x = (length st.variables ≤ n → IsTrue (is_over n x) × IsTrue (has_no_step x)) × IsTrue
+      (fits (elaborated integers (line at) x n))
 
   value_good : (st : State) → Sound st → (at : ℕ) (e : Expr) → OnValue (Value st at) (read integers (line at) st e n)
-  value_good st s at e = on_both (λ x. length st.variables ≤ n → IsTrue (is_over n x))
+  value_good st s at e = on_both (λ x. length st.variables ≤ n → IsTrue (is_over n x) × IsTrue (has_no_step x))
       (λ x. IsTrue (fits (elaborated integers (line at) x n)))
       (read integers (line at) st e n)
-      (on_given (length st.variables ≤ n) (λ x. IsTrue (is_over n x)) (read integers (line at) st e n)
-      (λ l. read_over integers n (line at) st s l e n))
+      (on_given (length st.variables ≤ n) (λ x. IsTrue (is_over n x) × IsTrue (has_no_step x)) (read integers (line at) st e n)
+      (λ l. on_both (λ x. IsTrue (is_over n x)) (λ x. IsTrue (has_no_step x)) (read integers (line at) st e n)
+      (read_over integers n (line at) st s l e n) (read_stepless integers (line at) st e n)))
       (read_fits integers (line at) st e n)
 
   -- ---- what is evaluated
   evaluated_grows : (inside : Bool) (st : State) → Sound st → (at : ℕ) (g : Change)
-      → (length st.variables ≤ n → IsTrue (is_change_over n g))
+      → (length st.variables ≤ n → IsTrue (is_change_kept n g))
       → IsTrue (deeds_fit (change_deeds integers n g)) → OnValue (Grows integers n inside st []) (read_evaluated integers line n st at g)
   evaluated_grows inside st s at g h k =
       let P : State → Type 0 = λ now. (now ≡ st) × (length st.variables ≤ n → GoodChange integers n g) in
@@ -303,12 +331,17 @@ module _ (integers : Integers) (line : ℕ → ℕ) (n : ℕ) where
       → OnValue (Grows integers n inside st []) (read_values integers (line at) st vs n
       >>= λ es. read_evaluated integers line n st at (evaluates es (line at)) >>= λ r. Ok (with_array x extents r.0, r.1))
   filled_grows inside x at extents vs st s =
-      let Over : Expressions → Type 0 = λ xs. length st.variables ≤ n → IsTrue (are_over n xs) in
+      let Over : Expressions → Type 0 = λ xs. length st.variables ≤ n → IsTrue (is_change_kept n (evaluates xs (line at))) in
       let Fit : Expressions → Type 0 = λ xs. IsTrue (deeds_fit (evaluated integers (line at) xs n).prelude) in
       on_bind (λ xs. Over xs × Fit xs) (Grows integers n inside st []) (read_values integers (line at) st vs n) _
       (on_both Over Fit (read_values integers (line at) st vs n)
-      (on_given (length st.variables ≤ n) (λ xs. IsTrue (are_over n xs)) (read_values integers (line at) st vs n)
-      (λ l. values_over integers n (line at) st s l vs n)) (values_fit integers (line at) st vs n))
+      (on_given (length st.variables ≤ n) (λ xs. IsTrue (is_change_kept n (evaluates xs (line at))))
+      (read_values integers (line at) st vs n)
+      (λ l. on_weaker (λ xs. IsTrue (are_over n xs) × IsTrue (no_step_in xs)) (λ xs. IsTrue (is_change_kept n (evaluates xs (line at))))
+      (read_values integers (line at) st vs n)
+      (on_both (λ xs. IsTrue (are_over n xs)) (λ xs. IsTrue (no_step_in xs)) (read_values integers (line at) st vs n)
+      (values_over integers n (line at) st s l vs n) (values_stepless integers (line at) st vs n))
+      (λ xs q. values_kept (line at) xs q.0 q.1))) (values_fit integers (line at) st vs n))
       (λ xs o. on_bind (Grows integers n inside st []) (Grows integers n inside st [])
       (read_evaluated integers line n st at (evaluates xs (line at))) _
       (evaluated_grows inside st s at (evaluates xs (line at)) o.0 o.1)
@@ -344,7 +377,9 @@ module _ (integers : Integers) (line : ℕ → ℕ) (n : ℕ) where
       (λ a b. (
         d,
         λ l. change_good at g (taken_fits integers i (line at) (elaborated integers (line at) e n) o.1) a b
-            (and_from (nat_lt i n) (is_over n e) (lt-ltb i n (omega (arith, l, d.below))) (o.0 (omega (arith, l, d.more)))),
+            (let p = o.0 (omega (arith, l, d.more)) in
+            and_from (is_change_over n g) (is_change_apart g)
+            (and_from (nat_lt i n) (is_over n e) (lt-ltb i n (omega (arith, l, d.below))) p.0) (none-apart_target i e p.1)),
       )))
       (λ now d. on_bind (Counts (length (change_deeds integers n g)) now) G (counted at (length (change_deeds integers n g)) now) _
       (counted_sound at (length (change_deeds integers n g)) now d.0.sound)
@@ -394,7 +429,8 @@ module _ (integers : Integers) (line : ℕ → ℕ) (n : ℕ) where
   returned_grows inside st s at absent = grows_none inside st s
   returned_grows inside st s at (present e) =
       on_bind (Value st at) (Grows integers n inside st []) (read integers (line at) st e n) _ (value_good st s at e)
-      (λ x o. evaluated_grows inside st s at (evaluates (more x none) (line at)) (λ l. and_from (is_over n x) true (o.0 l) refl)
+      (λ x o. evaluated_grows inside st s at (evaluates (more x none) (line at)) (λ l. let p = o.0 l in
+      values_kept (line at) (more x none) (and_from (is_over n x) true p.0 refl) (and_from (has_no_step x) true p.1 refl))
       (one_evaluated integers n (line at) x o.1))
 
   -- what is behind a call
@@ -417,12 +453,17 @@ module _ (integers : Integers) (line : ℕ → ℕ) (n : ℕ) where
   called_grows inside x at es st s =
       on_bind (λ es. Unit {0}) (Grows integers n inside st []) (as_called at (thing_of x st) es) _
       (anything (as_called at (thing_of x st) es))
-      (λ es u. let Over : Expressions → Type 0 = λ xs. length st.variables ≤ n → IsTrue (are_over n xs) in
+      (λ es u. let Over : Expressions → Type 0 = λ xs. length st.variables ≤ n → IsTrue (is_change_kept n (evaluates xs (line at))) in
       let Fit : Expressions → Type 0 = λ xs. IsTrue (deeds_fit (evaluated integers (line at) xs n).prelude) in
       on_bind (λ xs. Over xs × Fit xs) (Grows integers n inside st []) (read_arguments integers (line at) st es n) _
       (on_both Over Fit (read_arguments integers (line at) st es n)
-      (on_given (length st.variables ≤ n) (λ xs. IsTrue (are_over n xs)) (read_arguments integers (line at) st es n)
-      (λ l. arguments_over integers n (line at) st s l es n)) (arguments_fit integers (line at) st es n))
+      (on_given (length st.variables ≤ n) (λ xs. IsTrue (is_change_kept n (evaluates xs (line at))))
+      (read_arguments integers (line at) st es n)
+      (λ l. on_weaker (λ xs. IsTrue (are_over n xs) × IsTrue (no_step_in xs)) (λ xs. IsTrue (is_change_kept n (evaluates xs (line at))))
+      (read_arguments integers (line at) st es n)
+      (on_both (λ xs. IsTrue (are_over n xs)) (λ xs. IsTrue (no_step_in xs)) (read_arguments integers (line at) st es n)
+      (arguments_over integers n (line at) st s l es n) (arguments_stepless integers (line at) st es n))
+      (λ xs q. values_kept (line at) xs q.0 q.1))) (arguments_fit integers (line at) st es n))
       (λ xs o. on_bind (Grows integers n inside st []) (Grows integers n inside st [])
       (read_evaluated integers line n st at (evaluates xs (line at))) _
       (evaluated_grows inside st s at (evaluates xs (line at)) o.0 o.1)
