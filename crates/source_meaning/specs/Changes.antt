@@ -4,6 +4,7 @@ use Rattle.source_grammar.specs.Tokens as g
 use Rattle.source_grammar.specs.Tokens.{Name}
 use Rattle.source_grammar.specs.Grammar as tree
 use Rattle.source_grammar.specs.Grammar.{Expr, Place, place, no_index, index, Effect, assigns, steps, Update, update, step_before}
+use Rattle.source_grammar.specs.Grammar.{spell_update}
 use Rattle.source_tree.specs.Expressions.{Expression, Expressions, number, variable, joined, none, more, plus, minus}
 use Rattle.source_tree.specs.Expressions.{times, over, remainder}
 use Rattle.source_tree.specs.Statements.{Change, sets, evaluates}
@@ -11,7 +12,7 @@ use Rattle.source_core.specs.Elaborated.{Result as Value, a_form, a_truth, any, 
 use Rattle.source_core.specs.Core.{change_deeds}
 use Rattle.source_meaning.specs.declared.fault.FunctionFault.{FunctionFault}
 use Rattle.source_meaning.specs.Results.{◌>>=◌}
-use Rattle.source_meaning.specs.Names.{State, variable_of}
+use Rattle.source_meaning.specs.Names.{State, variable_of, among}
 use Rattle.source_meaning.specs.Limits.{limited, counted}
 use Rattle.source_meaning.specs.Expressions.{read, ranged, behind, behind_number}
 use Rattle.base_integers.specs.declared.integers.Integers.{Integers}
@@ -85,12 +86,12 @@ abbrev pub first_place : Place → ℕ
 first_place (place x a i) = a
 
 module _ (integers : Integers) (line : ℕ → ℕ) (n : ℕ) where
-  -- a change, its limits told last
+  -- a change, its limits told last; an expression in it stands among its tokens
   abbrev pub read_update : State → Update → Result (State × Change) FunctionFault
   read_update st (update p f) =
       let at = first_place p in
-      changed integers n (line at) st p f >>= λ g. few integers n (line at) at g g
+      changed integers n (line at) (among (spell_update (update p f)) st) p f >>= λ g. few integers n (line at) at g g
       >>= λ g. counted at (length (change_deeds integers n g)) st >>= λ st. Ok (st, g)
   read_update st (step_before d at p) =
-      changed integers n (line at) st p (steps d at) >>= λ g. few integers n (line at) at g g
+      changed integers n (line at) (among (spell_update (step_before d at p)) st) p (steps d at) >>= λ g. few integers n (line at) at g g
       >>= λ g. counted at (length (change_deeds integers n g)) st >>= λ st. Ok (st, g)

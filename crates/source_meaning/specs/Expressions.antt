@@ -11,15 +11,16 @@ use Rattle.source_grammar.specs.Grammar.{last_subscript, next_subscript, Value, 
 use Rattle.source_grammar.specs.Grammar.{last_value, last_comma, next_value}
 use Rattle.source_grammar.specs.Grammar as tree
 use Rattle.source_tree.specs.Expressions.{Expression, Expressions, number, variable, unknown, call, element, grouped, negative}
-use Rattle.source_tree.specs.Expressions.{positive, inverse, joined, compared, both, either, chosen, none, more, plus, minus, times, over}
-use Rattle.source_tree.specs.Expressions.{remainder, Extent, Subscripts, no_subscript, subscript}
+use Rattle.source_tree.specs.Expressions.{positive, stepped, inverse, joined, compared, both, either, chosen, none, more, plus, minus, times, over}
+use Rattle.source_tree.specs.Expressions.{remainder, Extent, Subscripts, no_subscript, subscript, Direction, up, down, before}
+use Rattle.source_tree.specs.Expressions as source
 use Rattle.source_core.specs.Elaborated.{elaborated, numbered, tested}
 use Rattle.source_core.specs.Fits.{fits, tested_fits}
 use Rattle.source_meaning.specs.declared.fault.FunctionFault.{FunctionFault}
-use Rattle.source_meaning.specs.declared.fault.FunctionFault.TheVariants.{BigNumber, UnknownName, WrongKind, SideEffect}
+use Rattle.source_meaning.specs.declared.fault.FunctionFault.TheVariants.{BigNumber, UnknownName, WrongKind}
 use Rattle.source_meaning.specs.Results.{◌>>=◌, provided}
 use Rattle.source_meaning.specs.Names as names
-use Rattle.source_meaning.specs.Names.{Thing, State, thing_of, variable_of, array_of, as_called}
+use Rattle.source_meaning.specs.Names.{Thing, State, thing_of, passable, stepped_of, array_of, as_called}
 use Rattle.base_integers.specs.declared.integers.Integers.{Integers}
 
 -- the place of an expression's first token
@@ -59,6 +60,15 @@ rel_of g.less = rel.Lt
 rel_of g.at_most = rel.Le
 rel_of g.greater = rel.Gt
 rel_of g.at_least = rel.Ge
+
+-- which way a step goes
+abbrev pub direction_of : g.Direction → Direction
+direction_of g.up = up
+direction_of g.down = down
+
+-- where a side of an operation stands: C may pass over the right one of two conditions
+abbrev pub right_of : (conditions : Bool) → State → State
+right_of conditions st = if conditions then passable st else st
 
 -- hidden variables are taken from h on; all of the statement stands in this line
 module _ (integers : Integers) (line : ℕ) where
@@ -130,8 +140,8 @@ module _ (integers : Integers) (line : ℕ) where
     read st (tree.variable x a) h = operand a h (thing_of x st)
     read st (tree.element x a is) h =
         array_of x a (subscript_count is) st >>= λ extents. read_subscripts st a extents is h >>= λ is. Ok (element is a)
-    read st (tree.stepped_behind x a g b) h = variable_of x a st >>= λ i. Err (SideEffect b)
-    read st (tree.stepped_before g a x b) h = variable_of x b st >>= λ i. Err (SideEffect a)
+    read st (tree.stepped_behind x a d b) h = stepped_of x a b st >>= λ i. Ok (stepped (direction_of d) source.behind i b a)
+    read st (tree.stepped_before d a x b) h = stepped_of x b a st >>= λ i. Ok (stepped (direction_of d) before i a a)
     read st (tree.call x a b es c) h = as_called a (thing_of x st) a >>= λ a. read_arguments st es h >>= λ es. Ok (call es a)
     read st (tree.free a b c) h = Ok (unknown a)
     read st (tree.grouped a e b) h = read st e h >>= λ e. Ok (grouped a e)
@@ -139,12 +149,12 @@ module _ (integers : Integers) (line : ℕ) where
     read st (tree.joined e o a f) h =
         let conditions = joins_conditions o in
         read st e h >>= λ x. side conditions (first_of e) h x
-        >>= λ x. read st f (behind_side conditions x h) >>= λ y. side conditions (first_of f) (behind_side conditions x h) y
+        >>= λ x. read (right_of conditions st) f (behind_side conditions x h) >>= λ y. side conditions (first_of f) (behind_side conditions x h) y
         >>= λ y. operated o a h x y
     read st (tree.chosen c a e b f) h =
         read st c h >>= λ x. as_condition (first_of c) h x
-        >>= λ x. read st e (behind x h)
-        >>= λ y. read st f (behind_number y (behind x h))
+        >>= λ x. read (passable st) e (behind x h)
+        >>= λ y. read (passable st) f (behind_number y (behind x h))
         >>= λ z. ranged a h (chosen a x y z)
 
     -- the indexes of an element of the array at this place, from the left, each with its check in range before the next

@@ -1,14 +1,14 @@
--- The names of a function: its variables, arrays and labels, and where they are known.
+-- The names of a function: its variables, arrays and labels, and where they are known and may be stepped.
 use Rattle.std.specs.Prelude.{ℕ, zero, suc, ℤ, ◌-◌, Bool, true, false, List, [], ◌∷◌, length, nat_lt, nat_eq, Option, Some, None, Result}
 use Rattle.std.specs.Prelude.{Ok}
-use Rattle.std.specs.Prelude.{Err}
+use Rattle.std.specs.Prelude.{Err, count_by}
 use Rattle.std.specs.Prelude.{if◌then◌else◌}
 use Rattle.std.specs.Str.{bytes_eq}
 use Rattle.lang_tree.specs.declared.limits.TheConstants.{MOST_VARIABLES}
-use Rattle.source_grammar.specs.Tokens.{Name}
+use Rattle.source_grammar.specs.Tokens.{Name, Token, token, a_name}
 use Rattle.source_tree.specs.Expressions.{Extent}
 use Rattle.source_meaning.specs.declared.fault.FunctionFault.{FunctionFault}
-use Rattle.source_meaning.specs.declared.fault.FunctionFault.TheVariants.{UnknownName, NameTwice, WrongKind}
+use Rattle.source_meaning.specs.declared.fault.FunctionFault.TheVariants.{UnknownName, NameTwice, WrongKind, SideEffect}
 use Rattle.source_meaning.specs.declared.fault.FunctionFault.TheVariants as fault
 use Rattle.source_meaning.specs.declared.fault.Limit.TheVariants as limit
 use Rattle.source_meaning.specs.Results.{◌>>=◌, provided}
@@ -38,10 +38,13 @@ pub record State : Type 0 where
   pub labels : List (List ℕ)
   -- how many statements the program has
   pub count : ℕ
+  -- the tokens among which an expression stands, where C comes to each step in it; none where it may pass over one, and outside of
+  -- expressions
+  pub around : Option (List Token)
 
 -- nothing has been met
 abbrev pub start_state : State
-start_state = record { names = []; variables = []; labels = []; count = 0 }
+start_state = record { names = []; variables = []; labels = []; count = 0; around = None }
 
 -- the last declaration of a name, known or not
 abbrev pub declared : List ℕ → List Named → Option Named
@@ -82,6 +85,28 @@ as_called at (Some thing) x = Err (WrongKind at)
 -- the variable of a name
 abbrev pub variable_of : Name → (at : ℕ) → State → Result ℕ FunctionFault
 variable_of x at st = as_variable at (thing_of x st)
+
+-- an expression stands among these tokens: those of its change, its declarator, its condition, its call, or what is returned
+abbrev pub among : List Token → State → State
+among ts st = record st { around = Some ts }
+
+-- C may pass over the expression
+abbrev pub passable : State → State
+passable st = record st { around = None }
+
+-- a token is this name, where that is no constant
+abbrev pub is_named : List ℕ → Token → Bool
+is_named x (token (a_name y) a) = elim y.value [ None ↦ bytes_eq x y.text | Some v ↦ false ]
+is_named x (token k a) = false
+
+-- a name stands once among tokens, where C comes to each step
+abbrev pub stands_once : List ℕ → Option (List Token) → Bool
+stands_once x None = false
+stands_once x (Some ts) = nat_eq (count_by (is_named x) ts) 1
+
+-- the variable of a name that is stepped by the sign at this place; it occurs nowhere else around the step
+abbrev pub stepped_of : Name → (at sign : ℕ) → State → Result ℕ FunctionFault
+stepped_of x at sign st = variable_of x at st >>= λ i. provided (stands_once x.text st.around) (SideEffect sign) i
 
 -- the extents of the array of a name
 abbrev pub array_of : Name → (at count : ℕ) → State → Result (List Extent) FunctionFault

@@ -12,7 +12,7 @@ use Rattle.source_grammar.specs.Grammar.{no_updates, some_updates, bare, given, 
 use Rattle.source_grammar.specs.Grammar.{last_declarator, next_declarator, Declarators, ForFirst, declared_first, updated_first}
 use Rattle.source_grammar.specs.Grammar.{Core, Sub, Items, empty, block, if_alone, if_else, repeat, repeat_after, repeat_for, jumps}
 use Rattle.source_grammar.specs.Grammar.{demands}
-use Rattle.source_grammar.specs.Grammar.{calls, updates, labelled, plain, no_items, item}
+use Rattle.source_grammar.specs.Grammar.{calls, updates, labelled, plain, no_items, item, spell_expr, spell_declarator}
 use Rattle.source_grammar.specs.Grammar as tree
 use Rattle.source_tree.specs.Expressions.{Expression, number, compared, none, more}
 use Rattle.source_tree.specs.Statements.{Change, sets, evaluates, while_loop, for_loop, do_loop, Statement, Statements, declares, changes}
@@ -23,6 +23,7 @@ use Rattle.source_meaning.specs.declared.fault.FunctionFault.{FunctionFault}
 use Rattle.source_meaning.specs.declared.fault.FunctionFault.TheVariants.{NameTwice, OutsideLoop}
 use Rattle.source_meaning.specs.Results.{◌>>=◌, provided}
 use Rattle.source_meaning.specs.Names.{State, with_variable, declared_number, fresh_array, with_array, closed, thing_of, as_called}
+use Rattle.source_meaning.specs.Names.{among}
 use Rattle.source_meaning.specs.Arrays.{read_sizes}
 use Rattle.source_meaning.specs.Limits.{limited, counted}
 use Rattle.source_meaning.specs.Expressions.{read, read_arguments, read_values, as_condition, first_of}
@@ -83,7 +84,7 @@ module _ (integers : Integers) (line : ℕ → ℕ) (n : ℕ) where
   -- a condition of the statement that begins at this place, its limits told behind its faults
   abbrev pub read_condition : State → (at : ℕ) → Expr → Result Expression FunctionFault
   read_condition st at e =
-      read integers (line at) st e n >>= λ x. as_condition integers (line at) (first_of e) n x
+      read integers (line at) (among (spell_expr e) st) e n >>= λ x. as_condition integers (line at) (first_of e) n x
       >>= λ x. (let t : Tested = condition_of integers n (line at) x in limited n at t.next t.prelude (t.condition ∷ []) x)
 
   -- how many statements the prelude of a condition is
@@ -102,14 +103,15 @@ module _ (integers : Integers) (line : ℕ → ℕ) (n : ℕ) where
       >>= λ now. (let i = declared_number now in counted at (length (taken_any integers i (line at))) now
       >>= λ now. Ok (now, one (declares i (line at))))
   read_declarator st (declarator x at (given b e)) =
-      read integers (line at) st e n >>= λ e. with_variable x at st
+      read integers (line at) (among (spell_declarator (declarator x at (given b e))) st) e n >>= λ e. with_variable x at st
       >>= λ now. (let g : Change = sets (declared_number now) e (line at) in few integers n (line at) at g now
       >>= λ now. counted at (length (change_deeds integers n g)) now >>= λ now. Ok (now, one (changes g)))
   read_declarator st (declarator x at (sized ss)) =
       fresh_array x at st >>= λ now. read_sizes now ss >>= λ extents. Ok (with_array x extents now, nil)
   read_declarator st (declarator x at (filled ss a b vs c)) =
       fresh_array x at st >>= λ now. read_sizes now ss
-      >>= λ extents. read_values integers (line at) now vs n >>= λ es. read_evaluated now at (evaluates es (line at))
+      >>= λ extents. read_values integers (line at) (among (spell_declarator (declarator x at (filled ss a b vs c))) now) vs n
+      >>= λ es. read_evaluated now at (evaluates es (line at))
       >>= λ r. Ok (with_array x extents r.0, r.1)
 
   -- the names that are declared behind the first
@@ -148,7 +150,8 @@ module _ (integers : Integers) (line : ℕ → ℕ) (n : ℕ) where
   -- what is returned
   abbrev pub read_returned : State → (at : ℕ) → Optional → Result (State × Statements) FunctionFault
   read_returned st at absent = Ok (st, nil)
-  read_returned st at (present e) = read integers (line at) st e n >>= λ x. read_evaluated st at (evaluates (more x none) (line at))
+  read_returned st at (present e) =
+      read integers (line at) (among (spell_expr e) st) e n >>= λ x. read_evaluated st at (evaluates (more x none) (line at))
 
   abbrev mutual
     -- a statement, and what has been met after it; `inside` says whether it stands in a loop's body
@@ -179,7 +182,8 @@ module _ (integers : Integers) (line : ℕ → ℕ) (n : ℕ) where
         >>= λ x. (let s : Statement = demand_of k x at (line at) in counted at (nodes_in (core_of integers n s)) st
         >>= λ now. Ok (now, one s))
     read_core inside st (calls x at b es c d) =
-        as_called at (thing_of x st) es >>= λ es. read_arguments integers (line at) st es n
+        as_called at (thing_of x st) es
+        >>= λ es. read_arguments integers (line at) (among (spell_expr (tree.call x at b es c)) st) es n
         >>= λ es. read_evaluated st at (evaluates es (line at))
         >>= λ r. (let after : Statements = call_of x at (line at) in counted at (nodes_in (core_in integers n after)) r.0
         >>= λ now. Ok (now, followed_by r.1 after))
