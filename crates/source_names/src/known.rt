@@ -40,13 +40,19 @@ pub struct Known {
 }
 
 impl Model for Known {
-    ghost use Rattle.std.specs.Prelude.{◌≤◌, length, reverse};
+    ghost use Rattle.std.specs.Prelude.{◌≤◌, length, reverse, None};
     ghost use Rattle.lang_tree.specs.declared.limits.TheConstants.{MOST_VARIABLES};
     ghost use Rattle.source_meaning.specs.Names.{State};
 
     ghost Value = { State };
 
-    ghost view = { λ k. record { names = k.names; variables = reverse k.variables.items; labels = k.labels; count = k.count } };
+    ghost view = { λ k. record {
+      names = k.names;
+      variables = reverse k.variables.items;
+      labels = k.labels;
+      count = k.count;
+      around = None;
+    } };
 
     ghost invariant = { λ k. (length k.variables.items ≤ MOST_VARIABLES) × (k.count ≤ 4096) };
 }

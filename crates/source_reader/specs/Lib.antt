@@ -1,4 +1,5 @@
 pub mod Brackets
+pub mod Units
 pub mod Marks
 pub mod Reading
 pub mod Answers

@@ -6,9 +6,12 @@ mod brackets;
 mod faults;
 mod mark;
 mod reader;
+mod scope;
 mod stop;
+mod units;
 
 pub use faults::placed;
 pub use mark::Mark;
 pub use reader::Reader;
+pub use scope::Scope;
 pub use stop::Stop;

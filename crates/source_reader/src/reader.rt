@@ -1,26 +1,32 @@
 //! A reader of tokens.
 
-ghost use Rattle.std.specs.Prelude.{◌≡◌, ◌≤◌, ◌++◌, ℕ, ℤ, pos, List, ◌∷◌, length, Option, Some, IsTrue, MatchResult};
+ghost use Rattle.std.specs.Prelude.{◌≡◌, ◌≤◌, ◌++◌, ℕ, ℤ, pos, List, ◌∷◌, length, true, Option, Some, IsTrue, MatchResult};
 ghost use Rattle.base_limits.specs.declared.limits.TheConstants.{MOST_TEXT_BYTES};
 ghost use Rattle.lang_tokens.specs.Lines.{line_at};
 ghost use Rattle.lang_tree.specs.Word.{is_word};
 ghost use Rattle.source_grammar.specs.Tokens.{Name, Token as Spelled, token, a_name, left_bracket};
-ghost use Rattle.source_grammar.specs.Grammar.{Subscripts, spell_subscripts};
+ghost use Rattle.source_grammar.specs.Grammar.{Expr, Update, Declarator, Subscripts, spell_expr, spell_update, spell_declarator};
+ghost use Rattle.source_grammar.specs.Grammar.{spell_subscripts};
 ghost use Rattle.source_grammar.specs.Symbols.{symbol_kind};
 ghost use Rattle.source_grammar.specs.View.{plain_kind};
 ghost use Rattle.source_tokens.specs.View.{bytes_of, kind_of, tokens_of};
 ghost use Rattle.source_tokens.specs.Texts.{IsTokenIn, AreTokensIn};
 ghost use Rattle.source_meaning.specs.Expressions.{subscript_count};
+ghost use Rattle.source_meaning.specs.Names.{among};
+ghost use Rattle.source_reader.specs.Units.{ends_unit};
 ghost use Rattle.source_reader.specs.Marks.{mark_in};
 ghost use Rattle.source_reader.specs.Reading.{behind_first, constant_in, first_kind, first_place, name_in, number_in, passed};
 ghost use Rattle.source_reader.specs.declared.stop.Stop.TheVariants.{Unlike};
 
 use crate::brackets::{Brackets, bracket_in};
 use crate::mark::{Mark, mark_in};
+use crate::scope::Scope;
 use crate::stop::Stop;
+use crate::units::unit_length;
 use base_integers::Integers;
 use lang_tokens::{Kind, Token, line_of};
 use source_grammar::Symbol;
+use source_names::Known;
 use source_tokens::{Definition, bytes_of, constant_of, symbol_of};
 use source_value::Site;
 use std::alloc::Global;
@@ -229,6 +235,22 @@ impl<'a> Reader<'a> {
             }
         }
         brackets.opened
+    }
+
+    /// Where the expressions stand of what comes next, with the names that are known there: of an expression, which a condition and a call
+    /// are, too, of a change, or of a declarator.
+    pub fn scope<'k>(&self, known: &'k Known) -> Scope<'k>
+    where
+        'a: 'k,
+        ensures expression { (e : Expr) (ts : List Spelled) → self.now.ahead ≡ spell_expr e ++ ts → ends_unit (first_kind ts) ≡ true
+            → result ≡ among (spell_expr e) known.now }
+        ensures change { (u : Update) (ts : List Spelled) → self.now.ahead ≡ spell_update u ++ ts → ends_unit (first_kind ts) ≡ true
+            → result ≡ among (spell_update u) known.now }
+        ensures declarator { (x : Declarator) (ts : List Spelled) → self.now.ahead ≡ spell_declarator x ++ ts
+            → ends_unit (first_kind ts) ≡ true → result ≡ among (spell_declarator x) known.now }
+    {
+        let around = &self.rest[..unit_length(self.rest)];
+        Scope::new(known, self.text, self.definitions, around)
     }
 
     /// Passes what comes next.
