@@ -1,6 +1,5 @@
 -- Steps in a change that is read stand apart.
-use Rattle.std.proofs.Common.{◌≤◌, ◌++◌, ℕ, true, IsTrue, List, [], ◌∷◌, Ok, refl, arith}
-use Rattle.std.specs.Prelude.{◌&&◌}
+use Rattle.std.proofs.Common.{◌≤◌, ◌++◌, ℕ, true, IsTrue, List, ◌∷◌, Ok, refl, arith}
 use Rattle.std.proofs.lemmas.Bool.{and_from}
 use Rattle.source_grammar.specs.Tokens as g
 use Rattle.source_grammar.specs.Tokens.{Name, Token, token, a_name, change_sign}
@@ -9,31 +8,19 @@ use Rattle.source_grammar.specs.Grammar.{Expr, Place, place, no_index, index, Ef
 use Rattle.source_tree.specs.Expressions.{Operation, Expression, Expressions, variable, joined, none, more, plus, minus, times, over}
 use Rattle.source_tree.specs.Expressions.{remainder}
 use Rattle.source_tree.specs.Statements.{Change, sets}
-use Rattle.source_core.specs.Laws.{occurrences, all_steps, are_steps_certain}
+use Rattle.source_core.specs.Laws.{all_steps, are_steps_certain}
 use Rattle.source_core.specs.RunLaws.{is_change_apart}
-use Rattle.source_core.proofs.expressions.Apart.{occurs_in}
 use Rattle.source_meaning.specs.Results.{◌>>=◌}
 use Rattle.source_meaning.specs.Names.{State, among, variable_of}
 use Rattle.source_meaning.specs.Expressions.{read, ranged, behind, behind_number}
 use Rattle.source_meaning.specs.Changes.{stepped, right_side, written, affected, evaluated_by, read_element, changed}
 use Rattle.source_meaning.proofs.results.Values.{OnValue, on_bind, on_weaker}
 use Rattle.source_meaning.proofs.names.Sound.{Sound, IsVariable, variable_named, among_sound}
-use Rattle.source_meaning.proofs.names.Counted.{standing, standing_then, counted_more, counted_then, counted_name}
+use Rattle.source_meaning.proofs.names.Counted.{standing, standing_then, counted_name}
 use Rattle.source_meaning.proofs.expressions.Over.{ranged_has}
 use Rattle.source_meaning.proofs.expressions.Apart.{Apart, ApartIn, may_step, stands_more, stands_then, read_apart}
-use Rattle.source_meaning.proofs.expressions.Whole.{ApartBeside, stands_within, one_apart, apart_together, apart_set, apart_changed}
+use Rattle.source_meaning.proofs.expressions.Whole.{apart_beside, stands_within, one_apart, apart_together, apart_set, apart_changed}
 use Rattle.base_integers.specs.declared.integers.Integers.{Integers}
-
--- a variable is counted before what it is set to
-pub apart_beside : (st : State) (x : Name) (a var : ℕ) (t : Token) (us : List Token) (e : Expression) → IsVariable x st.variables var
-    → Apart st us e
-    → ApartBeside st (token (a_name x) a ∷ t ∷ us) var e
-apart_beside st x a var t us e k p = record {
-  counted = counted_then st.variables (token (a_name x) a ∷ []) (t ∷ us) (λ i. occurs_in i var) (λ i. occurrences i e)
-      (counted_name st.variables x a var k) (counted_more st.variables t us (λ i. occurrences i e) p.counted);
-  single = p.single;
-  sure = p.sure;
-}
 
 -- an old value and 1
 stepped_apart : (st : State) (us : List Token) (d : g.Direction) (sign : ℕ) (old : Expression) → Apart st us old
@@ -74,14 +61,16 @@ module _ (integers : Integers) (n line : ℕ) (st : State) (s : Sound st) (ts : 
         on_bind (Apart (among ts st) (spell_expr e)) SetsApart (read integers line (among ts st) e n) _ (expression_apart e n)
         (λ y p. ranged_has integers line SetsApart sign n (joined o sign (variable var a) y)
         (apart_changed st ts var o sign a y line (stands_within ts
-        (apart_beside (among ts st) x a var (token (change_sign c) sign) (spell_expr e) y k p) w)))
+        (apart_beside (among ts st) (token (a_name x) a) (token (change_sign c) sign) (spell_expr e) var y
+        (counted_name st.variables x a var k) p) w)))
 
     right_apart : (c : g.Change) (sign : ℕ) (e : Expr) → HasRoom (token (a_name x) a ∷ token (change_sign c) sign ∷ spell_expr e)
         → OnValue SetsApart (right_side integers n line (among ts st) c sign (variable var a) e)
     right_apart g.replaces sign e w =
         on_weaker (Apart (among ts st) (spell_expr e)) SetsApart (read integers line (among ts st) e n) (expression_apart e n)
         (λ y p. apart_set st ts var y line (stands_within ts
-        (apart_beside (among ts st) x a var (token (change_sign g.replaces) sign) (spell_expr e) y k p) w))
+        (apart_beside (among ts st) (token (a_name x) a) (token (change_sign g.replaces) sign) (spell_expr e) var y
+        (counted_name st.variables x a var k) p) w))
     right_apart g.adds sign e w = operation plus g.adds sign e w
     right_apart g.subtracts sign e w = operation minus g.subtracts sign e w
     right_apart g.multiplies sign e w = operation times g.multiplies sign e w

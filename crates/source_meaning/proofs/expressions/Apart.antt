@@ -1,5 +1,5 @@
 -- Steps in an expression that is read stand apart.
-use Rattle.std.proofs.Common.{ℕ, pos, Bool, true, false, IsTrue, List, [], ◌∷◌, ◌++◌, ◌+◌, Ok, Option, Some, None}
+use Rattle.std.proofs.Common.{ℕ, pos, Bool, true, IsTrue, List, [], ◌∷◌, ◌++◌, ◌+◌, Ok, Option, Some, None}
 use Rattle.std.proofs.Common.{refl}
 use Rattle.std.specs.Prelude.{◌&&◌}
 use Rattle.std.proofs.lemmas.Bool.{and_from}
@@ -11,7 +11,7 @@ use Rattle.source_grammar.specs.Grammar.{last_subscript, next_subscript, Value, 
 use Rattle.source_grammar.specs.Grammar.{last_value, last_comma, next_value, spell_expr, spell_arguments, spell_more_arguments}
 use Rattle.source_grammar.specs.Grammar.{spell_subscripts, spell_value, spell_values, spell_more_values}
 use Rattle.source_grammar.specs.Grammar as tree
-use Rattle.source_tree.specs.Expressions.{Expression, Expressions, number, element, negative, none, more, stepped, before, behind as behind_it}
+use Rattle.source_tree.specs.Expressions.{Expression, Expressions, number, element, negative, more}
 use Rattle.source_tree.specs.Expressions.{Extent, Subscripts, no_subscript, subscript}
 use Rattle.source_tree.specs.Expressions.{joined, compared, chosen, plus, minus, times, over, remainder}
 use Rattle.source_core.specs.Laws.{occurrences, occurrences_in, occurrences_of_indexes, all_steps, all_steps_in, all_steps_of_indexes}
@@ -20,7 +20,7 @@ use Rattle.source_core.proofs.expressions.Apart.{occurs_in, passes-none}
 use Rattle.source_meaning.specs.Results.{◌>>=◌}
 use Rattle.source_meaning.specs.Names.{Thing, State, thing_of, array_of, as_called, passable, stands_once, stepped_of}
 use Rattle.source_meaning.specs.Names as names
-use Rattle.source_meaning.specs.Expressions.{first_of, rel_of, direction_of, ranged, as_condition, behind, behind_number, operated}
+use Rattle.source_meaning.specs.Expressions.{first_of, rel_of, ranged, as_condition, behind, behind_number, operated}
 use Rattle.source_meaning.specs.Expressions.{side, joins_conditions, right_of}
 use Rattle.source_meaning.specs.Expressions.{behind_side, prefixed, operand, read, read_subscripts, read_arguments, read_more}
 use Rattle.source_meaning.specs.Expressions.{is_array_name, subscript_count, read_value, read_values, read_more_values}

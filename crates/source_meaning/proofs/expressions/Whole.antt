@@ -1,6 +1,6 @@
 -- Steps in what stands among its own tokens: each variable that is stepped occurs once.
-use Rattle.std.proofs.Common.{◌≤◌, ◌+◌, ℕ, Bool, true, false, IsTrue, List, Some, refl, arith, nat_le, eq-eqb, le-leb, leb-true}
-use Rattle.std.specs.Prelude.{◌==◌, ◌&&◌}
+use Rattle.std.proofs.Common.{◌≤◌, ◌+◌, ℕ, Bool, true, IsTrue, List, [], ◌∷◌, Some, refl, arith, nat_le, eq-eqb, le-leb, leb-true}
+use Rattle.std.specs.Prelude.{◌==◌}
 use Rattle.std.proofs.lemmas.Bool.{and_from}
 use Rattle.source_grammar.specs.Tokens.{Token}
 use Rattle.source_tree.specs.Expressions.{Operation, Expression, Expressions, variable, joined, none, more}
@@ -10,7 +10,7 @@ use Rattle.source_core.specs.RunLaws.{is_change_apart}
 use Rattle.source_core.proofs.expressions.Apart.{occurs_in, all_steps-join, all_in-join}
 use Rattle.source_core.proofs.expressions.Occurring.{steps_occur, steps_occur_in}
 use Rattle.source_meaning.specs.Names.{State, among}
-use Rattle.source_meaning.proofs.names.Counted.{Counted, standing, counted_within, is_single, single_once}
+use Rattle.source_meaning.proofs.names.Counted.{Counted, standing, counted_more, counted_then, counted_within, is_single, single_once}
 use Rattle.source_meaning.proofs.expressions.Apart.{Stands, may_step, Apart, ApartIn}
 
 -- tokens in which each name stands as often have room for what stands in others
@@ -65,6 +65,16 @@ apart_together st ts es line p =
 -- what a variable is set to, this counted, too
 abbrev pub ApartBeside : State → List Token → (var : ℕ) → Expression → Type 0
 ApartBeside st ts var e = Stands st ts (λ i. occurs_in i var + occurrences i e) (all_steps (may_step st) e) (are_steps_certain e)
+
+-- its token stands before the sign and what it is set to
+pub apart_beside : (st : State) (x t : Token) (us : List Token) (var : ℕ) (e : Expression)
+    → Counted st.variables (x ∷ []) (λ i. occurs_in i var) → Apart st us e → ApartBeside st (x ∷ t ∷ us) var e
+apart_beside st x t us var e k p = record {
+  counted = counted_then st.variables (x ∷ []) (t ∷ us) (λ i. occurs_in i var) (λ i. occurrences i e) k
+      (counted_more st.variables t us (λ i. occurrences i e) p.counted);
+  single = p.single;
+  sure = p.sure;
+}
 
 -- a variable is set
 pub apart_set : (st : State) (ts : List Token) (var : ℕ) (e : Expression) (line : ℕ) → ApartBeside (among ts st) ts var e

@@ -1,15 +1,22 @@
 -- How often the names of variables stand among tokens.
-use Rattle.std.proofs.Common.{◌≡◌, ◌∙◌, ◌≤◌, ◌+◌, ℕ, ℤ, List, [], ◌∷◌, ◌++◌, Bool, true, false, cond, IsTrue, Option, Some, None, refl}
-use Rattle.std.proofs.Common.{sym, ap, subst, arith, nat_eq, eqb-true, true≢false, count_by}
+use Rattle.std.proofs.Common.{◌≡◌, ◌≢◌, ◌≤◌, ◌+◌, ℕ, ℤ, List, [], ◌∷◌, ◌++◌, Bool, true, false, cond, IsTrue, Option, Some, None, Result, Ok, Err}
+use Rattle.std.proofs.Common.{length, nat_lt, refl, sym, ap, subst, arith, nat_eq, eqb-true, ne_eqb, true≢false, count_by}
 use Rattle.std.specs.Prelude.{◌==◌, if◌then◌else◌}
 use Rattle.std.specs.Str.{bytes_eq}
 use Rattle.std.proofs.lemmas.List.Sums.{sum_by-cons, sum_by-append}
 use Rattle.std.proofs.lemmas.Slice.Eq.{bytes_eq-Decides}
+use Rattle.lang_tree.specs.declared.limits.TheConstants.{MOST_VARIABLES}
 use Rattle.source_grammar.specs.Tokens.{Name, a_name, Token, token}
 use Rattle.source_core.proofs.expressions.Apart.{occurs_in, counted-once}
-use Rattle.source_meaning.specs.Names.{is_named, stands_once}
-use Rattle.source_meaning.proofs.names.Numbers.{name_of, name_same}
-use Rattle.source_meaning.proofs.names.Sound.{IsVariable}
+use Rattle.source_meaning.specs.declared.fault.FunctionFault.{FunctionFault}
+use Rattle.source_meaning.specs.declared.fault.FunctionFault.TheVariants.{NameTwice}
+use Rattle.source_meaning.specs.declared.fault.FunctionFault.TheVariants as fault
+use Rattle.source_meaning.specs.declared.fault.Limit.TheVariants as limit
+use Rattle.source_meaning.specs.Names.{Thing, variable, array, constant, Named, State, declared, is_named, stands_once, fresh}
+use Rattle.source_meaning.specs.Names.{as_variable_again, with_variable, declared_number}
+use Rattle.source_meaning.proofs.results.Values.{OnValue, on_bind, on_both, on_provided}
+use Rattle.source_meaning.proofs.names.Numbers.{name_of, name_below, name_same}
+use Rattle.source_meaning.proofs.names.Sound.{Sound, IsVariable, Was, fresh_was}
 
 -- how often a name stands among tokens
 abbrev pub standing : List ℕ → List Token → ℕ
@@ -74,6 +81,54 @@ counted_name vs x at var k i z e =
         → (let n : ℕ = if b then 1 else 0 in n ≤ standing z (token (a_name x) at ∷ []))
     by true f = one (f refl)
     by false f = omega arith
+
+-- a name that may be declared is no constant
+fresh_plain : (x : Name) (at : ℕ) (st : State) → OnValue (λ before. x.value ≡ None) (fresh x at st)
+fresh_plain x at st = by x.value refl where
+  known_no_more : (m : Named) (b : Bool) → x.value ≡ None
+      → OnValue (λ before. x.value ≡ None) (cond b (Err (NameTwice at)) (Ok (Some m.thing)))
+  known_no_more m true e = tt
+  known_no_more m false e = e
+
+  plain : (o : Option Named) → x.value ≡ None
+      → OnValue (λ before. x.value ≡ None) (elim o as (λ z. Result (Option Thing) FunctionFault)
+      [ None ↦ Ok None | Some m ↦ cond m.is_known (Err (NameTwice at)) (Ok (Some m.thing)) ])
+  plain None e = e
+  plain (Some m) e = known_no_more m m.is_known e
+
+  by : (o : Option ℤ) → x.value ≡ o → OnValue (λ before. x.value ≡ None) (elim o as (λ z. Result (Option Thing) FunctionFault) [
+    | Some v ↦ Err (NameTwice at)
+    | None ↦ elim (declared x.text st.names) as (λ z. Result (Option Thing) FunctionFault)
+        [ None ↦ Ok None | Some m ↦ cond m.is_known (Err (NameTwice at)) (Ok (Some m.thing)) ]
+  ])
+  by None e = plain (declared x.text st.names) e
+  by (Some v) e = tt
+
+-- of the variables so far one that is declared is that of its name
+pub counted_declared : (x : Name) (at : ℕ) (st : State) → Sound st
+    → OnValue (λ now. Counted st.variables (token (a_name x) at ∷ []) (λ i. occurs_in i (declared_number now))) (with_variable x at st)
+counted_declared x at st s =
+    on_bind (λ before. Was st x.text before × (x.value ≡ None)) Target (fresh x at st) _
+    (on_both (Was st x.text) (λ before. x.value ≡ None) (fresh x at st) (fresh_was x at st s) (fresh_plain x at st))
+    (λ before w. by before w.0 w.1)
+  where
+    Target : State → Type 0
+    Target now = Counted st.variables (token (a_name x) at ∷ []) (λ i. occurs_in i (declared_number now))
+
+    count : ℕ
+    count = length st.variables
+
+    none : (i : ℕ) → count ≢ i → occurs_in i count ≡ 0
+    none i d = ap (λ (b : Bool). let k : ℕ = if b then 1 else 0 in k) (ne_eqb count i d)
+
+    new : Counted st.variables (token (a_name x) at ∷ []) (λ i. occurs_in i count)
+    new i z e = let l = name_below st.variables i z e in let k = none i (λ d. omega (arith, l, d)) in omega (arith, k)
+
+    by : (before : Option Thing) → Was st x.text before → x.value ≡ None → OnValue Target (as_variable_again x.text at st before)
+    by None w e = on_provided Target (nat_lt count MOST_VARIABLES) (fault.Limit at limit.Variables) _ (λ t. new)
+    by (Some (variable i)) w e = counted_name st.variables x at i (e, w.2)
+    by (Some (array extents)) w e = tt
+    by (Some (constant v)) w e = tt
 
 -- ---- steps
 -- the name of this variable stands once, where C comes to each step

@@ -176,11 +176,12 @@ stepped_named x at sign st s =
 
 -- ---- names that are declared
 -- a name that may be declared was nothing before, or is among those met
-abbrev Was : State → List ℕ → Option Thing → Type 0
+abbrev pub Was : State → List ℕ → Option Thing → Type 0
 Was st x None = list_any (bytes_eq x) st.variables ≡ false
 Was st x (Some t) = IsMet st.variables x t
 
-fresh_was : (x : Name) (at : ℕ) (st : State) → Sound st → OnValue (Was st x.text) (fresh x at st)
+-- a name that may be declared
+pub fresh_was : (x : Name) (at : ℕ) (st : State) → Sound st → OnValue (Was st x.text) (fresh x at st)
 fresh_was x at st s = constants x.value where
   known_no_more : (m : Named) (b : Bool) → IsMet st.variables x.text m.thing
       → OnValue (Was st x.text) (cond b (Err (NameTwice at)) (Ok (Some m.thing)))
