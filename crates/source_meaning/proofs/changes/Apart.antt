@@ -54,7 +54,8 @@ module _ (integers : Integers) (n line : ℕ) (st : State) (s : Sound st) (ts : 
     abbrev SetsApart : Expression → Type 0
     SetsApart e = IsTrue (is_change_apart (sets var e line))
 
-    operation : (o : Operation) (c : g.Change) (sign : ℕ) (e : Expr) → HasRoom (token (a_name x) a ∷ token (change_sign c) sign ∷ spell_expr e)
+    operation : (o : Operation) (c : g.Change) (sign : ℕ) (e : Expr)
+        → HasRoom (token (a_name x) a ∷ token (change_sign c) sign ∷ spell_expr e)
         → OnValue SetsApart
         (read integers line (among ts st) e n >>= λ y. ranged integers line sign n (joined o sign (variable var a) y))
     operation o c sign e w =

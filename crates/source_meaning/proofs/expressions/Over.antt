@@ -44,11 +44,6 @@ pub right_has : (P : State → Type 0) (b : Bool) (st : State) → P (passable s
 right_has P true st p q = p
 right_has P false st p q = q
 
--- what a called name gives has what holds of it
-pub called_has : {A : Type 0} (P : A → Type 0) (at : ℕ) (o : Option Thing) (x : A) → P x → OnValue P (as_called at o x)
-called_has P at None x h = h
-called_has P at (Some t) x h = tt
-
 module _ (integers : Integers) (line : ℕ) where
   -- an expression whose numbers are in their ranges has what holds of it
   pub ranged_has : (P : Expression → Type 0) (sign h : ℕ) (e : Expression) → P e → OnValue P (ranged integers line sign h e)
@@ -107,9 +102,11 @@ module _ (integers : Integers) (n line : ℕ) where
 
   mutual
     -- the expression that is read
-    pub read_over : (st : State) → Sound st → length st.variables ≤ n → (e : Expr) (h : ℕ) → OnValue (λ x. IsTrue (is_over n x)) (read integers line st e h)
+    pub read_over : (st : State) → Sound st → length st.variables ≤ n → (e : Expr) (h : ℕ)
+        → OnValue (λ x. IsTrue (is_over n x)) (read integers line st e h)
     read_over st s few (tree.number v a) h = ranged_has integers line (Over n) a h (number (pos v) a) refl
-    read_over st s few (tree.variable x a) h = operand_over integers n line a h (length st.variables) (thing_of x st) few (thing_below x st s)
+    read_over st s few (tree.variable x a) h = operand_over integers n line a h (length st.variables) (thing_of x st) few
+        (thing_below x st s)
     read_over st s few (tree.element x a is) h =
         on_bind (λ extents. Unit {0}) (Over n) (array_of x a (subscript_count is) st) _ (anything (array_of x a (subscript_count is) st))
         (λ extents u. on_bind (λ ys. IsTrue (are_indexes_over n ys)) (Over n) (read_subscripts integers line st a extents is h) _
@@ -122,7 +119,8 @@ module _ (integers : Integers) (n line : ℕ) where
         (λ i l. lt-ltb i n (omega (arith, l, few)))
     read_over st s few (tree.call x a b es c) h = on_bind (λ y. Unit {0}) (Over n) (as_called a (thing_of x st) a) _
         (anything (as_called a (thing_of x st) a))
-        (λ y u. on_bind (λ xs. IsTrue (are_over n xs)) (Over n) (read_arguments integers line st es h) _ (arguments_over st s few es h) (λ xs o. o))
+        (λ y u. on_bind (λ xs. IsTrue (are_over n xs)) (Over n) (read_arguments integers line st es h) _
+        (arguments_over st s few es h) (λ xs o. o))
     read_over st s few (tree.free a b c) h = refl
     read_over st s few (tree.grouped a e b) h = on_bind (Over n) (Over n) (read integers line st e h) _ (read_over st s few e h) (λ x o. o)
     read_over st s few (tree.prefixed p a e) h = on_bind (Over n) (Over n) (read integers line st e h) _ (read_over st s few e h)
@@ -168,14 +166,16 @@ module _ (integers : Integers) (n line : ℕ) where
         (subscripts_over st s few a xs is (behind_number integers line i h)) (λ ys p. and_from (is_over n i) (are_indexes_over n ys) o p)))
 
     -- the arguments that are read
-    pub arguments_over : (st : State) → Sound st → length st.variables ≤ n → (es : Arguments) (h : ℕ) → OnValue (λ xs. IsTrue (are_over n xs)) (read_arguments integers line st es h)
+    pub arguments_over : (st : State) → Sound st → length st.variables ≤ n → (es : Arguments) (h : ℕ)
+        → OnValue (λ xs. IsTrue (are_over n xs)) (read_arguments integers line st es h)
     arguments_over st s few no_arguments h = refl
     arguments_over st s few (arguments e es) h =
         either_has (λ xs. IsTrue (are_over n xs)) (is_array_name st e) _ _ (more_over st s few es h)
         (one_more_over st e es h (read_over st s few e h) (λ k. more_over st s few es k))
 
     -- and those behind the first
-    pub more_over : (st : State) → Sound st → length st.variables ≤ n → (es : MoreArguments) (h : ℕ) → OnValue (λ xs. IsTrue (are_over n xs)) (read_more integers line st es h)
+    pub more_over : (st : State) → Sound st → length st.variables ≤ n → (es : MoreArguments) (h : ℕ)
+        → OnValue (λ xs. IsTrue (are_over n xs)) (read_more integers line st es h)
     more_over st s few last_argument h = refl
     more_over st s few (next_argument a e es) h =
         either_has (λ xs. IsTrue (are_over n xs)) (is_array_name st e) _ _ (more_over st s few es h)
@@ -183,21 +183,25 @@ module _ (integers : Integers) (n line : ℕ) where
 
   mutual
     -- a value that is read
-    value_over : (st : State) → Sound st → length st.variables ≤ n → (v : Value) (h : ℕ) → OnValue (λ x. IsTrue (is_over n x)) (read_value integers line st v h)
+    value_over : (st : State) → Sound st → length st.variables ≤ n → (v : Value) (h : ℕ)
+        → OnValue (λ x. IsTrue (is_over n x)) (read_value integers line st v h)
     value_over st s few (one_value e) h = read_over st s few e h
     value_over st s few (braced a vs b) h = on_bind (λ xs. IsTrue (are_over n xs)) (Over n) (read_values integers line st vs h) _
         (values_over st s few vs h) (λ xs o. o)
 
     -- the values that are read
-    pub values_over : (st : State) → Sound st → length st.variables ≤ n → (vs : Values) (h : ℕ) → OnValue (λ xs. IsTrue (are_over n xs)) (read_values integers line st vs h)
+    pub values_over : (st : State) → Sound st → length st.variables ≤ n → (vs : Values) (h : ℕ)
+        → OnValue (λ xs. IsTrue (are_over n xs)) (read_values integers line st vs h)
     values_over st s few no_values h = refl
-    values_over st s few (values v vs) h = on_bind (Over n) (λ xs. IsTrue (are_over n xs)) (read_value integers line st v h) _ (value_over st s few v h)
+    values_over st s few (values v vs) h =
+        on_bind (Over n) (λ xs. IsTrue (are_over n xs)) (read_value integers line st v h) _ (value_over st s few v h)
         (λ x o. on_bind (λ xs. IsTrue (are_over n xs)) (λ xs. IsTrue (are_over n xs))
         (read_more_values integers line st vs (behind integers line x h)) _
         (more_values_over st s few vs (behind integers line x h)) (λ xs p. and_from (is_over n x) (are_over n xs) o p))
 
     -- and those behind the first
-    more_values_over : (st : State) → Sound st → length st.variables ≤ n → (vs : MoreValues) (h : ℕ) → OnValue (λ xs. IsTrue (are_over n xs)) (read_more_values integers line st vs h)
+    more_values_over : (st : State) → Sound st → length st.variables ≤ n → (vs : MoreValues) (h : ℕ)
+        → OnValue (λ xs. IsTrue (are_over n xs)) (read_more_values integers line st vs h)
     more_values_over st s few last_value h = refl
     more_values_over st s few (last_comma a) h = refl
     more_values_over st s few (next_value a v vs) h =

@@ -5,7 +5,8 @@ use Rattle.std.proofs.lemmas.Bool.{and_from}
 use Rattle.source_grammar.specs.Tokens.{Token}
 use Rattle.source_tree.specs.Expressions.{Operation, Expression, Expressions, variable, joined, none, more}
 use Rattle.source_tree.specs.Statements.{sets, evaluates}
-use Rattle.source_core.specs.Laws.{occurrences, occurrences_in, all_steps, all_steps_in, are_steps_certain, are_steps_certain_in, steps_apart}
+use Rattle.source_core.specs.Laws.{occurrences, occurrences_in, all_steps, all_steps_in, are_steps_certain}
+use Rattle.source_core.specs.Laws.{are_steps_certain_in, steps_apart}
 use Rattle.source_core.specs.RunLaws.{is_change_apart}
 use Rattle.source_core.proofs.expressions.Apart.{occurs_in, all_steps-join, all_in-join}
 use Rattle.source_core.proofs.expressions.Occurring.{steps_occur, steps_occur_in}

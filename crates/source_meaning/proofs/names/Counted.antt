@@ -1,5 +1,6 @@
 -- How often the names of variables stand among tokens.
-use Rattle.std.proofs.Common.{◌≡◌, ◌≢◌, ◌≤◌, ◌+◌, ℕ, ℤ, List, [], ◌∷◌, ◌++◌, Bool, true, false, cond, IsTrue, Option, Some, None, Result, Ok, Err}
+use Rattle.std.proofs.Common.{◌≡◌, ◌≢◌, ◌≤◌, ◌+◌, ℕ, ℤ, List, [], ◌∷◌, ◌++◌, Bool, true, false, cond, IsTrue, Option, Some, None}
+use Rattle.std.proofs.Common.{Result, Ok, Err}
 use Rattle.std.proofs.Common.{length, nat_lt, refl, sym, ap, subst, arith, nat_eq, eqb-true, ne_eqb, true≢false, count_by}
 use Rattle.std.specs.Prelude.{◌==◌, if◌then◌else◌}
 use Rattle.std.specs.Str.{bytes_eq}
@@ -71,7 +72,8 @@ is_itself x at z e f = by x.value e where
 pub counted_name : (vs : List (List ℕ)) (x : Name) (at var : ℕ) → IsVariable x vs var
     → Counted vs (token (a_name x) at ∷ []) (λ i. occurs_in i var)
 counted_name vs x at var k i z e =
-    by (var == i) (λ t. is_itself x at z k.0 (name_same vs i z x.text e (subst (λ j. name_of vs j ≡ Some x.text) (counted-once var i t) k.1)))
+    by (var == i)
+    (λ t. is_itself x at z k.0 (name_same vs i z x.text e (subst (λ j. name_of vs j ≡ Some x.text) (counted-once var i t) k.1)))
   where
     one : IsTrue (is_named z (token (a_name x) at)) → 1 ≤ standing z (token (a_name x) at ∷ [])
     one t = let l = standing_more z (token (a_name x) at) [] in
