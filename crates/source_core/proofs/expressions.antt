@@ -1,6 +1,7 @@
 pub mod Division
 pub mod Operated
 pub mod Apart
+pub mod Occurring
 pub mod Lacking
 pub mod Operands
 pub mod Stepping

@@ -1,3 +1,3 @@
 pub mod Over
 pub mod Fits
-pub mod Stepless
+pub mod Apart

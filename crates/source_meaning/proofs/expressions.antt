@@ -1,4 +1,5 @@
 pub mod Over
 pub mod Within
 pub mod Fits
-pub mod Stepless
+pub mod Apart
+pub mod Whole

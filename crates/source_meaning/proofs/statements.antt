@@ -1,3 +1,4 @@
 pub mod Good
+pub mod Turns
 pub mod Grows
 pub mod Walked

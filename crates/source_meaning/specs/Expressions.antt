@@ -11,7 +11,8 @@ use Rattle.source_grammar.specs.Grammar.{last_subscript, next_subscript, Value, 
 use Rattle.source_grammar.specs.Grammar.{last_value, last_comma, next_value}
 use Rattle.source_grammar.specs.Grammar as tree
 use Rattle.source_tree.specs.Expressions.{Expression, Expressions, number, variable, unknown, call, element, grouped, negative}
-use Rattle.source_tree.specs.Expressions.{positive, stepped, inverse, joined, compared, both, either, chosen, none, more, plus, minus, times, over}
+use Rattle.source_tree.specs.Expressions.{positive, stepped, inverse, joined, compared, both, either, chosen, none, more, plus, minus}
+use Rattle.source_tree.specs.Expressions.{times, over}
 use Rattle.source_tree.specs.Expressions.{remainder, Extent, Subscripts, no_subscript, subscript, Direction, up, down, before}
 use Rattle.source_tree.specs.Expressions as source
 use Rattle.source_core.specs.Elaborated.{elaborated, numbered, tested}
@@ -149,7 +150,8 @@ module _ (integers : Integers) (line : ℕ) where
     read st (tree.joined e o a f) h =
         let conditions = joins_conditions o in
         read st e h >>= λ x. side conditions (first_of e) h x
-        >>= λ x. read (right_of conditions st) f (behind_side conditions x h) >>= λ y. side conditions (first_of f) (behind_side conditions x h) y
+        >>= λ x. read (right_of conditions st) f (behind_side conditions x h)
+        >>= λ y. side conditions (first_of f) (behind_side conditions x h) y
         >>= λ y. operated o a h x y
     read st (tree.chosen c a e b f) h =
         read st c h >>= λ x. as_condition (first_of c) h x

@@ -192,24 +192,6 @@ mutual
 pub passes-none : (test : ℕ → Bool) (e : Expression) → IsTrue (has_no_step e) → IsTrue (all_steps test e)
 passes-none test e h = all_steps-join (λ i. false) (λ i. false) test (λ i p q. absurd (none_passes i p)) e h h
 
--- an expression without steps has none that stands with others
-pub none-apart : (e : Expression) → IsTrue (has_no_step e) → IsTrue (steps_apart e)
-none-apart e h = both_from (all_steps (λ i. occurrences i e == 1) e) (are_steps_certain e)
-    (passes-none (λ i. occurrences i e == 1) e h) (certain-none e h)
-
--- so with another variable
-pub none-apart_target : (var : ℕ) (e : Expression) → IsTrue (has_no_step e)
-    → IsTrue (all_steps (λ i. (if var == i then 1 else 0) + occurrences i e == 1) e && are_steps_certain e)
-none-apart_target var e h = both_from (all_steps (λ i. occurs_in i var + occurrences i e == 1) e) (are_steps_certain e)
-    (passes-none (λ i. occurs_in i var + occurrences i e == 1) e h) (certain-none e h)
-
--- so have expressions together
-pub none-apart_in : (es : Expressions) → IsTrue (all_steps_in (λ i. false) es)
-    → IsTrue (all_steps_in (λ i. occurrences_in i es == 1) es && are_steps_certain_in es)
-none-apart_in es h = both_from (all_steps_in (λ i. occurrences_in i es == 1) es) (are_steps_certain_in es)
-    (all_in-join (λ i. false) (λ i. false) (λ i. occurrences_in i es == 1) (λ i p q. absurd (none_passes i p)) es h h)
-    (certain-none_in es h)
-
 -- an expression without steps
 pub apart-none : (e : Expression) → IsTrue (has_no_step e) → Apart (λ i. false) e
 apart-none e h = (h, certain-none e h, λ i t. absurd (none_passes i t))

@@ -15,24 +15,26 @@ use Rattle.source_grammar.specs.Grammar.{last_subscript, next_subscript, Value a
 use Rattle.source_grammar.specs.Grammar.{MoreValues, last_value, last_comma, next_value}
 use Rattle.source_grammar.specs.Grammar as tree
 use Rattle.source_tree.specs.Expressions.{Expression, Expressions, number, element, negative, more}
-use Rattle.source_tree.specs.Expressions.{Extent, Subscripts, no_subscript, subscript}
+use Rattle.source_tree.specs.Expressions.{Extent, Subscripts, no_subscript, subscript, Direction, up, down, Moment, before}
+use Rattle.source_tree.specs.Expressions.{behind as after}
 use Rattle.source_tree.specs.Expressions.{joined, compared, chosen, plus, minus, times, over, remainder}
 use Rattle.source_core.specs.Forms.{constant_form, variable_form, sums}
 use Rattle.source_core.specs.Forms as form
 use Rattle.source_core.specs.Preludes.{under, all_under}
 use Rattle.source_core.specs.Elaborated.{Result as Value, a_form, a_truth, any, Elaborated, selects, tested, as_number, numbered}
-use Rattle.source_core.specs.Elaborated.{held, elaborated, evaluated, indexed, index_behind}
+use Rattle.source_core.specs.Elaborated.{held, is_held, step_form, step_behind, elaborated, evaluated, indexed, index_behind}
 use Rattle.source_core.specs.Fits.{is_comparable, condition_fits, deed_fits, deeds_fit, result_fits, fits, numbered_fits, tested_fits}
-use Rattle.source_meaning.specs.declared.fault.FunctionFault.TheVariants.{BigNumber, SideEffect}
+use Rattle.source_core.proofs.expressions.Stepping.{moved}
+use Rattle.source_meaning.specs.declared.fault.FunctionFault.TheVariants.{BigNumber}
 use Rattle.source_meaning.specs.Results.{◌>>=◌}
-use Rattle.source_meaning.specs.Names.{Thing, State, thing_of, variable_of, array_of, as_called}
+use Rattle.source_meaning.specs.Names.{Thing, State, thing_of, stepped_of, array_of, as_called, passable}
 use Rattle.source_meaning.specs.Names as names
 use Rattle.source_meaning.specs.Expressions.{first_of, rel_of, ranged, as_condition, behind, behind_number, operated, joins_conditions}
-use Rattle.source_meaning.specs.Expressions.{side}
+use Rattle.source_meaning.specs.Expressions.{side, right_of, direction_of}
 use Rattle.source_meaning.specs.Expressions.{behind_side, prefixed, operand, read, read_subscripts, read_arguments, read_more}
 use Rattle.source_meaning.specs.Expressions.{is_array_name, subscript_count, read_value, read_values, read_more_values}
 use Rattle.source_meaning.proofs.results.Values.{OnValue, on_bind, on_provided}
-use Rattle.source_meaning.proofs.expressions.Over.{anything, either_has, refused}
+use Rattle.source_meaning.proofs.expressions.Over.{anything, either_has}
 use Rattle.base_integers.specs.declared.integers.Integers.{Integers}
 use Rattle.base_integers.specs.declared.integers.Integers.TheVariants.{Mathematical, Machine}
 use Rattle.base_integers.specs.declared.integers.Width.{Width}
@@ -116,6 +118,66 @@ held_fits (Machine width) line i =
     let high = is_comparable (form.minus (variable_form i) (constant_form (pos (greatest width)))) in
     and_from (low && high) true (and_from low high (least_fits width i) (greatest_fits width i)) refl
 
+-- ---- steps
+-- the form that a step gives a variable has numbers in their ranges
+moved_numbers : (direction : Direction) (i : ℕ) → IsTrue (has_numbers (moved direction i))
+moved_numbers up i = and_from (are_numbers (sums (replicate i (pos 0) ++ (pos 1 ∷ [])) [])) true (less_numbers i) refl
+moved_numbers down i = and_from (are_numbers (sums (replicate i (pos 0) ++ (pos 1 ∷ [])) [])) true (less_numbers i) refl
+
+-- so has the form of its value
+step_form_numbers : (direction : Direction) (moment : Moment) (i : ℕ) → IsTrue (has_numbers (step_form direction moment i))
+step_form_numbers direction before i = variable_numbers i
+step_form_numbers up after i = moved_numbers down i
+step_form_numbers down after i = moved_numbers up i
+
+-- what the new value is compared with where it has to be one of the integers of a width
+moved_held : (width : Width) (direction : Direction) (i : ℕ) → IsTrue (condition_fits (is_held width (moved direction i)))
+moved_held width direction i = by width direction where
+  unit : List ℤ
+  unit = replicate i (pos 0) ++ (pos 1 ∷ [])
+
+  low : List ℤ
+  low = map (λ x. negsuc 0 *ℤ x) (sums unit [])
+
+  high : List ℤ
+  high = sums (sums unit []) []
+
+  low_numbers : IsTrue (are_numbers low)
+  low_numbers = subst (λ xs. IsTrue (are_numbers (map (λ x. negsuc 0 *ℤ x) xs))) (sym (sums_none unit)) (opposite_numbers i)
+
+  high_numbers : IsTrue (are_numbers high)
+  high_numbers = subst (λ xs. IsTrue (are_numbers xs)) (sym (sums_none (sums unit []))) (less_numbers i)
+
+  both : IsTrue ((are_numbers low && true) && true && ((are_numbers high && true) && true))
+  both = and_from ((are_numbers low && true) && true) ((are_numbers high && true) && true)
+      (and_from (are_numbers low && true) true (and_from (are_numbers low) true low_numbers refl) refl)
+      (and_from (are_numbers high && true) true (and_from (are_numbers high) true high_numbers refl) refl)
+
+  by : (width : Width) (direction : Direction) → IsTrue (condition_fits (is_held width (moved direction i)))
+  by Bits8 up = both
+  by Bits8 down = both
+  by Bits16 up = both
+  by Bits16 down = both
+  by Bits32 up = both
+  by Bits32 down = both
+
+-- all numbers of a step are in their ranges
+step_fits : (integers : Integers) (line : ℕ) (direction : Direction) (moment : Moment) (i sign h : ℕ)
+    → IsTrue (fits (step_behind integers line direction moment i sign h))
+step_fits integers line direction moment i sign h =
+    and_from (deeds_fit (step_behind integers line direction moment i sign h).prelude) (has_numbers (step_form direction moment i))
+    (deeds integers direction) (step_form_numbers direction moment i)
+  where
+    deeds : (integers : Integers) (direction : Direction)
+        → IsTrue (deeds_fit (step_behind integers line direction moment i sign h).prelude)
+    deeds Mathematical up = and_from (has_numbers (moved up i)) true (moved_numbers up i) refl
+    deeds Mathematical down = and_from (has_numbers (moved down i)) true (moved_numbers down i) refl
+    deeds (Machine width) up = and_from (condition_fits (is_held width (moved up i))) (has_numbers (moved up i) && true)
+        (moved_held width up i) (and_from (has_numbers (moved up i)) true (moved_numbers up i) refl)
+    deeds (Machine width) down = and_from (condition_fits (is_held width (moved down i))) (has_numbers (moved down i) && true)
+        (moved_held width down i) (and_from (has_numbers (moved down i)) true (moved_numbers down i) refl)
+
+-- ---- numbers
 -- a result in range is one as a number
 number_fits : (integers : Integers) (line : ℕ) (ds : List Deed) (h : ℕ) (r : Value) → IsTrue (deeds_fit ds) → IsTrue (result_fits r)
     → IsTrue (numbered_fits (as_number integers line ds h r))
@@ -261,8 +323,12 @@ module _ (integers : Integers) (line : ℕ) where
           (λ extents u. on_bind (λ ys. IsTrue (deeds_fit (indexed integers line ys h).prelude)) (InRange h)
           (read_subscripts integers line st a extents is h) _ (subscripts_fit a extents is h)
           (λ ys k. and_from (deeds_fit (indexed integers line ys h).prelude) true k refl))
-      read_fits (tree.stepped_behind x a g b) h = refused (InRange h) (variable_of x a st) (SideEffect b)
-      read_fits (tree.stepped_before g a x b) h = refused (InRange h) (variable_of x b st) (SideEffect a)
+      read_fits (tree.stepped_behind x a d b) h =
+          on_bind (λ i. Unit {0}) (InRange h) (stepped_of x a b st) _ (anything (stepped_of x a b st))
+          (λ i u. step_fits integers line (direction_of d) after i b h)
+      read_fits (tree.stepped_before d a x b) h =
+          on_bind (λ i. Unit {0}) (InRange h) (stepped_of x b a st) _ (anything (stepped_of x b a st))
+          (λ i u. step_fits integers line (direction_of d) before i a h)
       read_fits (tree.call x a b es c) h = on_bind (λ y. Unit {0}) (λ x. IsTrue (fits (elaborated integers line x h)))
           (as_called a (thing_of x st) a) _
           (anything (as_called a (thing_of x st) a))
@@ -282,8 +348,8 @@ module _ (integers : Integers) (line : ℕ) where
           let b = joins_conditions integers line o in
           on_bind (λ x. Unit {0}) P (read integers line st e h) _ (anything (read integers line st e h))
           (λ x u. on_bind (SideInRange b h) P (side integers line b (first_of e) h x) _ (side_in_range b (first_of e) h x)
-          (λ x p. on_bind (λ y. Unit {0}) P (read integers line st f (behind_side integers line b x h)) _
-          (anything (read integers line st f (behind_side integers line b x h)))
+          (λ x p. on_bind (λ y. Unit {0}) P (read integers line (right_of b st) f (behind_side integers line b x h)) _
+          (anything (read integers line (right_of b st) f (behind_side integers line b x h)))
           (λ y u. on_bind (SideInRange b (behind_side integers line b x h)) P
           (side integers line b (first_of f) (behind_side integers line b x h) y) _
           (side_in_range b (first_of f) (behind_side integers line b x h) y)
@@ -293,10 +359,11 @@ module _ (integers : Integers) (line : ℕ) where
           on_bind (λ x. Unit {0}) P (read integers line st c h) _ (anything (read integers line st c h))
           (λ x u. on_bind (λ x. Unit {0}) P (as_condition integers line (first_of c) h x) _
           (anything (as_condition integers line (first_of c) h x))
-          (λ x u. on_bind (λ y. Unit {0}) P (read integers line st e (behind integers line x h)) _
-          (anything (read integers line st e (behind integers line x h)))
-          (λ y u. on_bind (λ z. Unit {0}) P (read integers line st f (behind_number integers line y (behind integers line x h))) _
-          (anything (read integers line st f (behind_number integers line y (behind integers line x h))))
+          (λ x u. on_bind (λ y. Unit {0}) P (read integers line (passable st) e (behind integers line x h)) _
+          (anything (read integers line (passable st) e (behind integers line x h)))
+          (λ y u. on_bind (λ z. Unit {0}) P
+          (read integers line (passable st) f (behind_number integers line y (behind integers line x h))) _
+          (anything (read integers line (passable st) f (behind_number integers line y (behind integers line x h))))
           (λ z u. ranged_fits a h (chosen a x y z)))))
 
       -- the indexes that are read

@@ -1,5 +1,5 @@
 -- The variables of an expression that is read are those of the function.
-use Rattle.std.proofs.Common.{◌≤◌, ℕ, pos, Bool, true, false, cond, IsTrue, List, [], ◌∷◌, length, Result, Ok, Err, Option, Some, None}
+use Rattle.std.proofs.Common.{◌≤◌, ◌<◌, ℕ, pos, Bool, true, false, cond, IsTrue, List, [], ◌∷◌, length, Result, Ok, Err, Option, Some, None}
 use Rattle.std.proofs.Common.{refl, arith}
 use Rattle.std.specs.Prelude.{◌&&◌}
 use Rattle.std.proofs.lemmas.Bool.{lt-ltb, and_from}
@@ -16,16 +16,16 @@ use Rattle.source_core.specs.Laws.{is_over, are_over, are_indexes_over}
 use Rattle.source_core.specs.Elaborated.{elaborated, tested}
 use Rattle.source_core.specs.Fits.{fits, tested_fits}
 use Rattle.source_meaning.specs.declared.fault.FunctionFault.{FunctionFault}
-use Rattle.source_meaning.specs.declared.fault.FunctionFault.TheVariants.{BigNumber, SideEffect}
+use Rattle.source_meaning.specs.declared.fault.FunctionFault.TheVariants.{BigNumber}
 use Rattle.source_meaning.specs.Results.{◌>>=◌}
-use Rattle.source_meaning.specs.Names.{Thing, State, thing_of, variable_of, array_of, as_called}
+use Rattle.source_meaning.specs.Names.{Thing, State, thing_of, stepped_of, array_of, as_called, passable}
 use Rattle.source_meaning.specs.Names as names
 use Rattle.source_meaning.specs.Expressions.{first_of, rel_of, ranged, as_condition, behind, behind_number, operated, joins_conditions}
-use Rattle.source_meaning.specs.Expressions.{side}
+use Rattle.source_meaning.specs.Expressions.{side, right_of}
 use Rattle.source_meaning.specs.Expressions.{behind_side, prefixed, operand, read, read_subscripts, read_arguments, read_more}
 use Rattle.source_meaning.specs.Expressions.{is_array_name, subscript_count, read_value, read_values, read_more_values}
 use Rattle.source_meaning.proofs.results.Values.{OnValue, on_bind, on_provided}
-use Rattle.source_meaning.proofs.names.Sound.{Sound, IsBelow, OnFound, thing_below}
+use Rattle.source_meaning.proofs.names.Sound.{Sound, IsBelow, OnFound, thing_below, stepped_below, passable_sound}
 use Rattle.base_integers.specs.declared.integers.Integers.{Integers}
 
 -- what is read has any value
@@ -39,15 +39,10 @@ pub either_has : {A : Type 0} (P : A → Type 0) (b : Bool) (r q : Result A Func
 either_has P true r q h k = h
 either_has P false r q h k = k
 
--- a step is refused
-pub refused : {A : Type 0} (P : A → Type 0) (r : Result ℕ FunctionFault) (fault : FunctionFault) → OnValue P (r >>= λ i. Err fault)
-refused P (Ok i) fault = tt
-refused P (Err e) fault = tt
-
--- what a called name gives has what holds of it
-pub called_has : {A : Type 0} (P : A → Type 0) (at : ℕ) (o : Option Thing) (x : A) → P x → OnValue P (as_called at o x)
-called_has P at None x h = h
-called_has P at (Some t) x h = tt
+-- the right side of an operation has what holds where C may pass over it and where it doesn't
+pub right_has : (P : State → Type 0) (b : Bool) (st : State) → P (passable st) → P st → P (right_of b st)
+right_has P true st p q = p
+right_has P false st p q = q
 
 module _ (integers : Integers) (line : ℕ) where
   -- an expression whose numbers are in their ranges has what holds of it
@@ -94,107 +89,123 @@ module _ (integers : Integers) (n line : ℕ) where
   operand_over at h m (Some (names.array extents)) l b = tt
   operand_over at h m (Some (names.constant v)) l b = ranged_has integers line (Over n) at h (number v at) refl
 
-module _ (integers : Integers) (n line : ℕ) (st : State) (s : Sound st) (few : length st.variables ≤ n) where
+module _ (integers : Integers) (n line : ℕ) where
   -- an argument that is read, and those behind it
-  one_more_over : (e : Expr) (es : MoreArguments) (h : ℕ) → OnValue (Over n) (read integers line st e h)
+  one_more_over : (st : State) (e : Expr) (es : MoreArguments) (h : ℕ) → OnValue (Over n) (read integers line st e h)
       → ((k : ℕ) → OnValue (λ xs. IsTrue (are_over n xs)) (read_more integers line st es k))
       → OnValue (λ xs. IsTrue (are_over n xs))
       (read integers line st e h >>= λ x. read_more integers line st es (behind integers line x h) >>= λ xs. Ok (more x xs))
-  one_more_over e es h r q = on_bind (Over n) (λ xs. IsTrue (are_over n xs)) (read integers line st e h) _ r
+  one_more_over st e es h r q = on_bind (Over n) (λ xs. IsTrue (are_over n xs)) (read integers line st e h) _ r
       (λ x o. on_bind (λ xs. IsTrue (are_over n xs)) (λ xs. IsTrue (are_over n xs))
       (read_more integers line st es (behind integers line x h)) _
       (q (behind integers line x h)) (λ xs p. and_from (is_over n x) (are_over n xs) o p))
 
   mutual
     -- the expression that is read
-    pub read_over : (e : Expr) (h : ℕ) → OnValue (λ x. IsTrue (is_over n x)) (read integers line st e h)
-    read_over (tree.number v a) h = ranged_has integers line (Over n) a h (number (pos v) a) refl
-    read_over (tree.variable x a) h = operand_over integers n line a h (length st.variables) (thing_of x st) few (thing_below x st s)
-    read_over (tree.element x a is) h =
+    pub read_over : (st : State) → Sound st → length st.variables ≤ n → (e : Expr) (h : ℕ)
+        → OnValue (λ x. IsTrue (is_over n x)) (read integers line st e h)
+    read_over st s few (tree.number v a) h = ranged_has integers line (Over n) a h (number (pos v) a) refl
+    read_over st s few (tree.variable x a) h = operand_over integers n line a h (length st.variables) (thing_of x st) few
+        (thing_below x st s)
+    read_over st s few (tree.element x a is) h =
         on_bind (λ extents. Unit {0}) (Over n) (array_of x a (subscript_count is) st) _ (anything (array_of x a (subscript_count is) st))
         (λ extents u. on_bind (λ ys. IsTrue (are_indexes_over n ys)) (Over n) (read_subscripts integers line st a extents is h) _
-        (subscripts_over a extents is h) (λ ys o. o))
-    read_over (tree.stepped_behind x a g b) h = refused (Over n) (variable_of x a st) (SideEffect b)
-    read_over (tree.stepped_before g a x b) h = refused (Over n) (variable_of x b st) (SideEffect a)
-    read_over (tree.call x a b es c) h = on_bind (λ y. Unit {0}) (Over n) (as_called a (thing_of x st) a) _
+        (subscripts_over st s few a extents is h) (λ ys o. o))
+    read_over st s few (tree.stepped_behind x a d b) h =
+        on_bind (λ i. i < length st.variables) (Over n) (stepped_of x a b st) _ (stepped_below x a b st s)
+        (λ i l. lt-ltb i n (omega (arith, l, few)))
+    read_over st s few (tree.stepped_before d a x b) h =
+        on_bind (λ i. i < length st.variables) (Over n) (stepped_of x b a st) _ (stepped_below x b a st s)
+        (λ i l. lt-ltb i n (omega (arith, l, few)))
+    read_over st s few (tree.call x a b es c) h = on_bind (λ y. Unit {0}) (Over n) (as_called a (thing_of x st) a) _
         (anything (as_called a (thing_of x st) a))
-        (λ y u. on_bind (λ xs. IsTrue (are_over n xs)) (Over n) (read_arguments integers line st es h) _ (arguments_over es h) (λ xs o. o))
-    read_over (tree.free a b c) h = refl
-    read_over (tree.grouped a e b) h = on_bind (Over n) (Over n) (read integers line st e h) _ (read_over e h) (λ x o. o)
-    read_over (tree.prefixed p a e) h = on_bind (Over n) (Over n) (read integers line st e h) _ (read_over e h)
+        (λ y u. on_bind (λ xs. IsTrue (are_over n xs)) (Over n) (read_arguments integers line st es h) _
+        (arguments_over st s few es h) (λ xs o. o))
+    read_over st s few (tree.free a b c) h = refl
+    read_over st s few (tree.grouped a e b) h = on_bind (Over n) (Over n) (read integers line st e h) _ (read_over st s few e h) (λ x o. o)
+    read_over st s few (tree.prefixed p a e) h = on_bind (Over n) (Over n) (read integers line st e h) _ (read_over st s few e h)
         (λ x o. prefixed_over integers n line p a (first_of e) h x o)
-    read_over (tree.joined e o a f) h =
+    read_over st s few (tree.joined e o a f) h =
         let b = joins_conditions integers line o in
-        on_bind (Over n) (Over n) (read integers line st e h) _ (read_over e h)
+        on_bind (Over n) (Over n) (read integers line st e h) _ (read_over st s few e h)
         (λ x p. on_bind (Over n) (Over n) (side integers line b (first_of e) h x) _ (side_has integers line (Over n) b (first_of e) h x p)
-        (λ x p. on_bind (Over n) (Over n) (read integers line st f (behind_side integers line b x h)) _
-        (read_over f (behind_side integers line b x h))
+        (λ x p. on_bind (Over n) (Over n) (read integers line (right_of b st) f (behind_side integers line b x h)) _
+        (right_has (λ t. OnValue (Over n) (read integers line t f (behind_side integers line b x h))) b st
+        (read_over (passable st) (passable_sound st s) few f (behind_side integers line b x h))
+        (read_over st s few f (behind_side integers line b x h)))
         (λ y q. on_bind (Over n) (Over n) (side integers line b (first_of f) (behind_side integers line b x h) y) _
         (side_has integers line (Over n) b (first_of f) (behind_side integers line b x h) y q)
         (λ y q. operated_over integers n line o a h x y p q))))
-    read_over (tree.chosen c a e b f) h =
-        on_bind (Over n) (Over n) (read integers line st c h) _ (read_over c h)
+    read_over st s few (tree.chosen c a e b f) h =
+        on_bind (Over n) (Over n) (read integers line st c h) _ (read_over st s few c h)
         (λ x p. on_bind (Over n) (Over n) (as_condition integers line (first_of c) h x) _
         (condition_has integers line (Over n) (first_of c) h x p)
-        (λ x p. on_bind (Over n) (Over n) (read integers line st e (behind integers line x h)) _ (read_over e (behind integers line x h))
-        (λ y q. on_bind (Over n) (Over n) (read integers line st f (behind_number integers line y (behind integers line x h))) _
-        (read_over f (behind_number integers line y (behind integers line x h)))
+        (λ x p. on_bind (Over n) (Over n) (read integers line (passable st) e (behind integers line x h)) _
+        (read_over (passable st) (passable_sound st s) few e (behind integers line x h))
+        (λ y q. on_bind (Over n) (Over n) (read integers line (passable st) f (behind_number integers line y (behind integers line x h))) _
+        (read_over (passable st) (passable_sound st s) few f (behind_number integers line y (behind integers line x h)))
         (λ z r. ranged_has integers line (Over n) a h (chosen a x y z)
         (and_from (is_over n x) (is_over n y && is_over n z) p (and_from (is_over n y) (is_over n z) q r))))))
 
     -- the indexes that are read
-    subscripts_over : (a : ℕ) (extents : List Extent) (is : tree.Subscripts) (h : ℕ)
+    subscripts_over : (st : State) → Sound st → length st.variables ≤ n → (a : ℕ) (extents : List Extent) (is : tree.Subscripts) (h : ℕ)
         → OnValue (λ ys. IsTrue (are_indexes_over n ys)) (read_subscripts integers line st a extents is h)
-    subscripts_over a [] is h = tt
-    subscripts_over a (x ∷ xs) (last_subscript b e c) h =
-        on_bind (Over n) (λ ys. IsTrue (are_indexes_over n ys)) (read integers line st e h) _ (read_over e h)
+    subscripts_over st s few a [] is h = tt
+    subscripts_over st s few a (x ∷ xs) (last_subscript b e c) h =
+        on_bind (Over n) (λ ys. IsTrue (are_indexes_over n ys)) (read integers line st e h) _ (read_over st s few e h)
         (λ i o. on_bind (λ y. Unit {0}) (λ ys. IsTrue (are_indexes_over n ys))
         (ranged integers line b h (element (subscript x b i no_subscript) a)) _
         (anything (ranged integers line b h (element (subscript x b i no_subscript) a))) (λ y u. and_from (is_over n i) true o refl))
-    subscripts_over a (x ∷ xs) (next_subscript b e c is) h =
-        on_bind (Over n) (λ ys. IsTrue (are_indexes_over n ys)) (read integers line st e h) _ (read_over e h)
+    subscripts_over st s few a (x ∷ xs) (next_subscript b e c is) h =
+        on_bind (Over n) (λ ys. IsTrue (are_indexes_over n ys)) (read integers line st e h) _ (read_over st s few e h)
         (λ i o. on_bind (λ y. Unit {0}) (λ ys. IsTrue (are_indexes_over n ys))
         (ranged integers line b h (element (subscript x b i no_subscript) a)) _
         (anything (ranged integers line b h (element (subscript x b i no_subscript) a)))
         (λ y u. on_bind (λ ys. IsTrue (are_indexes_over n ys)) (λ ys. IsTrue (are_indexes_over n ys))
         (read_subscripts integers line st a xs is (behind_number integers line i h)) _
-        (subscripts_over a xs is (behind_number integers line i h)) (λ ys p. and_from (is_over n i) (are_indexes_over n ys) o p)))
+        (subscripts_over st s few a xs is (behind_number integers line i h)) (λ ys p. and_from (is_over n i) (are_indexes_over n ys) o p)))
 
     -- the arguments that are read
-    pub arguments_over : (es : Arguments) (h : ℕ) → OnValue (λ xs. IsTrue (are_over n xs)) (read_arguments integers line st es h)
-    arguments_over no_arguments h = refl
-    arguments_over (arguments e es) h =
-        either_has (λ xs. IsTrue (are_over n xs)) (is_array_name st e) _ _ (more_over es h)
-        (one_more_over e es h (read_over e h) (λ k. more_over es k))
+    pub arguments_over : (st : State) → Sound st → length st.variables ≤ n → (es : Arguments) (h : ℕ)
+        → OnValue (λ xs. IsTrue (are_over n xs)) (read_arguments integers line st es h)
+    arguments_over st s few no_arguments h = refl
+    arguments_over st s few (arguments e es) h =
+        either_has (λ xs. IsTrue (are_over n xs)) (is_array_name st e) _ _ (more_over st s few es h)
+        (one_more_over st e es h (read_over st s few e h) (λ k. more_over st s few es k))
 
     -- and those behind the first
-    pub more_over : (es : MoreArguments) (h : ℕ) → OnValue (λ xs. IsTrue (are_over n xs)) (read_more integers line st es h)
-    more_over last_argument h = refl
-    more_over (next_argument a e es) h =
-        either_has (λ xs. IsTrue (are_over n xs)) (is_array_name st e) _ _ (more_over es h)
-        (one_more_over e es h (read_over e h) (λ k. more_over es k))
+    pub more_over : (st : State) → Sound st → length st.variables ≤ n → (es : MoreArguments) (h : ℕ)
+        → OnValue (λ xs. IsTrue (are_over n xs)) (read_more integers line st es h)
+    more_over st s few last_argument h = refl
+    more_over st s few (next_argument a e es) h =
+        either_has (λ xs. IsTrue (are_over n xs)) (is_array_name st e) _ _ (more_over st s few es h)
+        (one_more_over st e es h (read_over st s few e h) (λ k. more_over st s few es k))
 
   mutual
     -- a value that is read
-    value_over : (v : Value) (h : ℕ) → OnValue (λ x. IsTrue (is_over n x)) (read_value integers line st v h)
-    value_over (one_value e) h = read_over e h
-    value_over (braced a vs b) h = on_bind (λ xs. IsTrue (are_over n xs)) (Over n) (read_values integers line st vs h) _
-        (values_over vs h) (λ xs o. o)
+    value_over : (st : State) → Sound st → length st.variables ≤ n → (v : Value) (h : ℕ)
+        → OnValue (λ x. IsTrue (is_over n x)) (read_value integers line st v h)
+    value_over st s few (one_value e) h = read_over st s few e h
+    value_over st s few (braced a vs b) h = on_bind (λ xs. IsTrue (are_over n xs)) (Over n) (read_values integers line st vs h) _
+        (values_over st s few vs h) (λ xs o. o)
 
     -- the values that are read
-    pub values_over : (vs : Values) (h : ℕ) → OnValue (λ xs. IsTrue (are_over n xs)) (read_values integers line st vs h)
-    values_over no_values h = refl
-    values_over (values v vs) h = on_bind (Over n) (λ xs. IsTrue (are_over n xs)) (read_value integers line st v h) _ (value_over v h)
+    pub values_over : (st : State) → Sound st → length st.variables ≤ n → (vs : Values) (h : ℕ)
+        → OnValue (λ xs. IsTrue (are_over n xs)) (read_values integers line st vs h)
+    values_over st s few no_values h = refl
+    values_over st s few (values v vs) h =
+        on_bind (Over n) (λ xs. IsTrue (are_over n xs)) (read_value integers line st v h) _ (value_over st s few v h)
         (λ x o. on_bind (λ xs. IsTrue (are_over n xs)) (λ xs. IsTrue (are_over n xs))
         (read_more_values integers line st vs (behind integers line x h)) _
-        (more_values_over vs (behind integers line x h)) (λ xs p. and_from (is_over n x) (are_over n xs) o p))
+        (more_values_over st s few vs (behind integers line x h)) (λ xs p. and_from (is_over n x) (are_over n xs) o p))
 
     -- and those behind the first
-    more_values_over : (vs : MoreValues) (h : ℕ) → OnValue (λ xs. IsTrue (are_over n xs)) (read_more_values integers line st vs h)
-    more_values_over last_value h = refl
-    more_values_over (last_comma a) h = refl
-    more_values_over (next_value a v vs) h =
-        on_bind (Over n) (λ xs. IsTrue (are_over n xs)) (read_value integers line st v h) _ (value_over v h)
+    more_values_over : (st : State) → Sound st → length st.variables ≤ n → (vs : MoreValues) (h : ℕ)
+        → OnValue (λ xs. IsTrue (are_over n xs)) (read_more_values integers line st vs h)
+    more_values_over st s few last_value h = refl
+    more_values_over st s few (last_comma a) h = refl
+    more_values_over st s few (next_value a v vs) h =
+        on_bind (Over n) (λ xs. IsTrue (are_over n xs)) (read_value integers line st v h) _ (value_over st s few v h)
         (λ x o. on_bind (λ xs. IsTrue (are_over n xs)) (λ xs. IsTrue (are_over n xs))
         (read_more_values integers line st vs (behind integers line x h)) _
-        (more_values_over vs (behind integers line x h)) (λ xs p. and_from (is_over n x) (are_over n xs) o p))
+        (more_values_over st s few vs (behind integers line x h)) (λ xs p. and_from (is_over n x) (are_over n xs) o p))

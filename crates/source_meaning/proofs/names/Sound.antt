@@ -8,24 +8,25 @@ use Rattle.std.proofs.lemmas.Bool.{ltb-true, leb-true}
 use Rattle.std.proofs.lemmas.Bool.Decides.{not_from_Decides}
 use Rattle.std.proofs.lemmas.Slice.Eq.{bytes_eq-Decides}
 use Rattle.lang_tree.specs.declared.limits.TheConstants.{MOST_VARIABLES}
-use Rattle.source_grammar.specs.Tokens.{Name}
+use Rattle.source_grammar.specs.Tokens.{Name, Token}
 use Rattle.source_tree.specs.Expressions.{Extent}
 use Rattle.source_meaning.specs.declared.fault.FunctionFault.{FunctionFault}
-use Rattle.source_meaning.specs.declared.fault.FunctionFault.TheVariants.{NameTwice}
+use Rattle.source_meaning.specs.declared.fault.FunctionFault.TheVariants.{NameTwice, SideEffect}
 use Rattle.source_meaning.specs.declared.fault.FunctionFault.TheVariants as fault
 use Rattle.source_meaning.specs.declared.fault.Limit.TheVariants as limit
 use Rattle.source_meaning.specs.Names.{Thing, variable, array, constant, Named, State, start_state, declared, known_if, known, thing_of}
 use Rattle.source_meaning.specs.Names.{as_variable, variable_of, fresh, as_variable_again, with_variable, declared_number, as_array_again}
-use Rattle.source_meaning.specs.Names.{fresh_array, with_name, with_array, forgotten, closed}
+use Rattle.source_meaning.specs.Names.{fresh_array, with_name, with_array, forgotten, closed, among, passable, stands_once, stepped_of}
 use Rattle.source_meaning.specs.Limits.{counted}
 use Rattle.source_meaning.specs.Statements.{new_label, jumped}
 use Rattle.source_meaning.specs.Laws.{IsNoneOf, AreApart}
 use Rattle.source_meaning.proofs.results.Values.{OnValue, on_bind, on_provided, on_weaker}
 use Rattle.source_meaning.proofs.names.Added.{added, added_new, added_known}
+use Rattle.source_meaning.proofs.names.Numbers.{name_of, name_more, name_last}
 
--- a variable is one of those met, and so is its name
+-- a variable is one of those met, and so is its name, which this is
 abbrev pub IsMet : List (List ℕ) → (name : List ℕ) → Thing → Type 0
-IsMet vs x (variable i) = (i < length vs) × (list_any (bytes_eq x) vs ≡ true)
+IsMet vs x (variable i) = (i < length vs) × (list_any (bytes_eq x) vs ≡ true) × (name_of vs i ≡ Some x)
 IsMet vs x (array extents) = Unit {0}
 IsMet vs x (constant v) = Unit {0}
 
@@ -50,6 +51,14 @@ pub record Sound (st : State) : Type 0 where
 -- nothing has been met at the start
 pub start_sound : Sound start_state
 start_sound = record { met = tt; none = λ x e. refl; apart = tt; few = omega arith; short = omega arith }
+
+-- it matters to none of this among which tokens an expression stands
+pub among_sound : (ts : List Token) (st : State) → Sound st → Sound (among ts st)
+among_sound ts st s = record { met = s.met; none = s.none; apart = s.apart; few = s.few; short = s.short }
+
+-- nor whether C may pass over it
+pub passable_sound : (st : State) → Sound st → Sound (passable st)
+passable_sound st s = record { met = s.met; none = s.none; apart = s.apart; few = s.few; short = s.short }
 
 -- ---- names that are looked up
 -- what holds of what was found
@@ -107,13 +116,72 @@ variable_below x at st s = by (thing_of x st) (thing_below x st s) where
   by (Some (array extents)) k = tt
   by (Some (constant v)) k = tt
 
+-- so is that of one that is stepped
+pub stepped_below : (x : Name) (at sign : ℕ) (st : State) → Sound st
+    → OnValue (λ i. i < length st.variables) (stepped_of x at sign st)
+stepped_below x at sign st s =
+    on_bind (λ i. i < length st.variables) (λ i. i < length st.variables) (variable_of x at st) _ (variable_below x at st s)
+    (λ i l. on_provided (λ j. j < length st.variables) (stands_once x.text st.around) (SideEffect sign) i (λ t. l))
+
+-- this is the name of a variable, and no constant
+abbrev pub IsVariable : Name → List (List ℕ) → ℕ → Type 0
+IsVariable x vs i = (x.value ≡ None) × (name_of vs i ≡ Some x.text)
+
+-- so it is if a thing is one
+abbrev pub IsThing : Name → List (List ℕ) → Thing → Type 0
+IsThing x vs (variable i) = IsVariable x vs i
+IsThing x vs (array extents) = Unit {0}
+IsThing x vs (constant v) = Unit {0}
+
+-- a name where it stands is that of the variable that it stands for
+pub thing_named : (x : Name) (st : State) → Sound st → OnFound (IsThing x st.variables) (thing_of x st)
+thing_named x st s = constants x.value refl where
+  thing : (t : Thing) → x.value ≡ None → IsMet st.variables x.text t → IsThing x st.variables t
+  thing (variable i) e k = (e, k.2)
+  thing (array extents) e k = tt
+  thing (constant v) e k = tt
+
+  if_known : (m : Named) (b : Bool) → x.value ≡ None → IsMet st.variables x.text m.thing
+      → OnFound (IsThing x st.variables) (cond b (Some m.thing) None)
+  if_known m true e k = thing m.thing e k
+  if_known m false e k = tt
+
+  by : (o : Option Named) → x.value ≡ None → OnFound (λ m. IsMet st.variables x.text m.thing) o
+      → OnFound (IsThing x st.variables) (elim o as (λ z. Option Thing) [ None ↦ None | Some m ↦ known_if m ])
+  by None e k = tt
+  by (Some m) e k = if_known m m.is_known e k
+
+  constants : (o : Option ℤ) → x.value ≡ o
+      → OnFound (IsThing x st.variables)
+      (elim o as (λ z. Option Thing) [ None ↦ known x.text st.names | Some v ↦ Some (constant v) ])
+  constants None e = by (declared x.text st.names) e (declared_met x.text st.variables st.names s.met)
+  constants (Some v) e = tt
+
+-- so is the name of a variable
+pub variable_named : (x : Name) (at : ℕ) (st : State) → Sound st → OnValue (IsVariable x st.variables) (variable_of x at st)
+variable_named x at st s = by (thing_of x st) (thing_named x st s) where
+  by : (o : Option Thing) → OnFound (IsThing x st.variables) o → OnValue (IsVariable x st.variables) (as_variable at o)
+  by None k = tt
+  by (Some (variable i)) k = k
+  by (Some (array extents)) k = tt
+  by (Some (constant v)) k = tt
+
+-- and one that is stepped, which stands once around the step
+pub stepped_named : (x : Name) (at sign : ℕ) (st : State) → Sound st
+    → OnValue (λ i. IsVariable x st.variables i × IsTrue (stands_once x.text st.around)) (stepped_of x at sign st)
+stepped_named x at sign st s =
+    let P : ℕ → Type 0 = λ i. IsVariable x st.variables i × IsTrue (stands_once x.text st.around) in
+    on_bind (IsVariable x st.variables) P (variable_of x at st) _ (variable_named x at st s)
+    (λ i k. on_provided P (stands_once x.text st.around) (SideEffect sign) i (λ t. (k, t)))
+
 -- ---- names that are declared
 -- a name that may be declared was nothing before, or is among those met
-abbrev Was : State → List ℕ → Option Thing → Type 0
+abbrev pub Was : State → List ℕ → Option Thing → Type 0
 Was st x None = list_any (bytes_eq x) st.variables ≡ false
 Was st x (Some t) = IsMet st.variables x t
 
-fresh_was : (x : Name) (at : ℕ) (st : State) → Sound st → OnValue (Was st x.text) (fresh x at st)
+-- a name that may be declared
+pub fresh_was : (x : Name) (at : ℕ) (st : State) → Sound st → OnValue (Was st x.text) (fresh x at st)
 fresh_was x at st s = constants x.value where
   known_no_more : (m : Named) (b : Bool) → IsMet st.variables x.text m.thing
       → OnValue (Was st x.text) (cond b (Err (NameTwice at)) (Ok (Some m.thing)))
@@ -152,7 +220,11 @@ met_more v vs (m ∷ ms) h = (one m.name m.thing h.0, met_more v vs ms h.1) wher
   any_more false c e = e
 
   one : (x : List ℕ) (t : Thing) → IsMet vs x t → IsMet (v ∷ vs) x t
-  one x (variable i) k = (let l = k.0 in omega (arith, l), any_more (bytes_eq x v) (list_any (bytes_eq x) vs) k.1)
+  one x (variable i) k = (
+    let l = k.0 in omega (arith, l),
+    any_more (bytes_eq x v) (list_any (bytes_eq x) vs) k.1,
+    name_more v vs i x k.2,
+  )
   one x (array extents) k = tt
   one x (constant c) k = tt
 
@@ -191,7 +263,11 @@ variable_sound x at st s = on_bind (Was st x.text) (Declares x.text st) (fresh x
       new w l = record {
         sound = record {
           met = (
-            (omega arith, ap (λ b. b || list_any (bytes_eq x.text) st.variables) ((bytes_eq-Decides x.text x.text).1 refl)),
+            (
+              omega arith,
+              ap (λ b. b || list_any (bytes_eq x.text) st.variables) ((bytes_eq-Decides x.text x.text).1 refl),
+              name_last x.text st.variables,
+            ),
             met_more x.text st.variables st.names s.met,
           );
           none = λ y e. let p = declared_none y x.text (variable count) st.names e in

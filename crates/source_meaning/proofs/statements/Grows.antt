@@ -2,12 +2,12 @@
 use Rattle.std.proofs.Common.{◌≡◌, ◌∙◌, ◌≤◌, ◌+◌, ◌++◌, ℕ, Bool, true, false, IsTrue, List, [], ◌∷◌, length, Result, Ok}
 use Rattle.std.proofs.Common.{refl, sym, ap, subst, arith, cond}
 use Rattle.std.specs.Prelude.{nat_lt}
-use Rattle.std.specs.List.{list_all}
-use Rattle.std.proofs.lemmas.Bool.{lt-ltb, and_from, and_parts}
-use Rattle.std.proofs.lemmas.List.{length-append}
+use Rattle.std.proofs.lemmas.Bool.{lt-ltb, and_from}
 use Rattle.lang_tree.specs.Tree.{returns, nodes_in}
-use Rattle.lang_tree.specs.declared.limits.TheConstants.{MOST_HIDDEN}
-use Rattle.source_grammar.specs.Tokens.{Name}
+use Rattle.source_grammar.specs.Tokens.{Name, Token, token, a_name, replaces, change_sign, left_paren, right_paren, left_brace}
+use Rattle.source_grammar.specs.Tokens.{right_brace}
+use Rattle.source_grammar.specs.Grammar.{spell_expr, spell_place, spell_effect, spell_update, spell_values, spell_arguments, spell_sizes}
+use Rattle.source_grammar.specs.Grammar.{spell_declarator, Sizes}
 use Rattle.source_grammar.specs.Grammar.{Expr, Arguments, Optional, absent, present, Update, update, step_before, Place, Effect, steps}
 use Rattle.source_grammar.specs.Grammar.{MoreUpdates, last_update, next_update, Updates, no_updates, some_updates, Initialiser, bare, given}
 use Rattle.source_grammar.specs.Grammar.{sized, filled, Values, Declarator, declarator, MoreDeclarators, last_declarator, next_declarator}
@@ -21,40 +21,39 @@ use Rattle.source_tree.specs.Expressions.{Expression, Expressions, Extent, none,
 use Rattle.source_tree.specs.Statements.{Change, sets, evaluates, Statement, Statements, declares}
 use Rattle.source_tree.specs.Statements.{changes, never, jump, nil, cons}
 use Rattle.source_core.specs.Elaborated.{elaborated, evaluated}
-use Rattle.source_core.specs.Fits.{deeds_fit, fits, tested_fits}
-use Rattle.source_core.specs.Laws.{is_over, are_over, has_no_step, steps_apart}
+use Rattle.source_core.specs.Fits.{deeds_fit, fits}
+use Rattle.source_core.specs.Laws.{is_over, are_over}
 use Rattle.source_core.specs.RunLaws.{is_change_over, is_change_apart}
-use Rattle.source_core.proofs.expressions.Apart.{none-apart, none-apart_target, none-apart_in}
-use Rattle.source_core.specs.Core.{taken_any, change_deeds, changes_deeds, condition_of, core_of, core_in}
+use Rattle.source_core.proofs.expressions.Apart.{occurs_in}
+use Rattle.source_core.specs.Core.{taken_any, change_deeds, core_of, core_in}
 use Rattle.source_meaning.specs.declared.fault.FunctionFault.{FunctionFault}
 use Rattle.source_meaning.specs.Results.{◌>>=◌}
-use Rattle.source_meaning.specs.Names.{State, thing_of, as_called, with_variable, declared_number, fresh_array, with_array}
+use Rattle.source_meaning.specs.Names.{State, among, thing_of, as_called, with_variable, declared_number, fresh_array, with_array}
 use Rattle.source_meaning.specs.Arrays.{read_sizes}
-use Rattle.source_meaning.specs.Limits.{is_small_deed, counted}
-use Rattle.source_meaning.specs.Expressions.{read, read_arguments, read_values, as_condition, first_of}
-use Rattle.source_meaning.specs.Changes.{behind_change, few, changed, first_place, read_update}
+use Rattle.source_meaning.specs.Limits.{counted}
+use Rattle.source_meaning.specs.Expressions.{read, read_arguments, read_values}
+use Rattle.source_meaning.specs.Changes.{few}
 use Rattle.source_meaning.specs.Statements.{followed_by, one, as_statements, is_end, is_error}
-use Rattle.source_meaning.specs.Statements.{call_of, read_condition, read_declarator, read_more_declarators, read_declarators}
-use Rattle.source_meaning.specs.Statements.{read_more_updates, read_updates, read_first, read_test, read_evaluated, read_returned}
+use Rattle.source_meaning.specs.Statements.{call_of, read_declarator, read_more_declarators, read_declarators}
+use Rattle.source_meaning.specs.Statements.{read_updates, read_first, read_evaluated, read_returned}
 use Rattle.source_meaning.specs.Walk.{declared_one, declared_more, declared_in, declared_before}
 use Rattle.source_meaning.proofs.results.Values.{OnValue, on_bind, on_both, on_given, on_weaker}
 use Rattle.source_meaning.proofs.names.Sound.{Sound, Declares, Counts, variable_sound, fresh_array_same, array_sound}
-use Rattle.source_meaning.proofs.names.Sound.{counted_sound}
+use Rattle.source_meaning.proofs.names.Sound.{counted_sound, among_sound}
+use Rattle.source_meaning.proofs.names.Counted.{Counted, standing, standing_more, standing_then, counted_declared}
 use Rattle.source_meaning.proofs.names.Added.{added, added_then}
-use Rattle.source_meaning.proofs.limits.Limited.{limited_has}
-use Rattle.source_meaning.proofs.limits.Deeds.{condition_limited, change_limited}
-use Rattle.source_meaning.proofs.expressions.Fits.{condition_in_range, read_fits, arguments_fit, values_fit}
-use Rattle.source_meaning.proofs.changes.Fits.{taken_fits, one_evaluated, changed_fits}
-use Rattle.source_meaning.proofs.expressions.Over.{anything, condition_has, read_over, arguments_over, values_over}
-use Rattle.source_meaning.proofs.expressions.Stepless.{no_step_in, read_stepless, arguments_stepless, values_stepless}
-use Rattle.source_meaning.proofs.changes.Over.{changed_over}
-use Rattle.source_meaning.proofs.changes.Stepless.{changed_apart}
+use Rattle.source_meaning.proofs.expressions.Fits.{read_fits, arguments_fit, values_fit}
+use Rattle.source_meaning.proofs.changes.Fits.{taken_fits, one_evaluated}
+use Rattle.source_meaning.proofs.expressions.Over.{anything, read_over, arguments_over, values_over}
+use Rattle.source_meaning.proofs.expressions.Apart.{Apart, ApartIn, stands_more, stands_first, read_apart, arguments_apart, values_apart}
+use Rattle.source_meaning.proofs.expressions.Whole.{stands_within, one_apart, apart_together, apart_beside, apart_set}
 use Rattle.source_meaning.proofs.statements.Good.{nodes, nodes_then, nodes_one, nodes_change, nodes_declares, nodes_changes}
-use Rattle.source_meaning.proofs.statements.Good.{is_kept, is_change_kept, GoodCondition, GoodChange, GoodChanges}
+use Rattle.source_meaning.proofs.statements.Good.{is_change_kept, GoodChange}
 use Rattle.source_meaning.proofs.statements.Good.{GoodStatement, Good, good_nil}
-use Rattle.source_meaning.proofs.statements.Good.{good_cons, good_one, good_then, good_declares, good_change, no_changes, more_changes}
-use Rattle.source_meaning.proofs.statements.Good.{good_changes, good_always}
+use Rattle.source_meaning.proofs.statements.Good.{good_cons, good_one, good_then, good_declares, good_change}
+use Rattle.source_meaning.proofs.statements.Good.{good_changes}
 use Rattle.source_meaning.proofs.statements.Good.{good_never, good_returns}
+use Rattle.source_meaning.proofs.statements.Turns.{Turns, AllTurn, few_has, change_good, updates_turn}
 use Rattle.base_integers.specs.declared.integers.Integers.{Integers}
 
 -- what comes of statements
@@ -71,154 +70,20 @@ pub record Grows (integers : Integers) (n : ℕ) (inside : Bool) (before : State
   -- they are good where there are no more variables than n
   pub good : length r.0.variables ≤ n → Good integers n inside r.1
 
--- what comes of a change
-pub record Turns (integers : Integers) (n : ℕ) (before : State) (r : State × Change) : Type 0 where
-  -- its names stand for variables
-  pub sound : Sound r.0
-  -- it has the same variables
-  pub variables : r.0.variables ≡ before.variables
-  -- so it has as many
-  pub width : length r.0.variables ≡ length before.variables
-  -- it has as many statements more as these are in the core
-  pub count : r.0.count ≡ before.count + length (change_deeds integers n r.1)
-  -- they are good where there are no more variables than n
-  pub good : length before.variables ≤ n → GoodChange integers n r.1
-
--- what comes of changes
-pub record AllTurn (integers : Integers) (n : ℕ) (before : State) (r : State × List Change) : Type 0 where
-  -- its names stand for variables
-  pub sound : Sound r.0
-  -- it has the same variables
-  pub variables : r.0.variables ≡ before.variables
-  -- so it has as many
-  pub width : length r.0.variables ≡ length before.variables
-  -- it has as many statements more as these are in the core
-  pub count : r.0.count ≡ before.count + length (changes_deeds integers n r.1)
-  -- they are good where there are no more variables than n
-  pub good : length before.variables ≤ n → GoodChanges integers n r.1
+-- the tokens of a declarator have room for those of its values
+filled_room : (x : Name) (at : ℕ) (ss : Sizes) (a b : ℕ) (vs : Values) (c : ℕ) (y : List ℕ)
+    → standing y (spell_values vs) ≤ standing y (spell_declarator (declarator x at (filled ss a b vs c)))
+filled_room x at ss a b vs c y =
+    let last : List Token = token right_brace c ∷ [] in
+    let inner : List Token = spell_values vs ++ last in
+    let k = standing_then y (spell_values vs) last in
+    let l = standing_more y (token left_brace b) inner in
+    let m = standing_more y (token (change_sign replaces) a) (token left_brace b ∷ inner) in
+    let i = standing_then y (spell_sizes ss) (token (change_sign replaces) a ∷ token left_brace b ∷ inner) in
+    let j = standing_more y (token (a_name x) at) (spell_sizes ss ++ token (change_sign replaces) a ∷ token left_brace b ∷ inner) in
+    omega (arith, k, l, m, i, j)
 
 module _ (integers : Integers) (line : ℕ → ℕ) (n : ℕ) where
-  -- ---- changes
-  -- a condition that is read is good
-  abbrev pub Tests : State → (at : ℕ) → Expression → Type 0
-  Tests st at x = length st.variables ≤ n → GoodCondition integers n (line at) x
-
-  -- an expression that is read has the variables, and its steps stand apart
-  expression_kept : (st : State) → Sound st → (at : ℕ) → length st.variables ≤ n → (e : Expr)
-      → OnValue (λ x. IsTrue (is_kept n x)) (read integers (line at) st e n)
-  expression_kept st s at l e = on_weaker (λ x. IsTrue (is_over n x) × IsTrue (has_no_step x)) (λ x. IsTrue (is_kept n x))
-      (read integers (line at) st e n)
-      (on_both (λ x. IsTrue (is_over n x)) (λ x. IsTrue (has_no_step x)) (read integers (line at) st e n)
-      (read_over integers n (line at) st s l e n) (read_stepless integers (line at) st e n))
-      (λ x p. and_from (is_over n x) (steps_apart x) p.0 (none-apart x p.1))
-
-  -- expressions together
-  values_kept : (rest : ℕ) (es : Expressions) → IsTrue (are_over n es) → IsTrue (no_step_in es)
-      → IsTrue (is_change_kept n (evaluates es rest))
-  values_kept rest es o p = and_from (are_over n es) (is_change_apart (evaluates es rest)) o (none-apart_in es p)
-
-  -- the condition that is read
-  pub condition_good : (st : State) → Sound st → (at : ℕ) (e : Expr) → OnValue (Tests st at) (read_condition integers line n st at e)
-  condition_good st s at e =
-      let Over : Expression → Type 0 = λ x. IsTrue (is_kept n x) in
-      let Fit : Expression → Type 0 = λ x. IsTrue (tested_fits (condition_of integers n (line at) x)) in
-      on_given (length st.variables ≤ n) (GoodCondition integers n (line at)) (read_condition integers line n st at e) (λ l.
-      on_bind Over (GoodCondition integers n (line at)) (read integers (line at) st e n) _ (expression_kept st s at l e)
-      (λ x o. on_bind (λ x. Over x × Fit x) (GoodCondition integers n (line at)) (as_condition integers (line at) (first_of e) n x) _
-      (on_both Over Fit (as_condition integers (line at) (first_of e) n x) (condition_has integers (line at) Over (first_of e) n x o)
-      (condition_in_range integers (line at) (first_of e) n x))
-      (λ x p. limited_has (GoodCondition integers n (line at)) n at (condition_of integers n (line at) x).next
-      (condition_of integers n (line at) x).prelude
-      ((condition_of integers n (line at) x).condition ∷ []) x
-      (λ a b c. let q = condition_limited integers n (n + MOST_HIDDEN) (line at) x
-      (and_parts (is_over n x) (steps_apart x) p.0).0 p.1 a b c in (p.0, q.0, q.1)))))
-
-  -- the test of a `for`
-  pub test_good : (st : State) → Sound st → (at : ℕ) (t : Optional) → OnValue (Tests st at) (read_test integers line n st at t)
-  test_good st s at absent = λ few. good_always integers n (line at) at
-  test_good st s at (present e) = condition_good st s at e
-
-  -- what has the limits of a change
-  few_has : {A : Type 0} (P : A → Type 0) (at : ℕ) (g : Change) (x : A)
-      → (behind_change integers n (line at) g ≤ n + MOST_HIDDEN → IsTrue (list_all is_small_deed (change_deeds integers n g)) → P x)
-      → OnValue P (few integers n (line at) at g x)
-  few_has P at g x f = limited_has P n at (behind_change integers n (line at) g) (change_deeds integers n g) [] x (λ a b c. f a b)
-
-  -- a change over the variables, with its numbers in range, is good within the limits
-  change_good : (at : ℕ) (g : Change) → IsTrue (deeds_fit (change_deeds integers n g))
-      → behind_change integers n (line at) g ≤ n + MOST_HIDDEN
-      → IsTrue (list_all is_small_deed (change_deeds integers n g)) → IsTrue (is_change_kept n g) → GoodChange integers n g
-  change_good at g h a b o = (
-    o,
-    change_limited integers n (n + MOST_HIDDEN) (line at) g (omega arith) (and_parts (is_change_over n g) (is_change_apart g) o).0 h a b,
-  )
-
-  -- a change that is counted
-  counts_change : (at : ℕ) (st : State) → Sound st → (g : Change) → (length st.variables ≤ n → IsTrue (is_change_kept n g))
-      → IsTrue (deeds_fit (change_deeds integers n g))
-      → OnValue (Turns integers n st)
-      (few integers n (line at) at g g >>= λ g. counted at (length (change_deeds integers n g)) st >>= λ st. Ok (st, g))
-  counts_change at st s g h k =
-      on_bind (λ g. length st.variables ≤ n → GoodChange integers n g) (Turns integers n st) (few integers n (line at) at g g) _
-      (few_has (λ g. length st.variables ≤ n → GoodChange integers n g) at g g (λ a b l. change_good at g k a b (h l)))
-      (λ g h. on_bind (Counts (length (change_deeds integers n g)) st) (Turns integers n st)
-      (counted at (length (change_deeds integers n g)) st) _
-      (counted_sound at (length (change_deeds integers n g)) st s)
-      (λ now c. record { sound = c.sound; variables = c.variables; width = c.width; count = c.count; good = h }))
-
-  place_turns : (at : ℕ) (st : State) → Sound st → (p : Place) (f : Effect)
-      → OnValue (Turns integers n st) (changed integers n (line at) st p f >>= λ g. few integers n (line at) at g g
-      >>= λ g. counted at (length (change_deeds integers n g)) st >>= λ st. Ok (st, g))
-  place_turns at st s p f =
-      let Over : Change → Type 0 = λ g. length st.variables ≤ n → IsTrue (is_change_kept n g) in
-      let Fit : Change → Type 0 = λ g. IsTrue (deeds_fit (change_deeds integers n g)) in
-      on_bind (λ g. Over g × Fit g) (Turns integers n st) (changed integers n (line at) st p f) _
-      (on_both Over Fit (changed integers n (line at) st p f)
-      (on_given (length st.variables ≤ n) (λ g. IsTrue (is_change_kept n g)) (changed integers n (line at) st p f)
-      (λ l. on_weaker (λ g. IsTrue (is_change_over n g) × IsTrue (is_change_apart g)) (λ g. IsTrue (is_change_kept n g))
-      (changed integers n (line at) st p f)
-      (on_both (λ g. IsTrue (is_change_over n g)) (λ g. IsTrue (is_change_apart g)) (changed integers n (line at) st p f)
-      (changed_over integers n (line at) st s l p f) (changed_apart integers n (line at) st p f))
-      (λ g q. and_from (is_change_over n g) (is_change_apart g) q.0 q.1)))
-      (changed_fits integers n (line at) st p f))
-      (λ g h. counts_change at st s g h.0 h.1)
-
-  -- a change that is read
-  pub update_turns : (st : State) → Sound st → (u : Update) → OnValue (Turns integers n st) (read_update integers line n st u)
-  update_turns st s (update p f) = place_turns (first_place p) st s p f
-  update_turns st s (step_before d at p) = place_turns at st s p (steps d at)
-
-  all_none : (st : State) → Sound st → AllTurn integers n st (st, [])
-  all_none st s = record { sound = s; variables = refl; width = refl; count = omega arith; good = λ l. no_changes integers n }
-
-  all_more : (st : State) (r : State × Change) (q : State × List Change) → Turns integers n st r → AllTurn integers n r.0 q
-      → AllTurn integers n st (q.0, r.1 ∷ q.1)
-  all_more st r q t u = let e = length-append (change_deeds integers n r.1) (changes_deeds integers n q.1) in record {
-    sound = u.sound;
-    variables = u.variables ∙ t.variables;
-    width = omega (arith, t.width, u.width);
-    count = omega (arith, t.count, u.count, e);
-    good = λ l. more_changes integers n r.1 q.1 (t.good l) (u.good (omega (arith, l, t.width)));
-  }
-
-  more_updates_turn : (st : State) → Sound st → (us : MoreUpdates)
-      → OnValue (AllTurn integers n st) (read_more_updates integers line n st us)
-  more_updates_turn st s last_update = all_none st s
-  more_updates_turn st s (next_update a u us) =
-      on_bind (Turns integers n st) (AllTurn integers n st) (read_update integers line n st u) _ (update_turns st s u)
-      (λ r t. on_bind (AllTurn integers n r.0) (AllTurn integers n st) (read_more_updates integers line n r.0 us) _
-      (more_updates_turn r.0 t.sound us)
-      (λ q v. all_more st r q t v))
-
-  -- changes that are read
-  pub updates_turn : (st : State) → Sound st → (us : Updates) → OnValue (AllTurn integers n st) (read_updates integers line n st us)
-  updates_turn st s no_updates = all_none st s
-  updates_turn st s (some_updates u us) =
-      on_bind (Turns integers n st) (AllTurn integers n st) (read_update integers line n st u) _ (update_turns st s u)
-      (λ r t. on_bind (AllTurn integers n r.0) (AllTurn integers n st) (read_more_updates integers line n r.0 us) _
-      (more_updates_turn r.0 t.sound us)
-      (λ q v. all_more st r q t v))
-
   -- ---- lists of statements
   -- no statement
   pub grows_none : (inside : Bool) (st : State) → Sound st → Grows integers n inside st [] (st, nil)
@@ -283,19 +148,37 @@ module _ (integers : Integers) (line : ℕ → ℕ) (n : ℕ) where
     good = λ l. good_changes integers n inside r.1 (t.good (omega (arith, l, t.width)));
   }
 
-  -- a value that is read: over the variables, and in range
-  abbrev Value : State → (at : ℕ) → Expression → Type 0
-  Value st at x = (length st.variables ≤ n → IsTrue (is_over n x) × IsTrue (has_no_step x)) × IsTrue
-      (fits (elaborated integers (line at) x n))
+  -- a value that is read from these tokens among others: over the variables, with steps apart, and in range
+  abbrev Value : (now : State) (ts : List Token) (at : ℕ) → Expression → Type 0
+  Value now ts at x =
+      ((length now.variables ≤ n → IsTrue (is_over n x)) × Apart now ts x) × IsTrue (fits (elaborated integers (line at) x n))
 
-  value_good : (st : State) → Sound st → (at : ℕ) (e : Expr) → OnValue (Value st at) (read integers (line at) st e n)
-  value_good st s at e = on_both (λ x. length st.variables ≤ n → IsTrue (is_over n x) × IsTrue (has_no_step x))
-      (λ x. IsTrue (fits (elaborated integers (line at) x n)))
-      (read integers (line at) st e n)
-      (on_given (length st.variables ≤ n) (λ x. IsTrue (is_over n x) × IsTrue (has_no_step x)) (read integers (line at) st e n)
-      (λ l. on_both (λ x. IsTrue (is_over n x)) (λ x. IsTrue (has_no_step x)) (read integers (line at) st e n)
-      (read_over integers n (line at) st s l e n) (read_stepless integers (line at) st e n)))
-      (read_fits integers (line at) st e n)
+  value_good : (now : State) → Sound now → (at : ℕ) (e : Expr) → OnValue (Value now (spell_expr e) at) (read integers (line at) now e n)
+  value_good now s at e =
+      let Over : Expression → Type 0 = λ x. length now.variables ≤ n → IsTrue (is_over n x) in
+      on_both (λ x. Over x × Apart now (spell_expr e) x) (λ x. IsTrue (fits (elaborated integers (line at) x n)))
+      (read integers (line at) now e n)
+      (on_both Over (Apart now (spell_expr e)) (read integers (line at) now e n)
+      (on_given (length now.variables ≤ n) (λ x. IsTrue (is_over n x)) (read integers (line at) now e n)
+      (λ l. read_over integers n (line at) now s l e n)) (read_apart integers (line at) now s e n))
+      (read_fits integers (line at) now e n)
+
+  -- what is evaluated together among these tokens: its variables are those of the function, and its steps stand apart
+  abbrev AllKept : (st : State) (at : ℕ) → Expressions → Type 0
+  AllKept st at xs = (length st.variables ≤ n → IsTrue (is_change_kept n (evaluates xs (line at))))
+      × IsTrue (deeds_fit (evaluated integers (line at) xs n).prelude)
+
+  all_good : (st : State) (ts : List Token) (at : ℕ) (r : Result Expressions FunctionFault)
+      → (length st.variables ≤ n → OnValue (λ xs. IsTrue (are_over n xs)) r) → OnValue (ApartIn (among ts st) ts) r
+      → OnValue (λ xs. IsTrue (deeds_fit (evaluated integers (line at) xs n).prelude)) r → OnValue (AllKept st at) r
+  all_good st ts at r o p f =
+      let Kept : Expressions → Type 0 = λ xs. IsTrue (is_change_kept n (evaluates xs (line at))) in
+      on_both (λ xs. length st.variables ≤ n → Kept xs) (λ xs. IsTrue (deeds_fit (evaluated integers (line at) xs n).prelude)) r
+      (on_given (length st.variables ≤ n) Kept r
+      (λ l. on_weaker (λ xs. IsTrue (are_over n xs) × ApartIn (among ts st) ts xs) Kept r
+      (on_both (λ xs. IsTrue (are_over n xs)) (ApartIn (among ts st) ts) r (o l) p)
+      (λ xs q. and_from (are_over n xs) (is_change_apart (evaluates xs (line at))) q.0
+      (apart_together st ts xs (line at) q.1)))) f
 
   -- ---- what is evaluated
   evaluated_grows : (inside : Bool) (st : State) → Sound st → (at : ℕ) (g : Change)
@@ -304,7 +187,7 @@ module _ (integers : Integers) (line : ℕ → ℕ) (n : ℕ) where
   evaluated_grows inside st s at g h k =
       let P : State → Type 0 = λ now. (now ≡ st) × (length st.variables ≤ n → GoodChange integers n g) in
       on_bind P (Grows integers n inside st []) (few integers n (line at) at g st) _
-      (few_has P at g st (λ a b. (refl, λ l. change_good at g k a b (h l))))
+      (few_has integers line n P at g st (λ a b. (refl, λ l. change_good integers line n at g k a b (h l))))
       (λ now p. let e : length now.variables ≡ length st.variables = ap (λ (t : State). length t.variables) p.0 in
       let c : now.count ≡ st.count = ap (λ (t : State). t.count) p.0 in
       on_bind (Counts (length (change_deeds integers n g)) now) (Grows integers n inside st [])
@@ -327,21 +210,18 @@ module _ (integers : Integers) (line : ℕ → ℕ) (n : ℕ) where
     good = h.good;
   }
 
-  filled_grows : (inside : Bool) (x : Name) (at : ℕ) (extents : List Extent) (vs : Values) (st : State) → Sound st
-      → OnValue (Grows integers n inside st []) (read_values integers (line at) st vs n
+  filled_grows : (inside : Bool) (x : Name) (at : ℕ) (extents : List Extent) (ts : List Token) (vs : Values) (st : State) → Sound st
+      → ((y : List ℕ) → standing y (spell_values vs) ≤ standing y ts)
+      → OnValue (Grows integers n inside st []) (read_values integers (line at) (among ts st) vs n
       >>= λ es. read_evaluated integers line n st at (evaluates es (line at)) >>= λ r. Ok (with_array x extents r.0, r.1))
-  filled_grows inside x at extents vs st s =
-      let Over : Expressions → Type 0 = λ xs. length st.variables ≤ n → IsTrue (is_change_kept n (evaluates xs (line at))) in
-      let Fit : Expressions → Type 0 = λ xs. IsTrue (deeds_fit (evaluated integers (line at) xs n).prelude) in
-      on_bind (λ xs. Over xs × Fit xs) (Grows integers n inside st []) (read_values integers (line at) st vs n) _
-      (on_both Over Fit (read_values integers (line at) st vs n)
-      (on_given (length st.variables ≤ n) (λ xs. IsTrue (is_change_kept n (evaluates xs (line at))))
-      (read_values integers (line at) st vs n)
-      (λ l. on_weaker (λ xs. IsTrue (are_over n xs) × IsTrue (no_step_in xs)) (λ xs. IsTrue (is_change_kept n (evaluates xs (line at))))
-      (read_values integers (line at) st vs n)
-      (on_both (λ xs. IsTrue (are_over n xs)) (λ xs. IsTrue (no_step_in xs)) (read_values integers (line at) st vs n)
-      (values_over integers n (line at) st s l vs n) (values_stepless integers (line at) st vs n))
-      (λ xs q. values_kept (line at) xs q.0 q.1))) (values_fit integers (line at) st vs n))
+  filled_grows inside x at extents ts vs st s room =
+      let now : State = among ts st in
+      let sound : Sound now = among_sound ts st s in
+      on_bind (AllKept st at) (Grows integers n inside st []) (read_values integers (line at) now vs n) _
+      (all_good st ts at (read_values integers (line at) now vs n) (λ l. values_over integers n (line at) now sound l vs n)
+      (on_weaker (ApartIn now (spell_values vs)) (ApartIn now ts) (read_values integers (line at) now vs n)
+      (values_apart integers (line at) now sound vs n) (λ xs p. stands_within ts p room))
+      (values_fit integers (line at) now vs n))
       (λ xs o. on_bind (Grows integers n inside st []) (Grows integers n inside st [])
       (read_evaluated integers line n st at (evaluates xs (line at))) _
       (evaluated_grows inside st s at (evaluates xs (line at)) o.0 o.1)
@@ -354,6 +234,36 @@ module _ (integers : Integers) (line : ℕ → ℕ) (n : ℕ) where
       (fresh_array_same x at st)
       (λ now e. subst (λ t. OnValue (Grows integers n inside st []) (walk t)) (sym e) h)
 
+  -- a variable that is declared with a value
+  given_grows : (inside : Bool) (st : State) → Sound st → (x : Name) (at b : ℕ) (e : Expr)
+      → OnValue (Grows integers n inside st (x.text ∷ [])) (read_declarator integers line n st (declarator x at (given b e)))
+  given_grows inside st s x at b e =
+      let ts : List Token = spell_declarator (declarator x at (given b e)) in
+      let G : State × Statements → Type 0 = Grows integers n inside st (x.text ∷ []) in
+      let Target : State → Type 0 = λ now. Counted st.variables (token (a_name x) at ∷ []) (λ i. occurs_in i (declared_number now)) in
+      on_bind (Value (among ts st) (spell_expr e) at) G (read integers (line at) (among ts st) e n) _
+      (value_good (among ts st) (among_sound ts st s) at e)
+      (λ y o. on_bind (λ now. Declares x.text st now × Target now) G (with_variable x at st) _
+      (on_both (Declares x.text st) Target (with_variable x at st) (variable_sound x at st s) (counted_declared x at st s))
+      (λ now d. let i = declared_number now in
+      let g : Change = sets i y (line at) in
+      let P : State → Type 0 = λ more. Declares x.text st more × (length more.variables ≤ n → GoodChange integers n g) in
+      let apart : IsTrue (is_change_apart g) = apart_set st ts i y (line at)
+      (apart_beside (among ts st) (token (a_name x) at) (token (change_sign replaces) b) (spell_expr e) i y d.1 o.0.1) in
+      on_bind P G (few integers n (line at) at g now) _
+      (few_has integers line n P at g now
+      (λ a b. (
+        d.0,
+        λ l. change_good integers line n at g (taken_fits integers i (line at) (elaborated integers (line at) y n) o.1) a b
+            (and_from (is_change_over n g) (is_change_apart g)
+            (and_from (nat_lt i n) (is_over n y) (lt-ltb i n (omega (arith, l, d.0.below))) (o.0.0 (omega (arith, l, d.0.more)))) apart),
+      )))
+      (λ now d. on_bind (Counts (length (change_deeds integers n g)) now) G (counted at (length (change_deeds integers n g)) now) _
+      (counted_sound at (length (change_deeds integers n g)) now d.0.sound)
+      (λ more c. grows_one inside st more (x.text ∷ []) (length (change_deeds integers n g)) (changes g) c.sound
+      (c.variables ∙ d.0.variables) (omega (arith, c.width, d.0.more)) (omega (arith, c.count, d.0.same)) (nodes_change integers n g)
+      (λ l. good_change integers n inside g (d.1 (omega (arith, l, c.width))))))))
+
   declarator_grows : (inside : Bool) (st : State) → Sound st → (x : Declarator)
       → OnValue (Grows integers n inside st (declared_one x)) (read_declarator integers line n st x)
   declarator_grows inside st s (declarator x at bare) =
@@ -365,33 +275,14 @@ module _ (integers : Integers) (line : ℕ → ℕ) (n : ℕ) where
       (λ more c. grows_one inside st more (x.text ∷ []) k (declares i (line at)) c.sound (c.variables ∙ d.variables)
       (omega (arith, c.width, d.more)) (omega (arith, c.count, d.same)) (nodes_declares integers n i (line at))
       (λ l. good_declares integers n inside i (line at) (lt-ltb i n (omega (arith, l, c.width, d.below))))))
-  declarator_grows inside st s (declarator x at (given b e)) =
-      let G : State × Statements → Type 0 = Grows integers n inside st (x.text ∷ []) in
-      on_bind (Value st at) G (read integers (line at) st e n) _ (value_good st s at e)
-      (λ e o. on_bind (Declares x.text st) G (with_variable x at st) _ (variable_sound x at st s)
-      (λ now d. let i = declared_number now in
-      let g : Change = sets i e (line at) in
-      let P : State → Type 0 = λ more. Declares x.text st more × (length more.variables ≤ n → GoodChange integers n g) in
-      on_bind P G (few integers n (line at) at g now) _
-      (few_has P at g now
-      (λ a b. (
-        d,
-        λ l. change_good at g (taken_fits integers i (line at) (elaborated integers (line at) e n) o.1) a b
-            (let p = o.0 (omega (arith, l, d.more)) in
-            and_from (is_change_over n g) (is_change_apart g)
-            (and_from (nat_lt i n) (is_over n e) (lt-ltb i n (omega (arith, l, d.below))) p.0) (none-apart_target i e p.1)),
-      )))
-      (λ now d. on_bind (Counts (length (change_deeds integers n g)) now) G (counted at (length (change_deeds integers n g)) now) _
-      (counted_sound at (length (change_deeds integers n g)) now d.0.sound)
-      (λ more c. grows_one inside st more (x.text ∷ []) (length (change_deeds integers n g)) (changes g) c.sound
-      (c.variables ∙ d.0.variables) (omega (arith, c.width, d.0.more)) (omega (arith, c.count, d.0.same)) (nodes_change integers n g)
-      (λ l. good_change integers n inside g (d.1 (omega (arith, l, c.width))))))))
+  declarator_grows inside st s (declarator x at (given b e)) = given_grows inside st s x at b e
   declarator_grows inside st s (declarator x at (sized ss)) = fresh_grows inside x at st s _
       (on_bind (λ extents. Unit {0}) (Grows integers n inside st []) (read_sizes st ss) _ (anything (read_sizes st ss))
       (λ extents u. with_array_grows inside x extents st (st, nil) (grows_none inside st s)))
   declarator_grows inside st s (declarator x at (filled ss a b vs c)) = fresh_grows inside x at st s _
       (on_bind (λ extents. Unit {0}) (Grows integers n inside st []) (read_sizes st ss) _ (anything (read_sizes st ss))
-      (λ extents u. filled_grows inside x at extents vs st s))
+      (λ extents u. filled_grows inside x at extents (spell_declarator (declarator x at (filled ss a b vs c))) vs st s
+      (filled_room x at ss a b vs c)))
 
   more_declarators_grow : (inside : Bool) (st : State) → Sound st → (xs : MoreDeclarators)
       → OnValue (Grows integers n inside st (declared_more xs)) (read_more_declarators integers line n st xs)
@@ -421,16 +312,19 @@ module _ (integers : Integers) (line : ℕ → ℕ) (n : ℕ) where
   first_grows inside st s (declared_first t xs) = declarators_grow inside st s xs
   first_grows inside st s (updated_first us) =
       on_bind (AllTurn integers n st) (Grows integers n inside st []) (read_updates integers line n st us) _
-      (updates_turn st s us) (λ r t. grows_changes inside st r t)
+      (updates_turn integers line n st s us) (λ r t. grows_changes inside st r t)
 
   -- what is returned
   pub returned_grows : (inside : Bool) (st : State) → Sound st → (at : ℕ) (t : Optional)
       → OnValue (Grows integers n inside st []) (read_returned integers line n st at t)
   returned_grows inside st s at absent = grows_none inside st s
   returned_grows inside st s at (present e) =
-      on_bind (Value st at) (Grows integers n inside st []) (read integers (line at) st e n) _ (value_good st s at e)
-      (λ x o. evaluated_grows inside st s at (evaluates (more x none) (line at)) (λ l. let p = o.0 l in
-      values_kept (line at) (more x none) (and_from (is_over n x) true p.0 refl) (and_from (has_no_step x) true p.1 refl))
+      let ts : List Token = spell_expr e in
+      on_bind (Value (among ts st) ts at) (Grows integers n inside st []) (read integers (line at) (among ts st) e n) _
+      (value_good (among ts st) (among_sound ts st s) at e)
+      (λ x o. evaluated_grows inside st s at (evaluates (more x none) (line at)) (λ l.
+      and_from (are_over n (more x none)) (is_change_apart (evaluates (more x none) (line at)))
+      (and_from (is_over n x) true (o.0.0 l) refl) (apart_together st ts (more x none) (line at) (one_apart (among ts st) ts x o.0.1)))
       (one_evaluated integers n (line at) x o.1))
 
   -- what is behind a call
@@ -445,25 +339,24 @@ module _ (integers : Integers) (line : ℕ → ℕ) (n : ℕ) where
     by false false = good_nil integers n inside
 
   -- a call as a statement
-  pub called_grows : (inside : Bool) (x : Name) (at : ℕ) (es : Arguments) (st : State) → Sound st
-      → OnValue (Grows integers n inside st []) (as_called at (thing_of x st) es >>= λ es. read_arguments integers (line at) st es n
+  pub called_grows : (inside : Bool) (x : Name) (at b c : ℕ) (es : Arguments) (st : State) → Sound st
+      → OnValue (Grows integers n inside st []) (as_called at (thing_of x st) es
+      >>= λ es. read_arguments integers (line at) (among (spell_expr (tree.call x at b es c)) st) es n
       >>= λ es. read_evaluated integers line n st at (evaluates es (line at))
       >>= λ r. (let after : Statements = call_of x at (line at) in counted at (nodes_in (core_in integers n after)) r.0
       >>= λ now. Ok (now, followed_by r.1 after)))
-  called_grows inside x at es st s =
+  called_grows inside x at b c es st s =
       on_bind (λ es. Unit {0}) (Grows integers n inside st []) (as_called at (thing_of x st) es) _
       (anything (as_called at (thing_of x st) es))
-      (λ es u. let Over : Expressions → Type 0 = λ xs. length st.variables ≤ n → IsTrue (is_change_kept n (evaluates xs (line at))) in
-      let Fit : Expressions → Type 0 = λ xs. IsTrue (deeds_fit (evaluated integers (line at) xs n).prelude) in
-      on_bind (λ xs. Over xs × Fit xs) (Grows integers n inside st []) (read_arguments integers (line at) st es n) _
-      (on_both Over Fit (read_arguments integers (line at) st es n)
-      (on_given (length st.variables ≤ n) (λ xs. IsTrue (is_change_kept n (evaluates xs (line at))))
-      (read_arguments integers (line at) st es n)
-      (λ l. on_weaker (λ xs. IsTrue (are_over n xs) × IsTrue (no_step_in xs)) (λ xs. IsTrue (is_change_kept n (evaluates xs (line at))))
-      (read_arguments integers (line at) st es n)
-      (on_both (λ xs. IsTrue (are_over n xs)) (λ xs. IsTrue (no_step_in xs)) (read_arguments integers (line at) st es n)
-      (arguments_over integers n (line at) st s l es n) (arguments_stepless integers (line at) st es n))
-      (λ xs q. values_kept (line at) xs q.0 q.1))) (arguments_fit integers (line at) st es n))
+      (λ es u. let ts : List Token = spell_expr (tree.call x at b es c) in
+      let here : State = among ts st in
+      let sound : Sound here = among_sound ts st s in
+      on_bind (AllKept st at) (Grows integers n inside st []) (read_arguments integers (line at) here es n) _
+      (all_good st ts at (read_arguments integers (line at) here es n) (λ l. arguments_over integers n (line at) here sound l es n)
+      (on_weaker (ApartIn here (spell_arguments es)) (ApartIn here ts) (read_arguments integers (line at) here es n)
+      (arguments_apart integers (line at) here sound es n)
+      (λ xs p. stands_more (token (a_name x) at) (stands_more (token left_paren b) (stands_first (token right_paren c ∷ []) p))))
+      (arguments_fit integers (line at) here es n))
       (λ xs o. on_bind (Grows integers n inside st []) (Grows integers n inside st [])
       (read_evaluated integers line n st at (evaluates xs (line at))) _
       (evaluated_grows inside st s at (evaluates xs (line at)) o.0 o.1)

@@ -39,7 +39,8 @@ use Rattle.source_meaning.proofs.statements.Good.{GoodCondition, GoodStatement}
 use Rattle.source_meaning.proofs.statements.Good.{good_cons}
 use Rattle.source_meaning.proofs.statements.Good.{good_branch, good_while, good_do, good_for, good_assumes}
 use Rattle.source_meaning.proofs.statements.Good.{good_asserts, good_returns, good_breaks, good_continues, good_label}
-use Rattle.source_meaning.proofs.statements.Grows.{Grows, Turns, AllTurn, Tests, condition_good, test_good, update_turns, updates_turn}
+use Rattle.source_meaning.proofs.statements.Turns.{Turns, AllTurn, Tests, condition_good, test_good, update_turns, updates_turn}
+use Rattle.source_meaning.proofs.statements.Grows.{Grows}
 use Rattle.source_meaning.proofs.statements.Grows.{grows_change, grows_none, grows_one, grows_then, same_declared, declarators_grow}
 use Rattle.source_meaning.proofs.statements.Grows.{first_grows}
 use Rattle.source_meaning.proofs.statements.Grows.{returned_grows, called_grows}
@@ -229,7 +230,7 @@ module _ (integers : Integers) (line : ℕ → ℕ) (n : ℕ) where
         (λ now c. grows_one integers line n inside st now [] m (demand_of k x at (line at)) c.sound c.variables
         (omega (arith, c.width)) c.count refl
         (λ l. demand_good inside k x at (t (omega (arith, l, c.width))))))
-    core_grows inside (calls x at b es c d) st s = called_grows integers line n inside x at es st s
+    core_grows inside (calls x at b es c d) st s = called_grows integers line n inside x at b c es st s
     core_grows inside (updates u c) st s =
         on_bind (Turns integers n st) (Grows integers n inside st []) (read_update integers line n st u) _
         (update_turns integers line n st s u)
