@@ -167,9 +167,68 @@ const WALKS: &[(&str, FunctionFault)] = &[
         "int f(int x) { int a[2][2]; a[x][z] += 1; }",
         FunctionFault::UnknownName { at: 33 },
     ),
+    // The variable of a step occurs nowhere else around it.
     (
         "int f(int x) { x = x++ + 1; }",
         FunctionFault::SideEffect { at: 20 },
+    ),
+    (
+        "int f(int x) { int y; y = --x + y + g(z, x); }",
+        FunctionFault::SideEffect { at: 26 },
+    ),
+    (
+        "int f(int x, int a[3]) { a[x--] += x; }",
+        FunctionFault::SideEffect { at: 28 },
+    ),
+    (
+        "int f(int x) { { int x = 1 - x++; } }",
+        FunctionFault::SideEffect { at: 30 },
+    ),
+    (
+        "int f(int x) { int a[2] = { x, { ++x } }; }",
+        FunctionFault::SideEffect { at: 33 },
+    ),
+    (
+        "int f(int x) { g(h(x++), x); }",
+        FunctionFault::SideEffect { at: 20 },
+    ),
+    (
+        "int f(int x) { return x-- - x; }",
+        FunctionFault::SideEffect { at: 23 },
+    ),
+    (
+        "int f(int x) { while (x++ < x) ; }",
+        FunctionFault::SideEffect { at: 23 },
+    ),
+    // C comes to it.
+    (
+        "int f(int x, int y) { assume(y && x++); }",
+        FunctionFault::SideEffect { at: 35 },
+    ),
+    (
+        "int f(int x, int y) { y = y || (1 < --x); }",
+        FunctionFault::SideEffect { at: 36 },
+    ),
+    (
+        "int f(int x, int y) { y = y ? x++ : 0; }",
+        FunctionFault::SideEffect { at: 31 },
+    ),
+    (
+        "int f(int x, int y) { y = y ? 0 : g(++x); }",
+        FunctionFault::SideEffect { at: 36 },
+    ),
+    // A name's own faults come first.
+    (
+        "int f(int x) { x = z++ + x; }",
+        FunctionFault::UnknownName { at: 19 },
+    ),
+    (
+        "int f(int x, int a[3]) { x = --a; }",
+        FunctionFault::WrongKind { at: 31 },
+    ),
+    (
+        "#define N 3\nint f(int x) { x = x + N++; }",
+        FunctionFault::WrongKind { at: 35 },
     ),
 ];
 

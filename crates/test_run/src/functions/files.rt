@@ -48,7 +48,55 @@ const DIMENSIONS: &[u8] = b"int f(int x, int a[4], int b[][3], int *c) {
 }
 ";
 
+// Steps inside a condition, an index, a declarator, an argument list, and what is returned.
+const COUNTS_DOWN: &[u8] =
+    b"int f(int n, int *a) { int s = 0; while (n--) { a[s++] = n; } assert(n == -1); }\n";
+const STEPS: &[u8] = b"int f(int x) { int y = x++; assert(y == x - 1); int z = --x; assert(z == y && x == z); return z; }\n";
+const HEAD_STEPS: &[u8] =
+    b"int f(void) { for (int i = 10; i-- > 0; ) assert(0 <= i && i <= 9); }\n";
+const ARGUMENTS_STEP: &[u8] = b"int f(int n) { int i = 4; g(i--, -n++); a: assert(i == 3); }\n";
+const RETURNED_STEP: &[u8] = b"int f(int x) { return x++; }\n";
+
 const FUNCTIONS: &[(&str, &[u8], Ending)] = &[
+    (
+        "verify p",
+        COUNTS_DOWN,
+        Ending::Report(
+            b"check 0 at 1:50: index: proved\ncheck 1 at 1:63: assert: proved\nproved 2 of 2\nimprovements: 2\n",
+        ),
+    ),
+    (
+        "verify p",
+        STEPS,
+        Ending::Report(
+            b"check 0 at 1:29: assert: proved\ncheck 1 at 1:62: assert: proved\nproved 2 of 2\nimprovements: 1\n",
+        ),
+    ),
+    (
+        "solve p",
+        HEAD_STEPS,
+        Ending::Report(
+            b"variables i\
+                \npoint 0: entry\n  i <= +inf\n  -i <= +inf\
+                \npoint 1: loop at line 1\n  i <= 10\n  -i <= 0\
+                \npoint 2: exit\n  i <= -1\n  -i <= 1\nimprovements: 3\n",
+        ),
+    ),
+    (
+        "verify p",
+        HEAD_STEPS,
+        Ending::Report(b"check 0 at 1:43: assert: proved\nproved 1 of 1\nimprovements: 3\n"),
+    ),
+    (
+        "verify p",
+        ARGUMENTS_STEP,
+        Ending::Report(b"check 0 at 1:44: assert: proved\nproved 1 of 1\nimprovements: 2\n"),
+    ),
+    (
+        "verify p --int 8",
+        RETURNED_STEP,
+        Ending::Open(b"check 0 at 1:24: range: open at x = 127\nproved 0 of 1\nimprovements: 1\n"),
+    ),
     (
         "verify p --function f",
         AROUND,
@@ -275,17 +323,17 @@ const REFUSED: &[(&[u8], &str)] = &[
         b"int f(int x) {\n int i;\n { int i; } }\n",
         "name twice at line 3",
     ),
-    // steps inside expressions
+    // steps whose order C leaves open, or to which it may not come
     (
-        b"int f(int n, int *a) {\n while (n--) { } }\n",
+        b"int f(int n, int *a) {\n while (n-- < n) { } }\n",
         "side effect at line 2",
     ),
     (
-        b"int f(int n, int *a) {\n a[n++] = 0; }\n",
+        b"int f(int n, int *a) {\n a[n++] = n; }\n",
         "side effect at line 2",
     ),
     (
-        b"int f(int n) {\n return - --n; }\n",
+        b"int f(int n) {\n return n && --n; }\n",
         "side effect at line 2",
     ),
     (
