@@ -5,6 +5,7 @@ pub mod Joined
 pub mod Listed
 pub mod Worked
 pub mod Leaves
+pub mod Stepped
 pub mod Parts
 pub mod Whole
 pub mod Behind

@@ -10,9 +10,9 @@ use Rattle.source_grammar.specs.Grammar.{Expr}
 use Rattle.source_meaning.specs.declared.fault.FunctionFault.{FunctionFault}
 use Rattle.source_meaning.specs.declared.fault.FunctionFault.TheVariants.{WrongKind}
 use Rattle.source_meaning.specs.Results.{◌>>=◌}
-use Rattle.source_meaning.specs.Names.{State, Thing, as_called}
+use Rattle.source_meaning.specs.Names.{State, Thing, as_called, passable}
 use Rattle.source_meaning.specs.Expressions.{as_condition, behind, behind_number, behind_side, first_of, ranged, read}
-use Rattle.source_meaning.specs.Expressions.{side}
+use Rattle.source_meaning.specs.Expressions.{right_of, side}
 use Rattle.source_value.specs.declared.fault.OperationFault.{OperationFault}
 use Rattle.source_value.specs.declared.site.Site.{Site}
 use Rattle.source_value.specs.declared.value.Value.{Value}
@@ -71,26 +71,26 @@ module _ (integers : Integers) {C : Type 0} (line : ℕ) (st : State) (As : C �
   -- of a choice
   pub chosen_steps : (first sign : ℕ) (x : Expression) (e f : Expr) (h : ℕ) (u y z : Expression)
       → as_condition integers line first h x ≡ Ok u
-      → read integers line st e (behind integers line u h) ≡ Ok y
-      → read integers line st f (behind_number integers line y (behind integers line u h)) ≡ Ok z
+      → read integers line (passable st) e (behind integers line u h) ≡ Ok y
+      → read integers line (passable st) f (behind_number integers line y (behind integers line u h)) ≡ Ok z
       → Answers As out (ranged integers line sign h (made.chosen sign u y z))
       → Answers As out (chosen_with integers line st first sign x e f h)
   chosen_steps first sign x e f h u y z p q r a = ok_then As out (as_condition integers line first h x) u _ p
-      (ok_then As out (read integers line st e (behind integers line u h)) y _ q
-      (ok_then As out (read integers line st f (behind_number integers line y (behind integers line u h))) z _ r a))
+      (ok_then As out (read integers line (passable st) e (behind integers line u h)) y _ q
+      (ok_then As out (read integers line (passable st) f (behind_number integers line y (behind integers line u h))) z _ r a))
 
   -- of a sign with its right side
   pub joined_steps : (first h : ℕ) (x : Expression) (j : Join) (w : Work) (u y : Expression) → w ≡ work_in j.op
       → side integers line (asks_conditions w) first h x ≡ Ok u
-      → read integers line st j.right (behind_side integers line (asks_conditions w) u h) ≡ Ok y
+      → read integers line (right_of (asks_conditions w) st) j.right (behind_side integers line (asks_conditions w) u h) ≡ Ok y
       → Answers As out (sides_worked integers line w j.at (first_of j.right) h u y)
       → Answers As out (joined_with integers line st first x j h)
   joined_steps first h x j w u y e p q a = wanted_of As out _ _ (joined_same integers line st first h x j)
       (subst (λ w. Answers As out (side integers line (asks_conditions w) first h x
-      >>= λ x. read integers line st j.right (behind_side integers line (asks_conditions w) x h)
+      >>= λ x. read integers line (right_of (asks_conditions w) st) j.right (behind_side integers line (asks_conditions w) x h)
       >>= λ y. sides_worked integers line w j.at (first_of j.right) h x y)) e
       (ok_then As out (side integers line (asks_conditions w) first h x) u _ p
-      (ok_then As out (read integers line st j.right (behind_side integers line (asks_conditions w) u h)) y _ q a)))
+      (ok_then As out (read integers line (right_of (asks_conditions w) st) j.right (behind_side integers line (asks_conditions w) u h)) y _ q a)))
 
 -- a choice of what was read
 pub choice_answers : (site : Site) (h sign : ℕ) (u y z : Expression) (r : Result Value OperationFault) (c : Tested) (f g : Number)

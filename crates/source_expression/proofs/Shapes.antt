@@ -15,7 +15,7 @@ use Rattle.source_reader.specs.Reading.{first_kind, first_place, behind_first}
 use Rattle.source_expression.specs.declared.signs.Prefix.TheVariants.{Negative, Positive, Negation}
 use Rattle.source_expression.specs.declared.signs.Opening.{Opening}
 use Rattle.source_expression.specs.declared.signs.Opening.TheVariants as opening
-use Rattle.source_expression.specs.Signs.{prefix_of, goes_on, is_question, sign_in, opening_in}
+use Rattle.source_expression.specs.Signs.{prefix_of, direction_in, goes_on, is_question, sign_in, opening_in}
 use Rattle.source_expression.specs.Joins.{Stops}
 
 -- ---- levels
@@ -60,6 +60,12 @@ pub sign_plain : (l : ℕ) (k : Kind) → sign_in l (plain_kind k) ≡ sign_in l
 sign_plain l (g.a_name x) = refl
 sign_plain l (g.a_number n) = refl
 sign_plain l _ = refl
+
+-- nor for where a step goes
+pub direction_plain : (k : Kind) → direction_in (plain_kind k) ≡ direction_in k
+direction_plain (g.a_name x) = refl
+direction_plain (g.a_number n) = refl
+direction_plain _ = refl
 
 -- with nothing that stands behind a whole expression
 pub after_stops : (l : ℕ) (k : Kind) → AfterExpr k → goes_on l k ≡ false

@@ -6,9 +6,9 @@ use Rattle.source_grammar.specs.Tokens.{Op, Token, token, infix_sign, level}
 use Rattle.source_grammar.specs.Grammar.{Expr, MoreArguments, spell_expr, Groups}
 use Rattle.source_meaning.specs.declared.fault.FunctionFault.{FunctionFault}
 use Rattle.source_meaning.specs.Results.{◌>>=◌}
-use Rattle.source_meaning.specs.Names.{State}
+use Rattle.source_meaning.specs.Names.{State, passable}
 use Rattle.source_meaning.specs.Expressions.{first_of, read, read_more, side, behind_side, operated, joins_conditions}
-use Rattle.source_meaning.specs.Expressions.{as_condition, ranged, behind, behind_number}
+use Rattle.source_meaning.specs.Expressions.{as_condition, ranged, behind, behind_number, right_of}
 use Rattle.source_reader.specs.Reading.{first_kind}
 use Rattle.source_expression.specs.Signs.{goes_on}
 use Rattle.base_integers.specs.declared.integers.Integers.{Integers}
@@ -40,11 +40,13 @@ with_last (more x xs) ys = more x (with_last xs ys)
 
 module _ (integers : Integers) (line : ℕ) where
   module _ (st : State) where
-    -- what an operand that was read is with one sign and its right side; the first token of the operand is at this place
+    -- what an operand that was read is with one sign and its right side; the first token of the operand is at this place. C may pass over the
+    -- right one of two conditions
     abbrev pub joined_with : (first : ℕ) → Expression → Join → (h : ℕ) → Result Expression FunctionFault
     joined_with first x j h =
         side integers line (joins_conditions integers line j.op) first h x
-        >>= λ x. read integers line st j.right (behind_side integers line (joins_conditions integers line j.op) x h)
+        >>= λ x. read integers line (right_of (joins_conditions integers line j.op) st) j.right
+        (behind_side integers line (joins_conditions integers line j.op) x h)
         >>= λ y. side integers line (joins_conditions integers line j.op) (first_of j.right) (behind_side integers line
         (joins_conditions integers line j.op) x h) y
         >>= λ y. operated integers line j.op j.at h x y
@@ -54,12 +56,13 @@ module _ (integers : Integers) (line : ℕ) where
     goes_with first x [] h = Ok x
     goes_with first x (j ∷ js) h = joined_with first x j h >>= λ y. goes_with first y js h
 
-    -- what an expression that was read is as the condition of a choice between two others, with the places of its first token and of `?`
+    -- what an expression that was read is as the condition of a choice between two others, with the places of its first token and of `?`. C
+    -- passes over one of these
     abbrev pub chosen_with : (first sign : ℕ) → Expression → (e f : Expr) → (h : ℕ) → Result Expression FunctionFault
     chosen_with first sign x e f h =
         as_condition integers line first h x
-        >>= λ x. read integers line st e (behind integers line x h)
-        >>= λ y. read integers line st f (behind_number integers line y (behind integers line x h))
+        >>= λ x. read integers line (passable st) e (behind integers line x h)
+        >>= λ y. read integers line (passable st) f (behind_number integers line y (behind integers line x h))
         >>= λ z. ranged integers line sign h (chosen sign x y z)
 
     -- an expression as a condition

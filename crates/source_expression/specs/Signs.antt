@@ -4,7 +4,8 @@ use Rattle.source_grammar.specs.Tokens as g
 use Rattle.source_grammar.specs.Tokens.{Op, Kind, level}
 use Rattle.source_expression.specs.declared.signs.Prefix.{Prefix}
 use Rattle.source_expression.specs.declared.signs.Prefix.TheVariants.{Negative, Positive, Negation}
-use Rattle.source_meaning.specs.Expressions.{rel_of}
+use Rattle.source_tree.specs.Expressions.{Direction, up}
+use Rattle.source_meaning.specs.Expressions.{direction_of, rel_of}
 use Rattle.source_value.specs.declared.operation.Operation.TheVariants as operation
 use Rattle.source_expression.specs.declared.signs.Work.{Work}
 use Rattle.source_expression.specs.declared.signs.Work.TheVariants as work
@@ -47,6 +48,11 @@ goes_on least g.left_paren = true
 goes_on least g.left_bracket = true
 goes_on least (g.step_sign d) = true
 goes_on least k = false
+
+-- where a step goes whose sign is this token; up of another
+abbrev pub direction_in : Kind → Direction
+direction_in (g.step_sign d) = direction_of d
+direction_in k = up
 
 -- how an operand begins with a name and such a token
 abbrev pub named : Kind → Opening

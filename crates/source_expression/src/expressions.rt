@@ -6,18 +6,18 @@ ghost use Rattle.source_grammar.specs.Tokens.{Token, token, infix_sign, question
 ghost use Rattle.source_grammar.specs.Symbols.{op_of};
 ghost use Rattle.source_grammar.specs.Grammar.{Expr, Groups, spell_expr};
 ghost use Rattle.source_grammar.proofs.grammar.Follow.{AfterExpr};
-ghost use Rattle.source_meaning.specs.Expressions.{read};
+ghost use Rattle.source_meaning.specs.Expressions.{read, right_of};
 ghost use Rattle.source_reader.specs.Reading.{GoesOn, behind_first, first_kind};
+ghost use Rattle.source_expression.specs.Signs.{asks_conditions};
 ghost use Rattle.source_expression.specs.Sides.{IsRead};
 ghost use Rattle.source_expression.specs.Readings.{Reads, ReadsTested};
 ghost use Rattle.source_expression.specs.Joins.{Join, Stops, chosen_with, joined_with, read_condition};
 
 use crate::operands::operand;
 use crate::sides::{Sign, as_side, joined};
-use crate::signs::{is_question, level, sign_in, work_of};
+use crate::signs::{Work, is_question, level, sign_in, work_of};
 use source_grammar::Op;
-use source_names::Known;
-use source_reader::{Mark, Reader, Stop, placed};
+use source_reader::{Mark, Reader, Scope, Stop, placed};
 use source_value::{Site, Tested, Value, chosen};
 
 /// The expression that comes next, with the names that are known; hidden variables are taken from `next` on. Of its faults it tells the
@@ -25,7 +25,7 @@ use source_value::{Site, Tested, Value, chosen};
 #[cycle(expressions)]
 pub fn expression(
     reader: &mut Reader<'_>,
-    known: &Known,
+    known: &Scope<'_>,
     site: Site,
     next: u32,
 ) -> Result<Value, Stop>
@@ -45,7 +45,7 @@ pub fn expression(
 /// The expression that comes next as a condition, likewise.
 pub fn condition(
     reader: &mut Reader<'_>,
-    known: &Known,
+    known: &Scope<'_>,
     site: Site,
     next: u32,
 ) -> Result<Tested, Stop>
@@ -63,7 +63,7 @@ pub fn condition(
 #[cycle(expressions)]
 fn choice(
     reader: &mut Reader<'_>,
-    known: &Known,
+    known: &Scope<'_>,
     site: Site,
     first: u32,
     value: Value,
@@ -77,10 +77,11 @@ fn choice(
     let alloc = reader.alloc();
     let sign = reader.take(Mark::Question)?;
     let condition = placed(value.into_condition(site), first)?;
-    let yes = expression(reader, known, site, condition.next)?;
+    let passable = known.passable();
+    let yes = expression(reader, &passable, site, condition.next)?;
     let yes = yes.into_number(alloc, site)?;
     let _between = reader.take(Mark::Colon)?;
-    let no = expression(reader, known, site, yes.next)?;
+    let no = expression(reader, &passable, site, yes.next)?;
     let no = no.into_number(alloc, site)?;
     placed(chosen(alloc, site, condition, yes, no), sign)
 }
@@ -89,7 +90,7 @@ fn choice(
 #[cycle(expressions)]
 fn joins(
     reader: &mut Reader<'_>,
-    known: &Known,
+    known: &Scope<'_>,
     site: Site,
     next: u32,
     least: u8,
@@ -106,11 +107,34 @@ fn joins(
     Ok(value)
 }
 
+// The right side of a sign, in which no sign holds its sides looser than `least`, which is at least 1. C may pass over that of `&&` and
+// of `||`.
+#[cycle(expressions)]
+fn right_side(
+    reader: &mut Reader<'_>,
+    known: &Scope<'_>,
+    site: Site,
+    work: Work,
+    next: u32,
+    least: u8,
+) -> Result<Value, Stop>
+    ensures reads { (e : Expr) (rest : List Token) → 1 ≤ least → Groups least e → Stops least rest
+        → reader.old.ahead ≡ spell_expr e ++ rest
+        → Reads site next (read site.integers site.line (right_of (asks_conditions work) known.now) e next) rest result reader.new }
+    ensures goes { GoesOn reader.old reader.new }
+{
+    if work.asks_conditions() {
+        joins(reader, &known.passable(), site, next, least)
+    } else {
+        joins(reader, known, site, next, least)
+    }
+}
+
 // A sign, which comes next, with its right side; the left side was read, and its first token stands at `first`.
 #[cycle(expressions)]
 fn join(
     reader: &mut Reader<'_>,
-    known: &Known,
+    known: &Scope<'_>,
     site: Site,
     op: Op,
     first: u32,
@@ -130,6 +154,6 @@ fn join(
     let work = work_of(op);
     let left = as_side(alloc, site, work, first, left)?;
     let first = reader.at();
-    let right = joins(reader, known, site, left.next(), level(op) + 1)?;
+    let right = right_side(reader, known, site, work, left.next(), level(op) + 1)?;
     joined(alloc, site, Sign { work, at }, left, first, right)
 }

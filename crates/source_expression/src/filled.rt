@@ -15,8 +15,7 @@ ghost use Rattle.source_expression.specs.Lists.{read_listed, read_values_behind}
 
 use crate::lists::one;
 use crate::signs::{is_brace, is_brace_end, is_comma};
-use source_names::Known;
-use source_reader::{Mark, Reader, Stop};
+use source_reader::{Mark, Reader, Scope, Stop};
 use source_value::{Evaluated, Site};
 
 /// The values of an array that come next, up to the `}` of their list, with the names that are known; hidden variables are taken from
@@ -24,7 +23,7 @@ use source_value::{Evaluated, Site};
 #[cycle(values)]
 pub fn values(
     reader: &mut Reader<'_>,
-    known: &Known,
+    known: &Scope<'_>,
     site: Site,
     next: u32,
 ) -> Result<Evaluated, Stop>
@@ -45,7 +44,7 @@ pub fn values(
 #[cycle(values)]
 fn value(
     reader: &mut Reader<'_>,
-    known: &Known,
+    known: &Scope<'_>,
     site: Site,
     before: Evaluated,
 ) -> Result<Evaluated, Stop>
@@ -65,7 +64,7 @@ fn value(
 #[cycle(values)]
 fn listed(
     reader: &mut Reader<'_>,
-    known: &Known,
+    known: &Scope<'_>,
     site: Site,
     before: Evaluated,
 ) -> Result<Evaluated, Stop>
@@ -84,7 +83,7 @@ fn listed(
 #[cycle(values)]
 fn more_values(
     reader: &mut Reader<'_>,
-    known: &Known,
+    known: &Scope<'_>,
     site: Site,
     before: Evaluated,
 ) -> Result<Evaluated, Stop>

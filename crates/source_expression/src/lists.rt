@@ -17,8 +17,8 @@ ghost use Rattle.source_expression.specs.Lists.{ends_argument, read_argument, re
 
 use crate::expressions::expression;
 use crate::signs::{ends_argument, is_closing, is_comma, is_name};
-use source_names::{Known, Thing};
-use source_reader::{Reader, Stop};
+use source_names::Thing;
+use source_reader::{Reader, Scope, Stop};
 use source_value::{Evaluated, Site};
 
 /// The arguments that come next, up to the `)` of their call, with the names that are known; hidden variables are taken from `next` on. Of
@@ -26,7 +26,7 @@ use source_value::{Evaluated, Site};
 #[cycle(expressions)]
 pub fn arguments(
     reader: &mut Reader<'_>,
-    known: &Known,
+    known: &Scope<'_>,
     site: Site,
     next: u32,
 ) -> Result<Evaluated, Stop>
@@ -58,7 +58,7 @@ fn are_all(first: bool, second: bool, third: bool) -> bool
 }
 
 // Whether the name of an array alone comes next as an argument.
-fn is_array_alone(reader: &Reader<'_>, known: &Known) -> bool
+fn is_array_alone(reader: &Reader<'_>, known: &Scope<'_>) -> bool
     ensures { (e : Expr) (rest : List Token) → reader.now.ahead ≡ spell_expr e ++ rest → ends_argument (first_kind rest) ≡ true
         → result ≡ is_array_name known.now e }
 {
@@ -74,7 +74,7 @@ fn is_array_alone(reader: &Reader<'_>, known: &Known) -> bool
 #[cycle(expressions)]
 fn argument(
     reader: &mut Reader<'_>,
-    known: &Known,
+    known: &Scope<'_>,
     site: Site,
     before: Evaluated,
 ) -> Result<Evaluated, Stop>
@@ -95,7 +95,7 @@ fn argument(
 #[cycle(expressions)]
 pub(crate) fn one(
     reader: &mut Reader<'_>,
-    known: &Known,
+    known: &Scope<'_>,
     site: Site,
     before: Evaluated,
 ) -> Result<Evaluated, Stop>
@@ -112,7 +112,7 @@ pub(crate) fn one(
 #[cycle(expressions)]
 fn more_arguments(
     reader: &mut Reader<'_>,
-    known: &Known,
+    known: &Scope<'_>,
     site: Site,
     before: Evaluated,
 ) -> Result<Evaluated, Stop>

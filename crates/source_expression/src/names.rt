@@ -12,10 +12,11 @@ ghost use Rattle.source_reader.specs.Reading.{GoesOn};
 ghost use Rattle.source_expression.specs.Sides.{IsRead};
 ghost use Rattle.source_expression.specs.Readings.{Reads};
 
+use crate::signs::direction_in;
 use source_meaning::FunctionFault;
-use source_names::{Known, Thing};
-use source_reader::{Reader, Stop, placed};
-use source_value::{Site, Value};
+use source_names::Thing;
+use source_reader::{Reader, Scope, Stop, placed};
+use source_value::{Moment, Site, Step, Value, stepped};
 use std::alloc::Global;
 
 // A variable, whose name stands at `at`.
@@ -46,7 +47,7 @@ fn valued(
 /// A variable or a constant.
 pub(crate) fn named(
     reader: &mut Reader<'_>,
-    known: &Known,
+    known: &Scope<'_>,
     site: Site,
     next: u32,
 ) -> Result<Value, Stop>
@@ -60,27 +61,56 @@ pub(crate) fn named(
     value
 }
 
-/// A variable with `++` or `--` behind it, which is refused.
-pub(crate) fn stepped_behind(reader: &mut Reader<'_>, known: &Known) -> Result<Value, Stop>
-    ensures reads { (site : Site) (h : ℕ) (x : Name) (a : ℕ) (d : Direction) (b : ℕ) (rest : List Token)
+/// A variable with `++` or `--` behind it.
+pub(crate) fn stepped_behind(
+    reader: &mut Reader<'_>,
+    known: &Scope<'_>,
+    site: Site,
+    next: u32,
+) -> Result<Value, Stop>
+    ensures reads { (x : Name) (a : ℕ) (d : Direction) (b : ℕ) (rest : List Token)
         → reader.old.ahead ≡ token (a_name x) a ∷ token (step_sign d) b ∷ rest
-        → Reads site h (read site.integers site.line known.now (spelled.stepped_behind x a d b) h) rest result reader.new }
+        → Reads site next (read site.integers site.line known.now (spelled.stepped_behind x a d b) next) rest result reader.new }
     ensures goes { GoesOn reader.old reader.new }
 {
-    let _var = known.variable(reader.name(), reader.constant(), reader.at())?;
-    reader.skip();
-    Err(Stop::Fault(FunctionFault::SideEffect { at: reader.at() }))
-}
-
-/// `++` or `--` before a variable, which is refused.
-pub(crate) fn stepped_before(reader: &mut Reader<'_>, known: &Known) -> Result<Value, Stop>
-    ensures reads { (site : Site) (h : ℕ) (d : Direction) (a : ℕ) (x : Name) (b : ℕ) (rest : List Token)
-        → reader.old.ahead ≡ token (step_sign d) a ∷ token (a_name x) b ∷ rest
-        → Reads site h (read site.integers site.line known.now (spelled.stepped_before d a x b) h) rest result reader.new }
-    ensures goes { GoesOn reader.old reader.new }
-{
+    let name = reader.name();
+    let constant = reader.constant();
     let at = reader.at();
     reader.skip();
-    let _var = known.variable(reader.name(), reader.constant(), reader.at())?;
-    Err(Stop::Fault(FunctionFault::SideEffect { at }))
+    let sign = reader.at();
+    let var = known.stepped(name, constant, at, sign)?;
+    let step = Step {
+        direction: direction_in(reader.symbol()),
+        moment: Moment::Behind,
+        var,
+        sign,
+    };
+    reader.skip();
+    Ok(stepped(reader.alloc(), site, step, next)?)
+}
+
+/// `++` or `--` before a variable.
+pub(crate) fn stepped_before(
+    reader: &mut Reader<'_>,
+    known: &Scope<'_>,
+    site: Site,
+    next: u32,
+) -> Result<Value, Stop>
+    ensures reads { (d : Direction) (a : ℕ) (x : Name) (b : ℕ) (rest : List Token)
+        → reader.old.ahead ≡ token (step_sign d) a ∷ token (a_name x) b ∷ rest
+        → Reads site next (read site.integers site.line known.now (spelled.stepped_before d a x b) next) rest result reader.new }
+    ensures goes { GoesOn reader.old reader.new }
+{
+    let sign = reader.at();
+    let direction = direction_in(reader.symbol());
+    reader.skip();
+    let var = known.stepped(reader.name(), reader.constant(), reader.at(), sign)?;
+    let step = Step {
+        direction,
+        moment: Moment::Before,
+        var,
+        sign,
+    };
+    reader.skip();
+    Ok(stepped(reader.alloc(), site, step, next)?)
 }

@@ -19,8 +19,7 @@ use crate::names::{named, stepped_before, stepped_behind};
 use crate::sides::signed;
 use crate::signs::{Opening, Prefix, opening_in};
 use crate::subscripts::element;
-use source_names::Known;
-use source_reader::{Mark, Reader, Stop, placed};
+use source_reader::{Mark, Reader, Scope, Stop, placed};
 use source_value::{Site, Value};
 
 // A number.
@@ -52,7 +51,7 @@ fn unknown(reader: &mut Reader<'_>, site: Site, next: u32) -> Result<Value, Stop
 #[cycle(expressions)]
 fn named_element(
     reader: &mut Reader<'_>,
-    known: &Known,
+    known: &Scope<'_>,
     site: Site,
     next: u32,
 ) -> Result<Value, Stop>
@@ -71,7 +70,7 @@ fn named_element(
 
 // A call of a function.
 #[cycle(expressions)]
-fn call(reader: &mut Reader<'_>, known: &Known, site: Site, next: u32) -> Result<Value, Stop>
+fn call(reader: &mut Reader<'_>, known: &Scope<'_>, site: Site, next: u32) -> Result<Value, Stop>
     ensures reads { (x : Name) (a b c : ℕ) (es : Arguments) (rest : List Token) → GoodArguments es
         → reader.old.ahead ≡ token (a_name x) a ∷ token left_paren b ∷ (spell_arguments es ++ token right_paren c ∷ rest)
         → Reads site next (read site.integers site.line known.now (spelled.call x a b es c) next) rest result reader.new }
@@ -86,7 +85,7 @@ fn call(reader: &mut Reader<'_>, known: &Known, site: Site, next: u32) -> Result
 
 // An expression in parentheses.
 #[cycle(expressions)]
-fn grouped(reader: &mut Reader<'_>, known: &Known, site: Site, next: u32) -> Result<Value, Stop>
+fn grouped(reader: &mut Reader<'_>, known: &Scope<'_>, site: Site, next: u32) -> Result<Value, Stop>
     ensures reads { (a b : ℕ) (e : Expr) (rest : List Token) → Groups 0 e
         → reader.old.ahead ≡ token left_paren a ∷ (spell_expr e ++ token right_paren b ∷ rest)
         → Reads site next (read site.integers site.line known.now (spelled.grouped a e b) next) rest result reader.new }
@@ -102,7 +101,7 @@ fn grouped(reader: &mut Reader<'_>, known: &Known, site: Site, next: u32) -> Res
 #[cycle(expressions)]
 fn prefixed(
     reader: &mut Reader<'_>,
-    known: &Known,
+    known: &Scope<'_>,
     site: Site,
     next: u32,
     prefix: Prefix,
@@ -124,7 +123,7 @@ fn prefixed(
 #[cycle(expressions)]
 pub(crate) fn operand(
     reader: &mut Reader<'_>,
-    known: &Known,
+    known: &Scope<'_>,
     site: Site,
     next: u32,
 ) -> Result<Value, Stop>
@@ -135,8 +134,8 @@ pub(crate) fn operand(
     match opening_in(reader.symbol(), reader.second()) {
         Some(Opening::Number) => number(reader, site, next),
         Some(Opening::Variable) => named(reader, known, site, next),
-        Some(Opening::SteppedBehind) => stepped_behind(reader, known),
-        Some(Opening::SteppedBefore) => stepped_before(reader, known),
+        Some(Opening::SteppedBehind) => stepped_behind(reader, known, site, next),
+        Some(Opening::SteppedBefore) => stepped_before(reader, known, site, next),
         Some(Opening::Element) => named_element(reader, known, site, next),
         Some(Opening::Call) => call(reader, known, site, next),
         Some(Opening::Unknown) => unknown(reader, site, next),

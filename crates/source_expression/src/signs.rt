@@ -7,11 +7,12 @@ ghost use Rattle.source_grammar.specs.Symbols.{op_of, relation_of, symbol_kind};
 ghost use Rattle.source_meaning.specs.Expressions.{rel_of};
 ghost use Rattle.source_expression.specs.Lists.{ends_argument};
 ghost use Rattle.source_expression.specs.Signs.{is_brace, is_brace_end, is_closing, is_comma, is_name, is_question, sign_in};
-ghost use Rattle.source_expression.specs.Signs.{work_in, asks_conditions, opening_in, named, prefix_in};
+ghost use Rattle.source_value.specs.Steps.{direction_of};
+ghost use Rattle.source_expression.specs.Signs.{direction_in, work_in, asks_conditions, opening_in, named, prefix_in};
 
 use lang_tree::Rel;
 use source_grammar::{Op, Relation, Symbol};
-use source_value::Operation;
+use source_value::{Direction, Operation};
 
 /// A sign that stands before its operand.
 #[derive(Clone, Copy)]
@@ -110,6 +111,16 @@ pub(crate) fn is_brace_end(symbol: Symbol) -> bool
     ensures { result ≡ is_brace_end (symbol_kind symbol) }
 {
     matches!(symbol, Symbol::RightBrace)
+}
+
+/// Where a step goes whose sign is this symbol; up of another.
+pub(crate) fn direction_in(symbol: Symbol) -> Direction
+    ensures { direction_of result ≡ direction_in (symbol_kind symbol) }
+{
+    match symbol {
+        Symbol::Step(source_grammar::Direction::Down) => Direction::Down,
+        _ => Direction::Up,
+    }
 }
 
 // How an operand begins with a name and this token.

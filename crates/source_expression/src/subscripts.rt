@@ -12,8 +12,7 @@ ghost use Rattle.source_expression.specs.Readings.{Reads, ReadsIndexes};
 ghost use Rattle.source_expression.specs.Lists.{read_element, read_index};
 
 use crate::expressions::expression;
-use source_names::Known;
-use source_reader::{Mark, Reader, Stop, placed};
+use source_reader::{Mark, Reader, Scope, Stop, placed};
 use source_tree::Extent;
 use source_value::{Evaluated, Site, Value, indexed};
 
@@ -22,7 +21,7 @@ use source_value::{Evaluated, Site, Value, indexed};
 #[cycle(expressions)]
 pub fn element(
     reader: &mut Reader<'_>,
-    known: &Known,
+    known: &Scope<'_>,
     site: Site,
     next: u32,
     extents: &[Extent],
@@ -43,7 +42,7 @@ pub fn element(
 #[cycle(expressions)]
 fn index(
     reader: &mut Reader<'_>,
-    known: &Known,
+    known: &Scope<'_>,
     site: Site,
     extent: Extent,
     before: Evaluated,

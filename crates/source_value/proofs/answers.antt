@@ -6,3 +6,4 @@ pub mod Selected
 pub mod Ranged
 pub mod Numbered
 pub mod Divisions
+pub mod Stepped

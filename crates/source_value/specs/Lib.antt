@@ -3,3 +3,4 @@ pub mod Answers
 pub mod Codes
 pub mod Stands
 pub mod Operations
+pub mod Steps

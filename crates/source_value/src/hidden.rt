@@ -60,16 +60,24 @@ pub(crate) fn taken_where(
     })
 }
 
+/// The form is one of the integers of this width, where what is compared isn't too large.
+pub(crate) fn always_held(alloc: Global, width: Width, form: &Form) -> Result<Cond, AllocError>
+    requires { condition_fits (is_held width form.now) ≡ true }
+    ensures { IfOk result (λ cond. IsCondition cond (is_held width form.now)) }
+{
+    match is_held(alloc, width, form) {
+        Ok(cond) => Ok(cond),
+        Err(OperationFault::NoMemory) => Err(AllocError),
+        Err(OperationFault::Big) => unreachable!(),
+    }
+}
+
 // The variable is one of the integers of this width. What is compared is never too large.
 fn variable_held(alloc: Global, width: Width, var: u32) -> Result<Cond, AllocError>
     ensures { IfOk result (λ cond. IsCondition cond (is_held width (variable_form var))) }
 {
     let form = variable_form(alloc, var)?;
-    match is_held(alloc, width, &form) {
-        Ok(cond) => Ok(cond),
-        Err(OperationFault::NoMemory) => Err(AllocError),
-        Err(OperationFault::Big) => unreachable!(),
-    }
+    always_held(alloc, width, &form)
 }
 
 // The prelude, and then a variable that took any value has one of the integers.

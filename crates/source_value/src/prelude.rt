@@ -2,7 +2,7 @@
 
 ghost use Rattle.std.specs.Prelude.{◌≡◌, ◌≤◌, ◌++◌, ◌∷◌, [], ℕ, List, IfOk};
 ghost use Rattle.std.specs.Option.{option_map, is_some};
-ghost use Rattle.lang_tree.specs.Tree.{Condition as Tree, Deed as DeedTree, havocs, wheres, checks};
+ghost use Rattle.lang_tree.specs.Tree.{Condition as Tree, Deed as DeedTree, sets, havocs, wheres, checks};
 ghost use Rattle.lang_tree.specs.DeedView.{condition_of, deed_of, deeds_of};
 ghost use Rattle.source_core.specs.Preludes.{under, all_under};
 ghost use Rattle.source_value.specs.Kept.{kept, kept_deeds, kept_condition, has_small, have_small, is_unchecked, are_unchecked};
@@ -10,7 +10,7 @@ ghost use Rattle.source_value.specs.Kept.{kept, kept_deeds, kept_condition, has_
 use crate::conditions::{either, leaves_up_to};
 use crate::site::Site;
 use crate::truth::{MOST_LEAVES, Truth};
-use lang_tree::{Check, Cond, Deed, Deeds};
+use lang_tree::{Check, Cond, Deed, Deeds, Form};
 use std::alloc::{AllocError, Global};
 use std::marker::Model;
 
@@ -171,6 +171,24 @@ impl Prelude {
                 Ok(Prelude { kept: Some(deeds) })
             }
             _ => Ok(Prelude { kept: None }),
+        }
+    }
+
+    /// The deeds, and then the variable takes the form's value.
+    pub(crate) fn with_set(self, site: Site, var: u32, form: Form) -> Result<Prelude, AllocError>
+        ensures { IfOk result (λ all. (n h : ℕ) (ds : List DeedTree) → self ≡ kept_deeds n h ds
+            → all ≡ kept_deeds n h (ds ++ sets var form site.line ∷ [])) }
+    {
+        match self.into_list() {
+            Some(mut deeds) => {
+                deeds.push(Deed::Set {
+                    var,
+                    form,
+                    line: site.line,
+                })?;
+                Ok(Prelude { kept: Some(deeds) })
+            }
+            None => Ok(Prelude { kept: None }),
         }
     }
 

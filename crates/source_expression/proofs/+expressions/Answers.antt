@@ -13,16 +13,16 @@ use Rattle.source_grammar.specs.View.{plain_kind}
 use Rattle.source_grammar.specs.Grammar.{Groups, spell_expr, spell_arguments, spell_subscripts}
 use Rattle.source_tree.specs.Extents.{extent_of}
 use Rattle.source_meaning.specs.Results.{◌>>=◌}
-use Rattle.source_meaning.specs.Names.{array_of, as_called, thing_of}
+use Rattle.source_meaning.specs.Names.{array_of, as_called, passable, thing_of}
 use Rattle.source_meaning.specs.Expressions as meaning
-use Rattle.source_meaning.specs.Expressions.{first_of, ranged, read, read_arguments}
+use Rattle.source_meaning.specs.Expressions.{first_of, ranged, read, read_arguments, right_of}
 use Rattle.source_reader.specs.Answers.{Answers}
 use Rattle.source_value.specs.declared.value.Value.{Value}
 use Rattle.source_reader.specs.Reading.{Reading, behind_first, first_kind, first_place}
 use Rattle.source_reader.proofs.Going.{behind_fewer, mark_less, goes_then, passed_goes, same_goes, stays}
 use Rattle.source_reader.specs.declared.mark.Mark.TheVariants as mark
 use Rattle.source_reader.specs.Placed.{placed}
-use Rattle.source_expression.specs.Signs.{is_closing, is_comma, is_question, prefix_of, sign_in, work_in}
+use Rattle.source_expression.specs.Signs.{asks_conditions, is_closing, is_comma, is_question, prefix_of, sign_in, work_in}
 use Rattle.source_expression.specs.declared.signs.Opening.TheVariants as opening
 use Rattle.source_expression.specs.Sides.{IsRead}
 use Rattle.source_expression.specs.Joins.{Stops}
@@ -34,7 +34,8 @@ use Rattle.source_expression.proofs.Parts.{called_ok}
 use Rattle.source_expression.proofs.Whole.{operand_opens, parts, behind_operand, operand_ahead, operand_stops}
 use Rattle.source_expression.proofs.Whole.{operand_fault, operand_read, whole_fault}
 use Rattle.source_expression.proofs.Whole.{whole_read, whole_choice}
-use Rattle.source_expression.proofs.Behind.{half, half_fault, whole, level_more, right_fault, right_read}
+use Rattle.source_expression.proofs.Behind.{read_with, right_passed, right_kept, half, half_fault, whole, level_more, right_fault}
+use Rattle.source_expression.proofs.Behind.{right_read}
 use Rattle.source_expression.proofs.Given.{closing_plain, comma_plain, none_read, first_fault, first_read, next_fault, next_read}
 use Rattle.source_expression.proofs.Given.{listing_last, argument_passed, argument_read, ends_after}
 use Rattle.source_expression.proofs.Listed.{one_fault, one_done}
@@ -68,28 +69,32 @@ expressions::choice-returns-in_err-no-clause-reads t c = λ x h sign between e f
     let site = c.args.site in
     let st = c.args.known.now in
     let behind = token colon between ∷ (spell_expr f ++ rest) in
-    let ra = c.in_ok-yes.ensures.reads e behind ge tt
-    (passed_to c.args.reader.now question sign (spell_expr e ++ behind) q c.take.new.self c.in_ok-sign.ensures.2) in
+    let ra = read_with site c.in_ok-condition.condition.next c.passable-passable.result (passable st) e behind (Ok c.in_ok-yes.yes)
+    c.expression.new.reader c.passable-passable.ensures (c.in_ok-yes.ensures.reads e behind ge tt
+    (passed_to c.args.reader.now question sign (spell_expr e ++ behind) q c.take.new.self c.in_ok-sign.ensures.2)) in
     let hc = half site st h c.args.first x e (c.expression.new.reader.ahead ≡ behind) c.into_condition.result c.in_ok-condition.condition
     c.in_ok-yes.yes c.in_ok-yes-2.yes c.in_ok-condition.ensures (c.into_condition.ensures (elaborated site.integers site.line x h) i) ra
     c.in_ok-yes-2.ensures in
     half_fault site st h c.args.first x e (c.expression-2.new.reader.ahead ≡ rest) (c.expression-2.new.reader.ahead ≡ rest)
     c.in_ok-condition.condition c.in_ok-yes-2.yes sign f c.from_residual-in_err-no.result c.in_err-no.field-0.0 hc
-    c.from_residual-in_err-no.ensures.1 (c.in_err-no.ensures.reads f rest gf a
-    (passed_to c.expression.new.reader colon between (spell_expr f ++ rest) ra.2.1 c.take-2.new.self c.in_ok-_between.ensures.2))
+    c.from_residual-in_err-no.ensures.1 (read_with site c.in_ok-yes-2.yes.next c.passable-passable.result (passable st) f rest
+    (Err c.in_err-no.field-0.0) c.expression-2.new.reader c.passable-passable.ensures (c.in_err-no.ensures.reads f rest gf a
+    (passed_to c.expression.new.reader colon between (spell_expr f ++ rest) ra.2.1 c.take-2.new.self c.in_ok-_between.ensures.2)))
 
 pub expressions::choice-returns-clause-reads : goal.expressions::choice-returns-clause-reads
 expressions::choice-returns-clause-reads t c = λ x h sign between e f rest i ge gf a q.
     let site = c.args.site in
     let st = c.args.known.now in
     let behind = token colon between ∷ (spell_expr f ++ rest) in
-    let ra = c.in_ok-yes.ensures.reads e behind ge tt
-    (passed_to c.args.reader.now question sign (spell_expr e ++ behind) q c.take.new.self c.in_ok-sign.ensures.2) in
+    let ra = read_with site c.in_ok-condition.condition.next c.passable-passable.result (passable st) e behind (Ok c.in_ok-yes.yes)
+    c.expression.new.reader c.passable-passable.ensures (c.in_ok-yes.ensures.reads e behind ge tt
+    (passed_to c.args.reader.now question sign (spell_expr e ++ behind) q c.take.new.self c.in_ok-sign.ensures.2)) in
     let hc = half site st h c.args.first x e (c.expression.new.reader.ahead ≡ behind) c.into_condition.result c.in_ok-condition.condition
     c.in_ok-yes.yes c.in_ok-yes-2.yes c.in_ok-condition.ensures (c.into_condition.ensures (elaborated site.integers site.line x h) i) ra
     c.in_ok-yes-2.ensures in
-    let rb = c.in_ok-no.ensures.reads f rest gf a
-    (passed_to c.expression.new.reader colon between (spell_expr f ++ rest) ra.2.1 c.take-2.new.self c.in_ok-_between.ensures.2) in
+    let rb = read_with site c.in_ok-yes-2.yes.next c.passable-passable.result (passable st) f rest (Ok c.in_ok-no.no)
+    c.expression-2.new.reader c.passable-passable.ensures (c.in_ok-no.ensures.reads f rest gf a
+    (passed_to c.expression.new.reader colon between (spell_expr f ++ rest) ra.2.1 c.take-2.new.self c.in_ok-_between.ensures.2)) in
     whole site st h c.args.first x e (c.expression-2.new.reader.ahead ≡ rest) (c.expression-2.new.reader.ahead ≡ rest)
     c.in_ok-condition.condition c.in_ok-yes-2.yes c.in_ok-no-2.no sign f c.in_ok-no.no c.chosen.result c.placed-2.result hc rb
     c.in_ok-no-2.ensures c.chosen.ensures
@@ -135,7 +140,7 @@ expressions::join-returns-in_err-right-clause-reads t c = λ x h j rest i o g s 
     let p = passed_to c.args.reader.now (infix_sign j.op) j.at (spell_expr j.right ++ rest) q c.skip.new.self c.skip.ensures in
     right_fault c.args.site c.args.known.now h c.args.first x j c.work_of-work.result
     (c.work_of-work.ensures ∙ ap work_in (sym o)) c.in_ok-left.left (c.in_ok-left.ensures x h i)
-    (c.joins.new.reader.ahead ≡ rest) (c.joins.new.reader.ahead ≡ rest) c.next.result c.from_residual-in_err-right.result
+    (c.right_side.new.reader.ahead ≡ rest) (c.right_side.new.reader.ahead ≡ rest) c.next.result c.from_residual-in_err-right.result
     c.in_err-right.field-0.0 c.next.ensures c.from_residual-in_err-right.ensures.1
     (c.in_err-right.ensures.reads j.right rest (omega arith) (subst (λ n. Groups n j.right) (sym e) g)
     (subst (λ n. Stops n rest) (sym e) s) p)
@@ -148,10 +153,26 @@ expressions::join-returns-clause-reads t c = λ x h j rest i o g s q.
     (subst (λ n. Stops n rest) (sym e) s) p in
     right_read c.args.site c.args.known.now h c.args.first x j c.work_of-work.result
     (c.work_of-work.ensures ∙ ap work_in (sym o)) c.in_ok-left.left (c.in_ok-left.ensures x h i)
-    (c.joins.new.reader.ahead ≡ rest) (c.joins.new.reader.ahead ≡ rest) c.next.result c.at-at.result c.at-first.result
+    (c.right_side.new.reader.ahead ≡ rest) (c.right_side.new.reader.ahead ≡ rest) c.next.result c.at-at.result c.at-first.result
     c.in_ok-right.right c.joined.result c.next.ensures
     (place_is c.args.reader.now (infix_sign j.op) j.at (spell_expr j.right ++ rest) q c.at-at.result c.at-at.ensures)
     (c.at-first.ensures ∙ ap first_place p ∙ first_place_of j.right rest) r c.joined.ensures r.2.1
+
+-- ---- the right side of a sign
+pub expressions::right_side-returns-then-asks_conditions-clause-reads : goal.expressions::right_side-returns-then-asks_conditions-clause-reads
+expressions::right_side-returns-then-asks_conditions-clause-reads t c = λ e rest l g s q.
+    let b = asks_conditions c.args.work in
+    read_with c.args.site c.args.next c.passable.result (right_of b c.args.known.now) e rest c.joins.result c.joins.new.reader
+    (right_passed b c.passable.result c.args.known.now (sym c.asks_conditions.ensures ∙ c.if-asks_conditions.true) c.passable.ensures)
+    (c.joins.ensures.reads e rest l g s q)
+
+pub expressions::right_side-returns-else-asks_conditions-clause-reads : goal.expressions::right_side-returns-else-asks_conditions-clause-reads
+expressions::right_side-returns-else-asks_conditions-clause-reads t c = λ e rest l g s q.
+    let b = asks_conditions c.args.work in
+    let st = c.args.known.now in
+    read_with c.args.site c.args.next st (right_of b st) e rest c.joins-else-asks_conditions.result
+    c.joins-else-asks_conditions.new.reader (right_kept b st (sym c.asks_conditions.ensures ∙ c.if-asks_conditions.false))
+    (c.joins-else-asks_conditions.ensures.reads e rest l g s q)
 
 -- ---- signs in a row
 pub expressions::joins-returns-in_err-value-clause-reads : goal.expressions::joins-returns-in_err-value-clause-reads
@@ -243,7 +264,7 @@ operands::operand-returns-in-Some-SteppedBehind-clause-reads t c = λ e rest g s
     operand_opens c.args.site c.args.known.now c.args.next c.args.reader.now c.stepped_behind.result c.stepped_behind.new.reader e rest
     (symbol_kind c.symbol.result) (symbol_kind c.second.result) opening.SteppedBehind g s q c.symbol.ensures c.second.ensures
     (ap Some (sym i.field-0-is) ∙ sym i.is ∙ c.opening_in.ensures)
-    (λ x a d b q. c.stepped_behind.ensures.reads c.args.site c.args.next x a d b rest q)
+    (λ x a d b q. c.stepped_behind.ensures.reads x a d b rest q)
 
 pub operands::operand-returns-in-Some-SteppedBefore-clause-reads : goal.operands::operand-returns-in-Some-SteppedBefore-clause-reads
 operands::operand-returns-in-Some-SteppedBefore-clause-reads t c = λ e rest g s q.
@@ -251,7 +272,7 @@ operands::operand-returns-in-Some-SteppedBefore-clause-reads t c = λ e rest g s
     operand_opens c.args.site c.args.known.now c.args.next c.args.reader.now c.stepped_before.result c.stepped_before.new.reader e rest
     (symbol_kind c.symbol.result) (symbol_kind c.second.result) opening.SteppedBefore g s q c.symbol.ensures c.second.ensures
     (ap Some (sym i.field-0-is) ∙ sym i.is ∙ c.opening_in.ensures)
-    (λ d a x b q. c.stepped_before.ensures.reads c.args.site c.args.next d a x b rest q)
+    (λ d a x b q. c.stepped_before.ensures.reads d a x b rest q)
 
 pub operands::operand-returns-in-Some-Call-clause-reads : goal.operands::operand-returns-in-Some-Call-clause-reads
 operands::operand-returns-in-Some-Call-clause-reads t c = λ e rest g s q.

@@ -26,6 +26,9 @@ decreases-expressions::joins l = 8 * length l.reader.now.ahead + 4
 abbrev pub decreases-expressions::join : goal.decreases-expressions::join
 decreases-expressions::join l = 8 * length l.reader.now.ahead + 3
 
+abbrev pub decreases-expressions::right_side : goal.decreases-expressions::right_side
+decreases-expressions::right_side l = 8 * length l.reader.now.ahead + 5
+
 abbrev pub decreases-operands::operand : goal.decreases-operands::operand
 decreases-operands::operand l = 8 * length l.reader.now.ahead + 3
 

@@ -1,9 +1,9 @@
 -- Checks that what is computed is one of the integers.
 use Rattle.std.proofs.Common.{◌≡◌, ◌∙◌, ◌++◌, ◌∷◌, ◌+◌, [], ℕ, zero, suc, ℤ, pos, negsuc, ◌+ℤ◌, ◌*ℤ◌, ◌⊎◌, inl, inr, ⊎_elim, List, map}
-use Rattle.std.proofs.Common.{true, false, ◌&&◌, nat_le, refl, sym, ap, subst, arith, replicate}
+use Rattle.std.proofs.Common.{Bool, true, false, ◌&&◌, nat_le, refl, sym, ap, subst, arith, replicate}
 use Rattle.std.specs.Prelude.{◌-ℤ◌, nat_abs}
 use Rattle.std.proofs.lemmas.Int.{ints}
-use Rattle.std.proofs.lemmas.Bool.{and_from, and_left, and_right, and_cases, lt-leb, leb-false}
+use Rattle.std.proofs.lemmas.Bool.{and_from, and_left, and_right, and_parts, and_cases, lt-leb, leb-false}
 use Rattle.lang_tree.specs.declared.form.Form.{Form}
 use Rattle.lang_tree.specs.declared.cond.Rel.TheVariants.{Le}
 use Rattle.lang_tree.specs.declared.check.CheckKind.TheVariants.{Range}
@@ -15,6 +15,7 @@ use Rattle.base_integers.specs.declared.integers.Width.TheVariants.{Bits8, Bits1
 use Rattle.base_integers.specs.declared.integers.Integers.{Integers}
 use Rattle.base_integers.specs.declared.integers.Integers.TheVariants.{Mathematical, Machine}
 use Rattle.base_integers.specs.Integers.{greatest}
+use Rattle.source_tree.specs.Expressions.{Direction, up, down}
 use Rattle.source_core.specs.Forms.{constant_form, variable_form, minus}
 use Rattle.source_core.specs.Elaborated.{Elaborated, form_behind, related, has, is_held, form_in, checked, number_at, ranged}
 use Rattle.source_core.specs.Fits.{is_comparable, condition_fits, deeds_fit, result_fits, fits}
@@ -22,7 +23,8 @@ use Rattle.source_value.specs.declared.value.Value.{Value}
 use Rattle.source_value.specs.Stands.{Stands}
 use Rattle.source_value.proofs.answers.Parts.{first_unfit, last_unfit}
 use Rattle.source_value.proofs.answers.Handed.{when_false}
-use Rattle.source_value.proofs.forms.Made.{form_with, minus-constant}
+use Rattle.source_value.specs.Steps.{stepped_form}
+use Rattle.source_value.proofs.forms.Made.{form_with, minus-constant, sums-nothing}
 use Rattle.source_value.proofs.numbers.Lists.{zeros_then}
 
 -- ---- a variable that is compared with the bounds is always in range
@@ -36,28 +38,55 @@ opposite_zeros : (n : ℕ) → are_numbers (map (λ x. negsuc 0 *ℤ x) (replica
 opposite_zeros zero = refl
 opposite_zeros (suc n) = opposite_zeros n
 
+-- the bounds of a width, each less a number, may be compared
+abbrev near_bounds : Width → ℤ → Bool
+near_bounds width z =
+    is_comparable (constant_form (negsuc (greatest width) +ℤ (negsuc 0 *ℤ z))) && is_comparable (constant_form (z -ℤ pos (greatest width)))
+
+zero_near : (width : Width) → near_bounds width (pos 0) ≡ true
+zero_near Bits8 = refl
+zero_near Bits16 = refl
+zero_near Bits32 = refl
+
+one_near : (width : Width) → near_bounds width (pos 1) ≡ true
+one_near Bits8 = refl
+one_near Bits16 = refl
+one_near Bits32 = refl
+
+minus_one_near : (width : Width) → near_bounds width (negsuc 0) ≡ true
+minus_one_near Bits8 = refl
+minus_one_near Bits16 = refl
+minus_one_near Bits32 = refl
+
 module _ (h : ℕ) where
-  abbrev opposite_list : List ℤ
-  opposite_list = map (λ x. negsuc 0 *ℤ x) (replicate h (pos 0) ++ pos 1 ∷ [])
+  abbrev list : List ℤ
+  list = replicate h (pos 0) ++ pos 1 ∷ []
 
-  from_least : (width : Width) → condition_fits (related Le (constant_form (negsuc (greatest width))) (variable_form h)) ≡ true
-  from_least Bits8 = comparable opposite_list (negsuc 127 +ℤ (negsuc 0 *ℤ pos 0)) (opposite_zeros h) refl refl
-  from_least Bits16 = comparable opposite_list (negsuc 32767 +ℤ (negsuc 0 *ℤ pos 0)) (opposite_zeros h) refl refl
-  from_least Bits32 = comparable opposite_list (negsuc 2147483647 +ℤ (negsuc 0 *ℤ pos 0)) (opposite_zeros h) refl refl
-
-  less_greatest : (width : Width) → is_comparable (form_with (replicate h (pos 0) ++ pos 1 ∷ []) (pos 0 -ℤ pos (greatest width))) ≡ true
-  less_greatest Bits8 = comparable (replicate h (pos 0) ++ pos 1 ∷ []) (pos 0 -ℤ pos 127) (zeros_then h (pos 1) refl) refl refl
-  less_greatest Bits16 = comparable (replicate h (pos 0) ++ pos 1 ∷ []) (pos 0 -ℤ pos 32767) (zeros_then h (pos 1) refl) refl refl
-  less_greatest Bits32 = comparable (replicate h (pos 0) ++ pos 1 ∷ []) (pos 0 -ℤ pos 2147483647) (zeros_then h (pos 1) refl) refl refl
-
-  to_greatest : (width : Width) → condition_fits (related Le (variable_form h) (constant_form (pos (greatest width)))) ≡ true
-  to_greatest width = ap is_comparable (minus-constant (variable_form h) (pos (greatest width))) ∙ less_greatest width
+  -- so are those less the variable and such a number
+  near_fits : (width : Width) (z : ℤ) → near_bounds width z ≡ true → condition_fits (is_held width (form_with list z)) ≡ true
+  near_fits width z e =
+      let least = negsuc (greatest width) +ℤ (negsuc 0 *ℤ z) in
+      let most = z -ℤ pos (greatest width) in
+      let p = and_parts (is_comparable (constant_form least)) (is_comparable (constant_form most)) e in
+      let f = form_with list z in
+      let low = and_parts (is_number least) (nat_le (nat_abs least + 1) 9223372036854775807) p.0 in
+      let high = and_parts (is_number most) (nat_le (nat_abs most + 1) 9223372036854775807) p.1 in
+      and_from (condition_fits (related Le (constant_form (negsuc (greatest width))) f))
+      (condition_fits (related Le f (constant_form (pos (greatest width)))))
+      (comparable (map (λ x. negsuc 0 *ℤ x) list) least (opposite_zeros h) low.0 low.1)
+      (ap is_comparable (minus-constant f (pos (greatest width))) ∙ comparable list most (zeros_then h (pos 1) refl) high.0 high.1)
 
   -- the whole condition is
   pub held_fits : (width : Width) → condition_fits (is_held width (variable_form h)) ≡ true
-  held_fits width =
-      and_from (condition_fits (related Le (constant_form (negsuc (greatest width))) (variable_form h)))
-      (condition_fits (related Le (variable_form h) (constant_form (pos (greatest width))))) (from_least width) (to_greatest width)
+  held_fits width = near_fits width (pos 0) (zero_near width)
+
+  -- so is that of what the variable has behind a step
+  pub stepped_held : (width : Width) (d : Direction) → condition_fits (is_held width (stepped_form d h)) ≡ true
+  stepped_held width up =
+      ap (λ cs. condition_fits (is_held width (form_with cs (pos 1)))) (sums-nothing list) ∙ near_fits width (pos 1) (one_near width)
+  stepped_held width down =
+      ap (λ cs. condition_fits (is_held width (form_with cs (negsuc 0)))) (sums-nothing list)
+      ∙ near_fits width (negsuc 0) (minus_one_near width)
 
 -- ---- a form out of range is out of it where it is compared with the bounds
 constant_unfit : (g : ℕ) (z : ℤ) → is_number z ≡ false
