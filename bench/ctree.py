@@ -338,6 +338,9 @@ class Reader:
         if word in ("-", "+", "!"):
             self.take()
             return "prefixed", word, self.operand()
+        if word in ("++", "--"):
+            self.take()
+            return "stepped", self.take()[0], word, True
         if word == "(":
             return "grouped", self.in_parentheses()
         if word.isdigit():
@@ -350,4 +353,6 @@ class Reader:
             self.take()
             return "call", word, self.arguments()
         name, indexes = self.target()
+        if not indexes and self.word() in ("++", "--"):
+            return "stepped", name, self.take()[0], False
         return ("element", name, indexes) if indexes else ("variable", name)

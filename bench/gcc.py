@@ -151,6 +151,8 @@ class Printed:
             return f"({it[1]}L)" if it[1] >= 2**31 else f"({it[1]})" if it[1] > -(2**31) else f"({it[1] + 1} - 1)"
         if kind == "variable":
             return it[1]
+        if kind == "stepped":
+            return f"({it[2]}{it[1]})" if it[3] else f"({it[1]}{it[2]})"
         if kind == "element":
             return f"tmpl_element({self.indexed(it[1], it[2])})"
         if kind == "call":

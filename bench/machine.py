@@ -157,6 +157,33 @@ class Function:
             return ("joined", draw.choice(("&&", "||")), self.tree(depth - 1), self.tree(depth - 1))
         return ("chosen", self.tree(depth - 1), self.tree(depth - 1), self.tree(depth - 1))
 
+    def names_in(self, it):
+        return [it[1]] if it[0] == "name" else [name for part in it[1:] if isinstance(part, tuple) for name in self.names_in(part)]
+
+    def certain(self, it):
+        """The names to which C comes wherever the expression is evaluated."""
+        if it[0] == "name":
+            return [it[1]]
+        parts = [part for part in it[1:] if isinstance(part, tuple)]
+        if it[0] == "chosen" or it[0] == "joined" and it[1] in ("&&", "||"):
+            parts = parts[:1]
+        return [name for part in parts for name in self.certain(part)]
+
+    def stepping(self, it, *around):
+        """Now and then the tree with a step of a variable that stands nowhere else in it, nor around it."""
+        names = self.names_in(it) + list(around)
+        single = [name for name in self.certain(it) if names.count(name) == 1]
+        if not single or self.draw.random() < 0.6:
+            return it
+        name, sign, before = self.draw.choice(single), self.draw.choice("+-"), self.draw.random() < 0.5
+
+        def changed(part):
+            if part == ("name", name):
+                return ("stepped", name, sign, before)
+            return tuple(changed(inner) if isinstance(inner, tuple) else inner for inner in part)
+
+        return changed(it)
+
     def condition(self):
         if self.draw.random() < 0.3:
             return self.tree(2)
@@ -180,6 +207,13 @@ class Function:
         if kind == "name":
             self.write(it[1])
             return it[1]
+        if kind == "stepped":
+            _, name, sign, before = it
+            place = self.place()
+            self.write(f"{sign}{sign}{name}" if before else f"{name}{sign}{sign}")
+            place = place if before else (place[0], place[1] + len(name))
+            self.operations.add(place)
+            return f"(({name} := m.joined('{sign}', {name}, 1, {place})) + {0 if before else -1 if sign == '+' else 1})"
         if kind == "number":
             place = self.place()
             self.write(str(it[1]))
@@ -203,7 +237,7 @@ class Function:
             return f"m.element({index}, {self.size}, {place})"
         if kind == "prefixed":
             place = self.place()
-            self.write(it[1] + (" " if it[2][0] == "prefixed" else ""))
+            self.write(it[1] + (" " if it[2][0] in ("prefixed", "stepped") else ""))
             value = self.expression(it[2], 7)
             if it[1] == "-":
                 self.operations.add(place)
@@ -239,7 +273,7 @@ class Function:
         name, kind = self.draw.choice(self.known), self.draw.random()
         if kind < 0.5:
             self.write(f"{name} = ")
-            self.does(f"{name} = {self.expression(self.tree(2))}")
+            self.does(f"{name} = {self.expression(self.stepping(self.tree(2), name))}")
             return
         sign = self.draw.choice("+-")
         if kind < 0.7:
@@ -257,7 +291,7 @@ class Function:
         self.write(name + " ")
         place = self.place()
         self.write(sign + "= ")
-        right = ("number", self.draw.choice((1, 2, 3))) if self.draw.random() < 0.4 else self.tree(1)
+        right = ("number", self.draw.choice((1, 2, 3))) if self.draw.random() < 0.4 else self.stepping(self.tree(1), name)
         value = self.expression(right)
         self.does(f"{name} = {self.operation(sign, place, name, value, right)}")
 
@@ -283,7 +317,7 @@ class Function:
             self.write(";\n")
         elif kind < 0.72 and depth > 0:
             self.write("if (")
-            self.does(f"if {self.expression(self.condition())} != 0:")
+            self.does(f"if {self.expression(self.stepping(self.condition()))} != 0:")
             self.write(") ")
             self.block(depth - 1)
             if draw.random() < 0.5:
@@ -297,12 +331,12 @@ class Function:
             place = self.place()
             word = draw.choice(("assume", "assert"))
             self.write(word + "(")
-            value = self.expression(self.condition())
+            value = self.expression(self.stepping(self.condition()))
             self.write(");\n")
             self.does(f"m.assumed({value})" if word == "assume" else f"m.asserted({value}, {place})")
         elif kind < 0.95 and depth < 2:
             self.write("return ")
-            self.does(f"({self.expression(self.tree(1))}, )")
+            self.does(f"({self.expression(self.stepping(self.tree(1)))}, )")
             self.does("return KEPT")
             self.write(";\n")
         else:
@@ -314,7 +348,7 @@ class Function:
         self.write(f"int {name}")
         if self.draw.random() < 0.85:
             self.write(" = ")
-            self.does(f"{name} = {self.expression(self.tree(2))}")
+            self.does(f"{name} = {self.expression(self.stepping(self.tree(2), name))}")
         else:
             self.does(f"{name} = m.drawn()")
             self.inputs += 1

@@ -1,5 +1,6 @@
 """Whole C files made at random, each with one function to ask about: constants of all kinds, arrays as parameters, of several dimensions and
-with values, names that are declared again, and round it what a function of the language can't have. `bench/gcc.py` tries them."""
+with values, names that are declared again, steps inside expressions, and round it what a function of the language can't have. `bench/gcc.py`
+tries them."""
 import random
 
 AROUND = """#include <stdio.h>
@@ -67,13 +68,31 @@ class Maker:
         target = self.draw.choice(targets) if self.draw.randrange(4) else self.element(1)
         return f"{pad}{target} {self.draw.choice(('=', '=', '+=', '-='))} {self.value()};\n"
 
+    def step(self, pad, depth, but):
+        """A statement with a step in it, whose variable stands nowhere else there."""
+        name = self.draw.choice([name for name in self.known if name not in (*but, "i", "j", "q")])
+        sign, number = self.draw.choice(("++", "--")), self.number()
+        step = self.draw.choice((f"{sign}{name}", f"{name}{sign}"))
+        kind = self.draw.randrange(6)
+        if kind == 0:
+            return f"{pad}any[{step}] {self.draw.choice(('=', '+='))} {number};\n"
+        if kind == 1:
+            return f"{pad}other(row, {step}, ({number} - {self.number()}));\n"
+        if kind == 2:
+            return f"{pad}assert({number} - {step} < {self.number()} || q < {number});\n"
+        if kind == 3 and depth:
+            return f"{pad}if ({step} < {number}) {{\n{self.block(pad + '    ', depth - 1, *but)}{pad}}}\n"
+        if kind == 4:
+            return f"{pad}{{ int kept = {number} * {step}; assert(kept <= {self.number()}); }}\n"
+        return f"{pad}any[q] += 2 * {step} - q;\n"
+
     def block(self, pad, depth, *but):
         text, before = "", list(self.known)
         if "t" not in self.known and self.draw.randrange(2):
             text += f"{pad}int t = {self.value(1)};\n"
             self.known.append("t")
         for _ in range(self.draw.randrange(1, 4)):
-            kind = self.draw.randrange(6)
+            kind = self.draw.randrange(8)
             if kind == 0 and depth:
                 text += self.loop(pad, depth)
             elif kind == 1 and depth:
@@ -82,6 +101,8 @@ class Maker:
                 text += f"{pad}assert({self.condition()});\n"
             elif kind == 3:
                 text += f"{pad}other(row, {self.value(1)});\n"
+            elif kind in (4, 5):
+                text += self.step(pad, depth, but)
             else:
                 text += self.change(pad, but)
         self.known = before
