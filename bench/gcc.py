@@ -228,6 +228,7 @@ def tried(text, asked, domain, runs, room):
     return (ran.stdout + ran.stderr).strip(), ran.returncode == 0
 
 
+FUNCTIONS = {"gcd.c": ("gcd",), "search.c": ("search",), "volume.c": ("mixed", "faded")}
 FILES = {"ring.c": ("ring_copy",), "date.c": ("month_of", "weekday_behind"), "classes.c": ("rounded", "class_of")}
 
 
@@ -237,14 +238,11 @@ def texts(files):
         with open(f"{TOP}/crates/test_run/src/functions/{table}.rt", encoding="utf-8") as it:
             for name, text in re.findall(r'const (\w+): &\[u8\] =\s*b"((?:int|void) (?:[^"\\]|\\.)*)";', it.read()):
                 yield name.lower(), text.replace('\\"', '"').replace("\\\\", "\\"), None
-    folder = f"{TOP}/examples/functions"
-    for name in sorted(os.listdir(folder)):
-        with open(f"{folder}/{name}", encoding="utf-8") as it:
-            yield name, it.read(), None
-    for name, functions in FILES.items():
-        with open(f"{TOP}/examples/files/{name}", encoding="utf-8") as it:
-            text = it.read()
-        yield from ((f"{name} {asked}", text, asked) for asked in functions)
+    for folder, files_there in (("functions", FUNCTIONS), ("files", FILES)):
+        for name, functions in files_there.items():
+            with open(f"{TOP}/examples/{folder}/{name}", encoding="utf-8") as it:
+                text = it.read()
+            yield from ((f"{name} {asked}", text, asked) for asked in functions)
     for seed in range(files):
         yield (f"made {seed}", *generated(seed))
 
