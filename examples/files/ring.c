@@ -36,8 +36,7 @@ int ring_copy(const int from[RING_SIZE], int start, int count, int *to) {
     if (start < 0 || start >= RING_SIZE || count < 0 || count > RING_SIZE) return -1;
     int at = start;
     for (int i = 0; i < count; i++) {
-        to[i] = from[at];
-        at++;
+        to[i] = from[at++];
         if (at == RING_SIZE) at = 0;
     }
     int below = 0;

@@ -51,10 +51,15 @@ const DIMENSIONS: &[u8] = b"int f(int x, int a[4], int b[][3], int *c) {
 // Steps inside a condition, an index, a declarator, an argument list, and what is returned.
 const COUNTS_DOWN: &[u8] =
     b"int f(int n, int *a) { int s = 0; while (n--) { a[s++] = n; } assert(n == -1); }\n";
-const STEPS: &[u8] = b"int f(int x) { int y = x++; assert(y == x - 1); int z = --x; assert(z == y && x == z); return z; }\n";
+
+const STEPS: &[u8] =
+    b"int f(int x) { int y = x++; assert(y == x - 1); int z = --x; assert(z == y && x == z); return z; }\n";
+
 const HEAD_STEPS: &[u8] =
     b"int f(void) { for (int i = 10; i-- > 0; ) assert(0 <= i && i <= 9); }\n";
+
 const ARGUMENTS_STEP: &[u8] = b"int f(int n) { int i = 4; g(i--, -n++); a: assert(i == 3); }\n";
+
 const RETURNED_STEP: &[u8] = b"int f(int x) { return x++; }\n";
 
 const FUNCTIONS: &[(&str, &[u8], Ending)] = &[
