@@ -116,10 +116,13 @@ condition_exact n line e x s t b o p q a l m =
 pub nothing_there : {A : Type 0} {B : Type 0} (x : A) (xs : List A) → x ∷ xs ≡ [] → B
 nothing_there x xs e = absurd (omega (arith, ap length e))
 
--- what is asked of an item: that it has no variables but the first n, that steps in it stand apart, and that its operations are exact
+-- what is asked of an item
 pub record Asked (n : ℕ) (i : Item) : Type 0 where
+  -- it has no variables but the first n
   pub over : item_passes (over_test n) i
+  -- steps in it stand apart
   pub apart : item_passes apart_test i
+  -- its operations are exact
   pub exact : item_passes (exact_test n) i
 
 -- what the deeds of an item leave, where these are all of it, agrees on the variables with what the item leaves

@@ -35,14 +35,18 @@ ResultLacks i (a_form f) = Lacks i f
 ResultLacks i (a_truth c) = Unit {0}
 ResultLacks i any = Unit {0}
 
--- hidden variables are taken from h upwards, and the result lacks the variables before these that occur not at all
+-- an expression in which variables occur so often
 pub record Lacking (counts : ℕ → ℕ) (h : ℕ) (e : Elaborated) : Type 0 where
+  -- hidden variables are taken from h upwards
   pub grows : h ≤ e.next
+  -- the result lacks the variables before these that occur not at all
   pub lacks : (i : ℕ) → i < h → counts i ≡ 0 → ResultLacks i e.result
 
 -- the same of an operand that is a number
 pub record LackingNumber (counts : ℕ → ℕ) (h : ℕ) (e : Numbered) : Type 0 where
+  -- hidden variables are taken from h upwards
   pub grows : h ≤ e.next
+  -- the form lacks the variables before these that occur not at all
   pub lacks : (i : ℕ) → i < h → counts i ≡ 0 → Lacks i e.form
 
 apart : (i h : ℕ) → i < h → i ≢ h

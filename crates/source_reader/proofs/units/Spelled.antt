@@ -11,10 +11,12 @@ use Rattle.source_grammar.specs.Tokens.{right_brace}
 use Rattle.source_grammar.specs.Grammar.{Expr, Arguments, MoreArguments, Subscripts, number, variable, element, call, stepped_behind}
 use Rattle.source_grammar.specs.Grammar.{stepped_before, free, grouped, prefixed, joined, chosen, no_arguments, arguments, last_argument}
 use Rattle.source_grammar.specs.Grammar.{next_argument, last_subscript, next_subscript, spell_expr, spell_arguments}
-use Rattle.source_grammar.specs.Grammar.{spell_more_arguments, spell_subscripts, Index, no_index, index, spell_index, Place, place, spell_place}
+use Rattle.source_grammar.specs.Grammar.{spell_more_arguments, spell_subscripts, Index, no_index, index, spell_index, Place, place}
+use Rattle.source_grammar.specs.Grammar.{spell_place}
 use Rattle.source_grammar.specs.Grammar.{Effect, assigns, steps, spell_effect, Update, update, step_before, spell_update}
 use Rattle.source_grammar.specs.Grammar.{Size, number_size, name_size, spell_size, Sizes, last_size, next_size, spell_sizes}
-use Rattle.source_grammar.specs.Grammar.{Value, one_value, braced, Values, no_values, values, MoreValues, last_value, last_comma, next_value}
+use Rattle.source_grammar.specs.Grammar.{Value, one_value, braced, Values, no_values, values, MoreValues, last_value, last_comma}
+use Rattle.source_grammar.specs.Grammar.{next_value}
 use Rattle.source_grammar.specs.Grammar.{spell_value, spell_values, spell_more_values, Initialiser, bare, given, sized, filled}
 use Rattle.source_grammar.specs.Grammar.{spell_initialiser, Declarator, declarator, spell_declarator}
 use Rattle.source_reader.specs.Reading.{first_kind}

@@ -1,5 +1,5 @@
-//! The files of examples/files/, of which one function each is asked about, as they stand there. Verdicts and improvements are worked out by
-//! hand.
+//! The files of examples/files/, of which one function each is asked about, as they stand there. Verdicts and improvements are worked out
+//! by hand.
 
 use crate::cases::{Ending, first_wrong};
 
