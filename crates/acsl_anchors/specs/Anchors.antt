@@ -1,14 +1,15 @@
 -- The loops, the labels and the end of a function in the order of its text, and the variables that are known there.
-use Rattle.std.specs.Prelude.{◌+◌, ◌++◌, ℕ, suc, List, [], ◌∷◌, if◌then◌else◌}
+use Rattle.std.specs.Prelude.{◌+◌, ◌++◌, ℕ, suc, Bool, true, false, List, [], ◌∷◌, if◌then◌else◌}
+use Rattle.std.specs.List.{list_any}
 use Rattle.std.specs.Str.{bytes_eq}
-use Rattle.source_grammar.specs.Tokens.{Name}
+use Rattle.source_grammar.specs.Tokens.{Name, Token, token, step_sign}
 use Rattle.source_grammar.specs.Grammar.{Initialiser, bare, given, sized, filled, Declarator, declarator, MoreDeclarators, last_declarator}
 use Rattle.source_grammar.specs.Grammar.{next_declarator, Declarators, declares, ForFirst, declared_first, updated_first}
 use Rattle.source_grammar.specs.Grammar.{Core, empty, block, if_alone, if_else, repeat, repeat_after, repeat_for, jumps, returns, demands}
 use Rattle.source_grammar.specs.Grammar.{calls, updates, Sub, labelled, plain, Items, no_items, label, declaration, item}
 use Rattle.source_grammar.specs.Grammar.{MoreParameters, last_parameter, next_parameter, Parameters, no_parameters, void_parameters}
 use Rattle.source_grammar.specs.Grammar.{some_parameters, Parameter, number_parameter, pointer_parameter, array_parameter, Function}
-use Rattle.source_grammar.specs.Grammar.{function}
+use Rattle.source_grammar.specs.Grammar.{function, Optional, spell_optional}
 
 -- what stands at an anchor
 pub data What : Type 0 where
@@ -157,9 +158,18 @@ scope_parameters no_parameters s = s
 scope_parameters (void_parameters a) s = s
 scope_parameters (some_parameters p ps) s = scope_more_parameters ps (scope_parameter p s)
 
--- the place of the end where a statement is the last one: that of a `return`, or of the brace
+-- a token is `++` or `--`
+abbrev pub is_step : Token → Bool
+is_step (token (step_sign g) a) = true
+is_step (token k a) = false
+
+-- what is returned has a step, so that the state behind it isn't the one before it
+abbrev pub has_step : Optional → Bool
+has_step t = list_any is_step (spell_optional t)
+
+-- the place of the end where a statement is the last one: that of a `return` that leaves the state as it is, or of the brace
 abbrev pub core_end : Core → (brace : ℕ) → ℕ
-core_end (returns a t b) brace = a
+core_end (returns a t b) brace = if has_step t then brace else a
 core_end _ brace = brace
 
 -- the place of the end behind this statement, where these follow
@@ -169,7 +179,7 @@ end_behind last (label x a b is) brace = end_behind brace is brace
 end_behind last (declaration t xs b is) brace = end_behind brace is brace
 end_behind last (item c is) brace = end_behind (core_end c brace) is brace
 
--- the end stands before a `return` that is the last item of the body, or else before the brace
+-- the end stands before a `return` without a step that is the last item of the body, or else before the brace
 abbrev pub end_place : Items → (brace : ℕ) → ℕ
 end_place is brace = end_behind brace is brace
 

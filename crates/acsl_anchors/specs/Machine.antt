@@ -32,7 +32,13 @@ close_entry place.Body a = enters.Takes (effect.End a) next.Zero place.Sub
 abbrev pub return_entry : Place → ℕ → Entry
 return_entry place.Sub a = enters.Takes effect.Nothing (next.One goal.Rest) place.Sub
 return_entry (place.Block n) a = enters.Takes effect.Nothing (next.One goal.Rest) (place.Block n)
-return_entry place.Body a = enters.Takes effect.Nothing (next.Two goal.Rest (goal.Ending a)) place.Body
+return_entry place.Body a = enters.Takes effect.Nothing (next.One (goal.Returned a)) place.Body
+
+-- what is returned by the `return` of the body that begins at `start`, of which no step has come: behind one it isn't the end
+abbrev pub returned_entry : (start : ℕ) → Part → Entry
+returned_entry f part.Semicolon = taken (next.One (goal.Ending f))
+returned_entry f part.Step = taken (next.One goal.Rest)
+returned_entry f _ = taken (next.One (goal.Returned f))
 
 -- behind a `return` of the body that begins at `start`
 abbrev pub ending_entry : (start : ℕ) → Part → Entry
@@ -151,6 +157,7 @@ entry (goal.Statement p) k a n = statement_entry p k a n
 entry (goal.AfterName p f) k a n = name_entry p f k a
 entry goal.MaybeElse k a n = else_entry k
 entry goal.Rest k a n = rest_entry k
+entry (goal.Returned f) k a n = returned_entry f k
 entry (goal.Ending f) k a n = ending_entry f k
 entry goal.Declaring k a n = declaring_entry k
 entry (goal.Named x) k a n = named_entry x k

@@ -3,8 +3,8 @@
 ghost use Rattle.std.specs.Prelude.{◌≡◌, ◌<◌};
 ghost use Rattle.acsl_anchors.specs.Machine.{brace_entry, close_entry, declared_entry, declaring_entry, else_entry, ending_entry};
 ghost use Rattle.acsl_anchors.specs.Machine.{entry, first_entry, front_entry, label_next, name_entry, named_entry, named_parameter_entry};
-ghost use Rattle.acsl_anchors.specs.Machine.{paren_entry, parameter_entry, parameters_entry, rest_entry, return_entry, statement_entry};
-ghost use Rattle.acsl_anchors.specs.Machine.{test_entry};
+ghost use Rattle.acsl_anchors.specs.Machine.{paren_entry, parameter_entry, parameters_entry, rest_entry, return_entry, returned_entry};
+ghost use Rattle.acsl_anchors.specs.Machine.{statement_entry, test_entry};
 
 use crate::part::Part;
 use lang_tree::Name;
@@ -37,6 +37,8 @@ pub enum Goal {
     MaybeElse,
     /// All up to a `;`.
     Rest,
+    /// What the `return` of the body returns that begins at this byte, in which no step has come.
+    Returned(u32),
     /// The brace of the body, if the `return` that begins at this byte is the last item.
     Ending(u32),
     /// A name that is declared.
@@ -114,12 +116,19 @@ fn finish(place: Place, at: u32) -> Entry
     ensures { result ≡ return_entry place at }
 {
     match place {
-        Place::Body => Entry::Takes(
-            Effect::Nothing,
-            Next::Two(Goal::Rest, Goal::Ending(at)),
-            place,
-        ),
+        Place::Body => Entry::Takes(Effect::Nothing, Next::One(Goal::Returned(at)), place),
         _ => Entry::Takes(Effect::Nothing, Next::One(Goal::Rest), place),
+    }
+}
+
+// What the `return` of the body returns that begins at this byte: where a step is in it, the end doesn't stand before it.
+fn returned(start: u32, part: &Part) -> Entry
+    ensures { result ≡ returned_entry start part.now }
+{
+    match part {
+        Part::Semicolon => taken(Next::One(Goal::Ending(start))),
+        Part::Step => taken(Next::One(Goal::Rest)),
+        _ => taken(Next::One(Goal::Returned(start))),
     }
 }
 
@@ -344,6 +353,7 @@ pub fn enter(goal: Goal, part: &Part, at: u32, known: usize) -> Entry
         Goal::AfterName(place, name) => behind_name(place, name, part, at),
         Goal::MaybeElse => maybe_else(part),
         Goal::Rest => rest(part),
+        Goal::Returned(start) => returned(start, part),
         Goal::Ending(start) => ending(start, part),
         Goal::Declaring => declaring(part),
         Goal::Named(name) => named(name, part),

@@ -32,6 +32,7 @@ pub enum Part {
     Do,
     For,
     Return,
+    Step,
     Other,
 }
 
@@ -56,6 +57,7 @@ fn symbol_part(symbol: Symbol) -> Part
         Symbol::Do => Part::Do,
         Symbol::For => Part::For,
         Symbol::Return => Part::Return,
+        Symbol::Step(_) => Part::Step,
         _ => Part::Other,
     }
 }

@@ -104,7 +104,7 @@ rest_run e c d gs s found w = passes goal.Rest rest_stays (spell_expr e) (inner_
     (token right_paren c ∷ token semicolon d ∷ w)
 
 -- Inner tokens up to the end of a statement.
-end_run : (ts : List Token) → AreInner ts → (d : ℕ) (gs : List Goal) (s : Scope) (found : List Anchor) (w : List Token)
+pub end_run : (ts : List Token) → AreInner ts → (d : ℕ) (gs : List Goal) (s : Scope) (found : List Anchor) (w : List Token)
     → run (state (goal.Rest ∷ gs) s found) (ts ++ token semicolon d ∷ w) ≡ run (state gs s found) w
 end_run ts h d gs s found w = passes goal.Rest rest_stays ts h gs s found (token semicolon d ∷ w)
 

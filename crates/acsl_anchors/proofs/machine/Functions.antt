@@ -1,8 +1,10 @@
 -- The machine finds the anchors of a function.
-use Rattle.std.proofs.Common.{◌≡◌, ◌∙◌, ◌++◌, ◌∷◌, ℕ, List, [], Option, Some, None, refl, sym, ap, append_assoc}
+use Rattle.std.proofs.Common.{◌≡◌, ◌∙◌, ◌++◌, ◌∷◌, ℕ, Bool, true, false, cond, List, [], Option, Some, None, refl, sym, ap, append_assoc}
+use Rattle.std.specs.List.{list_any}
 use Rattle.std.proofs.lemmas.List.{map-append}
-use Rattle.source_grammar.specs.Tokens.{comma, left_paren, right_paren, left_brace, right_brace, semicolon, Token, token}
+use Rattle.source_grammar.specs.Tokens.{comma, left_paren, right_paren, left_brace, right_brace, semicolon, step_sign, Token, token}
 use Rattle.source_grammar.specs.Expressions.{update, step_before}
+use Rattle.source_grammar.specs.Grammar.{Optional, spell_optional}
 use Rattle.source_grammar.specs.Grammar.{Core, returns, updates, Items, no_items, label, declaration, item, GoodItems}
 use Rattle.source_grammar.specs.Grammar.{ending_core}
 use Rattle.source_grammar.specs.Grammar.{spell_core, spell_items, spell_declarators, Declarators, Specifiers, gives_int, gives_void}
@@ -16,6 +18,7 @@ use Rattle.source_grammar.specs.Grammar.{some_parameters, spell_parameters, Func
 use Rattle.source_grammar.specs.Expressions as g
 use Rattle.acsl_anchors.specs.Anchors as spec
 use Rattle.acsl_anchors.specs.Anchors.{Scope, no_scope, scope_parameter, end_behind, end_at, anchors_of, anchors_items}
+use Rattle.acsl_anchors.specs.Anchors.{is_step, has_step}
 use Rattle.acsl_anchors.specs.Anchors.{anchors_core, scope_core, scope_items, scope_declarators, scope_more_parameters, scope_parameters}
 use Rattle.acsl_anchors.specs.View.{plain_anchor, plain_anchors}
 use Rattle.acsl_anchors.specs.Machine.{State, state, run, start}
@@ -23,8 +26,8 @@ use Rattle.acsl_anchors.specs.declared.anchor.Anchor.{Anchor}
 use Rattle.acsl_anchors.specs.declared.goal.Goal.{Goal}
 use Rattle.acsl_anchors.specs.declared.goal.Goal.TheVariants as goal
 use Rattle.acsl_anchors.specs.declared.goal.Place.TheVariants as place
-use Rattle.acsl_anchors.proofs.machine.Skipped.{declarators_run}
-use Rattle.acsl_anchors.proofs.machine.Found.{core_run, items_head, goes_on, return_run}
+use Rattle.acsl_anchors.proofs.machine.Skipped.{AreInner, inner_optional, declarators_run}
+use Rattle.acsl_anchors.proofs.machine.Found.{core_run, items_head, goes_on, end_run}
 
 -- ---- the front
 -- What stands before the name,
@@ -111,10 +114,29 @@ abbrev pending : Option ℕ → List Goal
 pending None = goal.Statement place.Body ∷ []
 pending (Some a) = goal.Ending a ∷ goal.Statement place.Body ∷ []
 
+-- what is returned: behind a step the end doesn't stand before it
+returned_over : (ts : List Token) → AreInner ts → (a b : ℕ) (s : Scope) (found : List Anchor) (w : List Token)
+    → run (state (goal.Returned a ∷ goal.Statement place.Body ∷ []) s found) (ts ++ token semicolon b ∷ w)
+    ≡ run (state (pending (cond (list_any is_step ts) None (Some a))) s found) w
+returned_over [] h a b s found w = refl
+returned_over (token (step_sign g) c ∷ ts) h a b s found w = end_run ts h.1 b (goal.Statement place.Body ∷ []) s found w
+returned_over (token semicolon c ∷ ts) h a b s found w = absurd h.0
+returned_over (token _ c ∷ ts) h a b s found w = returned_over ts h.1 a b s found w
+
+returned_run : (t : Optional) (a b : ℕ) (s : Scope) (found : List Anchor) (w : List Token)
+    → run (state (goal.Returned a ∷ goal.Statement place.Body ∷ []) s found) ((spell_optional t ++ token semicolon b ∷ []) ++ w)
+    ≡ run (state (pending (cond (has_step t) None (Some a))) s found) w
+returned_run t a b s found w = rw append_assoc (returned_over (spell_optional t) (inner_optional t) a b s found w)
+
 -- where the end stands then
 abbrev end_now : Option ℕ → (brace : ℕ) → ℕ
 end_now None brace = brace
 end_now (Some a) brace = a
+
+-- behind a `return`, whether it has a step
+end_by : (v : Bool) (a d : ℕ) → end_now (cond v None (Some a)) d ≡ cond v d a
+end_by true a d = refl
+end_by false a d = refl
 
 -- A statement is no brace: a `return` before it isn't the last item.
 no_ending : (o : Option ℕ) (c : Core) (s : Scope) (found : List Anchor) (w : List Token)
@@ -166,8 +188,10 @@ body_run (item (returns a t b) is) o d s found g =
     ap (λ (ts : List Token). (run (state (pending o) s found) ts).found)
     (append_assoc (spell_core (returns a t b)) (spell_items is) (token right_brace d ∷ []))
     ∙ ap (λ (st : State). st.found) (no_ending o (returns a t b) s found (spell_items is ++ token right_brace d ∷ [])
-    ∙ return_run t b (goal.Ending a ∷ goal.Statement place.Body ∷ []) s found (spell_items is ++ token right_brace d ∷ []))
-    ∙ body_run is (Some a) d s found g.1
+    ∙ returned_run t a b s found (spell_items is ++ token right_brace d ∷ []))
+    ∙ body_run is (cond (has_step t) None (Some a)) d s found g.1
+    ∙ ap (λ e. found ++ plain_anchors (anchors_items is s ++ end_at (end_behind e is d) (scope_items is s) ∷ []))
+    (end_by (has_step t) a d)
 body_run (item c is) o d s found g =
     ap (λ (ts : List Token). (run (state (pending o) s found) ts).found)
     (append_assoc (spell_core c) (spell_items is) (token right_brace d ∷ []))

@@ -1,5 +1,5 @@
 -- Where tokens stand in order, so do the anchors of what they spell.
-use Rattle.std.proofs.Common.{◌≤◌, ◌+◌, ◌++◌, ◌∷◌, ℕ, List, [], refl, sym, arith, append_assoc}
+use Rattle.std.proofs.Common.{◌≤◌, ◌+◌, ◌++◌, ◌∷◌, ℕ, true, false, cond, List, [], refl, sym, arith, append_assoc}
 use Rattle.source_grammar.specs.Tokens.{else_word, if_word, while_word, left_paren, right_paren, right_brace, left_brace, semicolon, Token}
 use Rattle.source_grammar.specs.Tokens.{token}
 use Rattle.source_grammar.specs.Expressions.{spell_optional, spell_updates}
@@ -8,6 +8,7 @@ use Rattle.source_grammar.specs.Grammar.{spell_function_name, spell_parameters, 
 use Rattle.source_grammar.specs.Grammar.{Core, empty, block, if_alone, if_else, repeat, repeat_after, repeat_for, jumps, returns, demands}
 use Rattle.source_grammar.specs.Grammar.{calls, updates, spell_core, Sub, labelled, plain, Items, no_items, label, declaration, item}
 use Rattle.source_grammar.specs.Grammar.{spell_sub, spell_items, spell_type}
+use Rattle.acsl_anchors.specs.Anchors.{has_step}
 use Rattle.acsl_anchors.specs.Anchors.{Anchor, Scope, no_scope, end_behind, end_at, scope_declarators, scope_first, scope_core, scope_sub}
 use Rattle.acsl_anchors.specs.Anchors.{scope_items, scope_parameters, anchors_core, anchors_sub, anchors_items, anchors_of}
 use Rattle.acsl_anchors.proofs.standing.Ranges.{Standing, Placed, in_order, split, wider, one_after_another, headed}
@@ -137,7 +138,10 @@ module _ (P : ℕ → Type 0) where
       )) (omega arith)
       (body_placed is d after (b + 1) to p.right.2)
   body_placed (item (returns a t b) no_items) d s from to h =
-      (h.0, h.1.begin refl, omega (arith, in_order P _ (a + 1) (to + 1) h.2))
+      elim (has_step t) as (λ v. Placed P from (end_at (cond v d a) s ∷ []) to) [
+        | true ↦ item_placed (returns a t b) no_items d d s from to h (λ between i. (i.0, i.1.begin refl, omega (arith, i.2)))
+        | false ↦ (h.0, h.1.begin refl, omega (arith, in_order P _ (a + 1) (to + 1) h.2))
+      ]
   body_placed (item c no_items) d s from to h =
       item_placed c no_items d d s from to h (λ between i. (i.0, i.1.begin refl, omega (arith, i.2)))
   body_placed (item c (label x a b is)) d s from to h =

@@ -54,12 +54,18 @@ const ARRAY: &[u8] = b"int f(int n) { int a[8]; int q = 9; q = q / 2; a[q] = n; 
 const ARRAY_NOTES: &[u8] =
     b"int f(int n) { int a[8]; int q = 9; q = q / 2; a[q] = n; /*@ assert 2 * (q) <= 9; */ /*@ assert -q <= -4; */ }";
 
+// A step in what is returned leaves another state than the one before it, so the end is at the brace.
+const STEPPED: &[u8] = b"int f(int x) { x = 7; return -x++; }";
+
+const STEPPED_NOTES: &[u8] = b"int f(int x) { x = 7; return -x++; /*@ assert x == 8; */ }";
+
 const FUNCTIONS: &[(&str, &[u8], &[u8])] = &[
     ("p --function count", TWO, COUNT_NOTES),
     ("p --function twice", TWO, TWO),
     ("p", MAIN, MAIN_NOTES),
     ("--function inc p", MAIN, MAIN),
     ("p", ARRAY, ARRAY_NOTES),
+    ("p", STEPPED, STEPPED_NOTES),
 ];
 
 #[test]
