@@ -85,7 +85,8 @@ module _ (site : Site) (st : State) (h first : ℕ) (x : Expression) (e : Expr) 
 
   -- a fault of the second value
   pub half_fault : (P Q : Type 0) (c : Tested) (f : Number) (sign : ℕ) (g : Expr) (out : Result Value Stop) (s : Stop) → Half c f
-      → IsErrAnd out (λ z. z ≡ s) → Answers (λ v x. IsRead site f.next v x × P) (Err s) (read site.integers site.line (passable st) g f.next)
+      → IsErrAnd out (λ z. z ≡ s)
+      → Answers (λ v x. IsRead site f.next v x × P) (Err s) (read site.integers site.line (passable st) g f.next)
       → Answers (λ v x. IsRead site h v x × Q) out (chosen_with site.integers site.line st first sign x e g h)
   half_fault P Q c f sign g out s k m a =
       let n = behind site.integers site.line k.u h in
@@ -99,7 +100,8 @@ module _ (site : Site) (st : State) (h first : ℕ) (x : Expression) (e : Expr) 
 
   -- the whole choice
   pub whole : (P Q : Type 0) (c : Tested) (f g : Number) (sign : ℕ) (j : Expr) (v : Value) (r : Result Value OperationFault)
-      (out : Result Value Stop) → Half c f → Answers (λ v x. IsRead site f.next v x × P) (Ok v) (read site.integers site.line (passable st) j f.next)
+      (out : Result Value Stop) → Half c f
+      → Answers (λ v x. IsRead site f.next v x × P) (Ok v) (read site.integers site.line (passable st) j f.next)
       → ((d : Elaborated) → Stands site.variables v d → StandsNumber site.variables g (numbered site.integers site.line d))
       → ((a : core.Tested) (b d : core.Numbered) → a.next ≤ b.next → b.next ≤ d.next → StandsTested site.variables c a
       → StandsNumber site.variables f b → StandsNumber site.variables g d
@@ -109,7 +111,8 @@ module _ (site : Site) (st : State) (h first : ℕ) (x : Expression) (e : Expr) 
       let i = behind site.integers site.line k.u h in
       let l = behind_number site.integers site.line k.y i in
       let As : Value → Expression → Type 0 = λ v x. IsRead site h v x × Q in
-      let z : read site.integers site.line (passable st) j l ≡ Ok a.0 = subst (λ i. read site.integers site.line (passable st) j i ≡ Ok a.0) k.is_yes.next a.1 in
+      let z : read site.integers site.line (passable st) j l ≡ Ok a.0 =
+      subst (λ i. read site.integers site.line (passable st) j i ≡ Ok a.0) k.is_yes.next a.1 in
       let w : IsNumberOf site l g a.0 = subst (λ i. IsNumberOf site i g a.0) k.is_yes.next (n
       (elaborated site.integers site.line a.0 f.next) a.2.0) in
       ok_then As out (as_condition site.integers site.line first h x) k.u _ k.condition
@@ -126,9 +129,13 @@ level_more n o p e f = let k : level p ≡ level o = ap level f in omega (arith,
 module _ (site : Site) (st : State) (h first : ℕ) (x : Expression) (j : Join) (w : Work) (is : w ≡ work_in j.op) (s : Side)
     (left : Answers (StandsSide site.integers site.variables site.line (asks_conditions w) h) (Ok s) (side site.integers site.line
     (asks_conditions w) first h x)) where
+  -- the names with which the right side is read
+  abbrev within : Work → State
+  within w = right_of (asks_conditions w) st
+
   -- a fault of the right side
   pub right_fault : (P Q : Type 0) (next : ℕ) (out : Result Value Stop) (z : Stop) → next ≡ next_of s → IsErrAnd out (λ y. y ≡ z)
-      → Answers (λ v x. IsRead site next v x × P) (Err z) (read site.integers site.line (right_of (asks_conditions w) st) j.right next)
+      → Answers (λ v x. IsRead site next v x × P) (Err z) (read site.integers site.line (within w) j.right next)
       → Answers (λ v x. IsRead site h v x × Q) out (joined_with site.integers site.line st first x j h)
   right_fault P Q next out z e m a =
       let b = asks_conditions w in
@@ -136,18 +143,19 @@ module _ (site : Site) (st : State) (h first : ℕ) (x : Expression) (j : Join) 
       ∙ side_next site.integers site.variables site.line b h s left.0 left.2 in
       let As : Value → Expression → Type 0 = λ v x. IsRead site h v x × Q in
       let Bs : Value → Expression → Type 0 = λ v x. IsRead site next v x × P in
-      let c : Answers Bs (Err z) (read site.integers site.line (right_of (asks_conditions w) st) j.right (behind_side site.integers site.line b left.0 h)) =
-      subst (λ i. Answers Bs (Err z) (read site.integers site.line (right_of (asks_conditions w) st) j.right i)) n a in
+      let c : Answers Bs (Err z) (read site.integers site.line (within w) j.right (behind_side site.integers site.line b left.0 h)) =
+      subst (λ i. Answers Bs (Err z) (read site.integers site.line (within w) j.right i)) n a in
       wanted_of As out _ _ (joined_same site.integers site.line st first h x j)
       (subst (λ w. Answers As out (side site.integers site.line (asks_conditions w) first h x
-      >>= λ x. read site.integers site.line (right_of (asks_conditions w) st) j.right (behind_side site.integers site.line (asks_conditions w) x h)
+      >>= λ x. read site.integers site.line (within w) j.right (behind_side site.integers site.line (asks_conditions w) x h)
       >>= λ y. sides_worked site.integers site.line w j.at (first_of j.right) h x y)) is
       (ok_then As out (side site.integers site.line b first h x) left.0 _ left.1
-      (handed_then Bs As out z (read site.integers site.line (right_of (asks_conditions w) st) j.right (behind_side site.integers site.line b left.0 h)) _ m c)))
+      (handed_then Bs As out z (read site.integers site.line (within w) j.right (behind_side site.integers site.line b left.0 h)) _ m c)))
 
   -- both sides
   pub right_read : (P Q : Type 0) (next at right_first : ℕ) (v : Value) (out : Result Value Stop) → next ≡ next_of s → at ≡ j.at
-      → right_first ≡ first_of j.right → Answers (λ v x. IsRead site next v x × P) (Ok v) (read site.integers site.line (right_of (asks_conditions w) st) j.right next)
+      → right_first ≡ first_of j.right
+      → Answers (λ v x. IsRead site next v x × P) (Ok v) (read site.integers site.line (within w) j.right next)
       → ((x y : Expression) (h : ℕ) → StandsSide site.integers site.variables site.line (asks_conditions w) h s x
       → IsRead site (behind_side site.integers site.line (asks_conditions w) x h) v y
       → Answers (IsRead site h) out (sides_worked site.integers site.line w at right_first h x y))
@@ -157,8 +165,8 @@ module _ (site : Site) (st : State) (h first : ℕ) (x : Expression) (j : Join) 
       let n : next ≡ behind_side site.integers site.line b left.0 h = e
       ∙ side_next site.integers site.variables site.line b h s left.0 left.2 in
       let As : Value → Expression → Type 0 = λ v x. IsRead site h v x × Q in
-      let y : read site.integers site.line (right_of (asks_conditions w) st) j.right (behind_side site.integers site.line b left.0 h) ≡ Ok a.0 =
-      subst (λ i. read site.integers site.line (right_of (asks_conditions w) st) j.right i ≡ Ok a.0) n a.1 in
+      let y : read site.integers site.line (within w) j.right (behind_side site.integers site.line b left.0 h) ≡ Ok a.0 =
+      subst (λ i. read site.integers site.line (within w) j.right i ≡ Ok a.0) n a.1 in
       let i : IsRead site (behind_side site.integers site.line b left.0 h) v a.0 = subst (λ i. IsRead site i v a.0) n a.2.0 in
       joined_steps site.integers site.line st As out first h x j w left.0 a.0 is left.1 y
       (beside (IsRead site h) Q out _ q

@@ -90,7 +90,8 @@ module _ (integers : Integers) {C : Type 0} (line : ℕ) (st : State) (As : C �
       >>= λ x. read integers line (right_of (asks_conditions w) st) j.right (behind_side integers line (asks_conditions w) x h)
       >>= λ y. sides_worked integers line w j.at (first_of j.right) h x y)) e
       (ok_then As out (side integers line (asks_conditions w) first h x) u _ p
-      (ok_then As out (read integers line (right_of (asks_conditions w) st) j.right (behind_side integers line (asks_conditions w) u h)) y _ q a)))
+      (ok_then As out (read integers line (right_of (asks_conditions w) st) j.right (behind_side integers line (asks_conditions w) u h)) y
+      _ q a)))
 
 -- a choice of what was read
 pub choice_answers : (site : Site) (h sign : ℕ) (u y z : Expression) (r : Result Value OperationFault) (c : Tested) (f g : Number)

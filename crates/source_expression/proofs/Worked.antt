@@ -57,7 +57,8 @@ worked_same integers line g.remainder_op sign h x y = refl
 pub joined_same : (integers : Integers) (line : ℕ) (st : State) (first h : ℕ) (x : Expression) (j : Join)
     → joined_with integers line st first x j h
     ≡ (side integers line (asks_conditions (work_in j.op)) first h x
-    >>= λ x. read integers line (right_of (asks_conditions (work_in j.op)) st) j.right (behind_side integers line (asks_conditions (work_in j.op)) x h)
+    >>= λ x. read integers line (right_of (asks_conditions (work_in j.op)) st) j.right
+    (behind_side integers line (asks_conditions (work_in j.op)) x h)
     >>= λ y. sides_worked integers line (work_in j.op) j.at (first_of j.right) h x y)
 joined_same integers line st first h x j = by (joins_conditions integers line j.op) (asks_same integers line j.op) where
   by : (b : Bool) → b ≡ asks_conditions (work_in j.op)
@@ -66,13 +67,15 @@ joined_same integers line st first h x j = by (joins_conditions integers line j.
       >>= λ y. side integers line b (first_of j.right) (behind_side integers line b x h) y
       >>= λ y. operated integers line j.op j.at h x y)
       ≡ (side integers line (asks_conditions (work_in j.op)) first h x
-      >>= λ x. read integers line (right_of (asks_conditions (work_in j.op)) st) j.right (behind_side integers line (asks_conditions (work_in j.op)) x h)
+      >>= λ x. read integers line (right_of (asks_conditions (work_in j.op)) st) j.right
+      (behind_side integers line (asks_conditions (work_in j.op)) x h)
       >>= λ y. sides_worked integers line (work_in j.op) j.at (first_of j.right) h x y)
   by b e = ap (λ b. side integers line b first h x >>= λ x. read integers line (right_of b st) j.right (behind_side integers line b x h)
       >>= λ y. side integers line b (first_of j.right) (behind_side integers line b x h) y >>= λ y. operated integers line j.op j.at h x
       y) e
       ∙ bind_same (side integers line (asks_conditions (work_in j.op)) first h x) _ _ (λ x.
-      bind_same (read integers line (right_of (asks_conditions (work_in j.op)) st) j.right (behind_side integers line (asks_conditions (work_in j.op)) x h)) _ _ (λ y.
+      bind_same (read integers line (right_of (asks_conditions (work_in j.op)) st) j.right
+      (behind_side integers line (asks_conditions (work_in j.op)) x h)) _ _ (λ y.
       bind_same (side integers line (asks_conditions (work_in j.op)) (first_of j.right)
       (behind_side integers line (asks_conditions (work_in j.op)) x h) y) _ _ (λ y. worked_same integers line j.op j.at h x y)))
 

@@ -40,8 +40,8 @@ with_last (more x xs) ys = more x (with_last xs ys)
 
 module _ (integers : Integers) (line : ℕ) where
   module _ (st : State) where
-    -- what an operand that was read is with one sign and its right side; the first token of the operand is at this place. C may pass over the
-    -- right one of two conditions
+    -- what an operand that was read is with one sign and its right side; the first token of the operand is at this place. C may pass over
+    -- the right one of two conditions
     abbrev pub joined_with : (first : ℕ) → Expression → Join → (h : ℕ) → Result Expression FunctionFault
     joined_with first x j h =
         side integers line (joins_conditions integers line j.op) first h x

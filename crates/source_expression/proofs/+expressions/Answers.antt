@@ -159,14 +159,16 @@ expressions::join-returns-clause-reads t c = λ x h j rest i o g s q.
     (c.at-first.ensures ∙ ap first_place p ∙ first_place_of j.right rest) r c.joined.ensures r.2.1
 
 -- ---- the right side of a sign
-pub expressions::right_side-returns-then-asks_conditions-clause-reads : goal.expressions::right_side-returns-then-asks_conditions-clause-reads
+pub expressions::right_side-returns-then-asks_conditions-clause-reads
+    : goal.expressions::right_side-returns-then-asks_conditions-clause-reads
 expressions::right_side-returns-then-asks_conditions-clause-reads t c = λ e rest l g s q.
     let b = asks_conditions c.args.work in
     read_with c.args.site c.args.next c.passable.result (right_of b c.args.known.now) e rest c.joins.result c.joins.new.reader
     (right_passed b c.passable.result c.args.known.now (sym c.asks_conditions.ensures ∙ c.if-asks_conditions.true) c.passable.ensures)
     (c.joins.ensures.reads e rest l g s q)
 
-pub expressions::right_side-returns-else-asks_conditions-clause-reads : goal.expressions::right_side-returns-else-asks_conditions-clause-reads
+pub expressions::right_side-returns-else-asks_conditions-clause-reads
+    : goal.expressions::right_side-returns-else-asks_conditions-clause-reads
 expressions::right_side-returns-else-asks_conditions-clause-reads t c = λ e rest l g s q.
     let b = asks_conditions c.args.work in
     let st = c.args.known.now in
