@@ -4,6 +4,7 @@ pub mod Spelled
 pub mod Deeds
 pub mod Elaborated
 pub mod Seen
+pub mod Around
 pub mod Read
 pub mod Cores
 pub mod Changed

@@ -1,2 +1,4 @@
-pub mod Words
 pub mod Going
+pub mod Words
+pub mod Taken
+pub mod Ends

@@ -1,20 +1,15 @@
 -- The sizes and the values of an array.
-use Rattle.std.specs.Prelude.{◌≡◌, ◌++◌, ℕ, List, [], map, Option, Some, None, Result, Ok}
+use Rattle.std.specs.Prelude.{◌≡◌, ◌++◌, List, [], map, Option, Some, None, Result, Ok}
 use Rattle.source_grammar.specs.Tokens.{Token}
-use Rattle.source_grammar.specs.Grammar.{Sizes, Values, Initialiser, bare, given, sized, filled}
+use Rattle.source_grammar.specs.Grammar.{Sizes, Initialiser, bare, given, sized, filled}
 use Rattle.source_tree.specs.Expressions.{Extent}
-use Rattle.source_tree.specs.Statements.{Statements, evaluates}
 use Rattle.source_tree.specs.Extents.{extent_of}
 use Rattle.source_tree.specs.declared.extent.Extent as code_extent
 use Rattle.source_meaning.specs.declared.fault.FunctionFault.{FunctionFault}
-use Rattle.source_meaning.specs.Results.{◌>>=◌}
 use Rattle.source_meaning.specs.Names.{State}
 use Rattle.source_meaning.specs.Arrays.{read_sizes}
-use Rattle.source_meaning.specs.Expressions.{read_values}
-use Rattle.source_meaning.specs.Statements.{read_evaluated}
 use Rattle.source_reader.specs.Reading.{Reading, at_tokens}
 use Rattle.source_change.specs.Onto.{onto_sizes}
-use Rattle.base_integers.specs.declared.integers.Integers.{Integers}
 
 -- how sizes are spelled before other tokens, of which there may be none
 abbrev pub onto_some_sizes : Option Sizes → List Token → List Token
@@ -41,9 +36,3 @@ extents_of es = map extent_of es
 pub record WereSized (rest : List Token) (old new : Reading) (before after : List code_extent.Extent) (es : List Extent) : Type 0 where
   pub extents : extents_of after ≡ extents_of before ++ es
   pub reader : new ≡ at_tokens old rest
-
--- the values of an array that is declared at this place are evaluated, over n variables
-abbrev pub read_filled : (integers : Integers) (line : ℕ → ℕ) (n : ℕ) → State → (at : ℕ) → Values
-    → Result (State × Statements) FunctionFault
-read_filled integers line n st at vs =
-    read_values integers (line at) st vs n >>= λ es. read_evaluated integers line n st at (evaluates es (line at))

@@ -2,7 +2,7 @@
 use Rattle.std.specs.Prelude.{◌≡◌, ℕ, Option, Some, None, Result, Ok, length}
 use Rattle.source_grammar.specs.Tokens as g
 use Rattle.source_grammar.specs.Tokens.{Name}
-use Rattle.source_grammar.specs.Grammar.{Index, no_index, index, Effect}
+use Rattle.source_grammar.specs.Grammar.{Index, no_index, index, Effect, steps, Update, update, step_before}
 use Rattle.source_tree.specs.Expressions.{Expression, variable, none, more, Operation, plus, minus, times, over, remainder}
 use Rattle.source_tree.specs.Statements.{Change, sets, evaluates}
 use Rattle.source_core.specs.Elaborated.{elaborated, evaluated}
@@ -10,11 +10,11 @@ use Rattle.source_value.specs.Stands.{Stands, StandsEvaluated}
 use Rattle.source_meaning.specs.declared.fault.FunctionFault.{FunctionFault}
 use Rattle.source_meaning.specs.Results.{◌>>=◌}
 use Rattle.source_meaning.specs.Names.{State, variable_of}
-use Rattle.source_meaning.specs.Changes.{affected, evaluated_by, few, read_element}
+use Rattle.source_meaning.specs.Changes.{affected, changed, evaluated_by, few, read_element}
 use Rattle.source_meaning.specs.Limits.{counted}
 use Rattle.source_core.specs.Core.{change_deeds}
 use Rattle.source_change.specs.declared.deeds.Changed.{Changed}
-use Rattle.source_change.specs.declared.deeds.Changed.TheVariants as changed
+use Rattle.source_change.specs.declared.deeds.Changed.TheVariants as code
 use Rattle.source_change.specs.declared.places.Target.{Target}
 use Rattle.base_integers.specs.declared.integers.Integers.{Integers}
 
@@ -37,10 +37,10 @@ var_of (an_element e) = None
 module _ (integers : Integers) (n line : ℕ) where
   -- the code has this change
   abbrev pub StandsChange : Changed → Change → Type 0
-  StandsChange (changed.Sets var value) (sets i e k) = (var ≡ i) × (k ≡ line) × Stands n value (elaborated integers line e n)
-  StandsChange (changed.Sets var value) (evaluates es k) = ⊥
-  StandsChange (changed.Evaluates all) (sets i e k) = ⊥
-  StandsChange (changed.Evaluates all) (evaluates es k) = (k ≡ line) × StandsEvaluated n all (evaluated integers line es n)
+  StandsChange (code.Sets var value) (sets i e k) = (var ≡ i) × (k ≡ line) × Stands n value (elaborated integers line e n)
+  StandsChange (code.Sets var value) (evaluates es k) = ⊥
+  StandsChange (code.Evaluates all) (sets i e k) = ⊥
+  StandsChange (code.Evaluates all) (evaluates es k) = (k ≡ line) × StandsEvaluated n all (evaluated integers line es n)
 
   -- the code has this place
   pub record StandsTarget (t : Target) (a : Aim) : Type 0 where
@@ -51,6 +51,11 @@ module _ (integers : Integers) (n line : ℕ) where
   abbrev pub aim : State → Name → (at : ℕ) → Index → Result Aim FunctionFault
   aim st x a no_index = variable_of x a st >>= λ i. Ok (a_variable i a)
   aim st x a (index is) = read_element integers n line st x a is >>= λ old. Ok (an_element old)
+
+  -- what a change does to its place
+  abbrev pub changed_by : State → Update → Result Change FunctionFault
+  changed_by st (update p f) = changed integers n line st p f
+  changed_by st (step_before d at p) = changed integers n line st p (steps d at)
 
   -- what is done to a place
   abbrev pub done_to : State → Aim → Effect → Result Change FunctionFault

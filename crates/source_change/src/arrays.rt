@@ -1,27 +1,31 @@
 //! Arrays that are declared: their sizes and their values.
 
-ghost use Rattle.std.specs.Prelude.{◌≡◌, ◌≤◌, ℕ, List, length, Option, OnOk};
+ghost use Rattle.std.specs.Prelude.{◌≡◌, ◌<◌, ◌≤◌, ◌∷◌, ℕ, List, length, Option, OnOk};
 ghost use Rattle.lang_tokens.specs.Lines.{line_at};
-ghost use Rattle.source_grammar.specs.Tokens.{Token};
+ghost use Rattle.source_grammar.specs.Tokens.{Name, Token, token, a_name};
 ghost use Rattle.source_grammar.specs.Grammar.{Size, Sizes, Values, GoodValues, Initialiser, GoodInitialiser, declarator};
 ghost use Rattle.source_grammar.proofs.grammar.Follow.{NoBracket, AfterPart};
 ghost use Rattle.source_tree.specs.Extents.{extent_of};
+ghost use Rattle.source_core.specs.Elaborated.{evaluated};
 ghost use Rattle.source_meaning.specs.Arrays.{read_size};
+ghost use Rattle.source_meaning.specs.Expressions.{read_values};
 ghost use Rattle.source_meaning.specs.Statements.{read_declarator};
+ghost use Rattle.source_value.specs.Stands.{StandsEvaluated};
 ghost use Rattle.source_reader.specs.Answers.{Answers};
 ghost use Rattle.source_reader.specs.Reading.{at_tokens, first_kind};
 ghost use Rattle.source_change.specs.Onto.{onto_size, onto_values, onto_initialiser};
-ghost use Rattle.source_change.specs.Arrays.{IsArray, WereSized, onto_some_sizes, read_some_sizes, read_filled};
-ghost use Rattle.source_change.specs.Tests.{WasRead, name_of};
+ghost use Rattle.source_change.specs.Arrays.{IsArray, WereSized, onto_some_sizes, read_some_sizes};
+ghost use Rattle.source_change.specs.Tests.{WasRead};
 
-use crate::names::Named;
+use crate::names::take_name;
 use crate::nexts::{Next, coming, has_assignment, has_bracket};
 use crate::pushed::push_evaluated;
 use lang_tree::Stmt;
 use source_expression::values;
 use source_names::{Known, sized};
-use source_reader::{Mark, Reader, Stop};
+use source_reader::{Mark, Reader, Scope, Stop};
 use source_tree::Extent;
+use source_value::{Evaluated, Site};
 
 // A size: a number, or the name of a constant.
 fn size(reader: &mut Reader, known: &Known) -> Result<Extent, Stop>
@@ -55,42 +59,39 @@ pub fn sizes(reader: &mut Reader, known: &Known, extents: &mut Vec<Extent>) -> R
     Ok(())
 }
 
-// The values of the array that is declared at `at`, from their `=` on, which are evaluated.
-fn filled(reader: &mut Reader, known: &mut Known, at: u32, out: &mut Vec<Stmt>) -> Result<(), Stop>
+// The values of an array, from their `=` on, which are evaluated.
+fn filled(reader: &mut Reader, scope: &Scope, site: Site) -> Result<Evaluated, Stop>
     ensures reads { (a b : ℕ) (vs : Values) (c : ℕ) (rest : List Token) → GoodValues vs → reader.old.ahead ≡ onto_values a b vs c rest
-        → Answers (λ _ r. WasRead reader.old.integers reader.old.variables rest reader.old reader.new
-        known.new out.old.items out.new.items r)
-        result (read_filled reader.old.integers (line_at reader.old.text) reader.old.variables known.old at vs) }
+        → Answers (λ all es. StandsEvaluated site.variables all (evaluated site.integers site.line es site.variables)
+        × (reader.new ≡ at_tokens reader.old rest))
+        result (read_values site.integers site.line scope.now vs site.variables) }
     ensures shorter { OnOk result (length reader.new.ahead ≤ length reader.old.ahead) }
 {
     reader.skip();
     reader.take(Mark::LeftBrace)?;
-    let site = reader.site(at);
-    let all = values(reader, known, site, site.variables)?;
+    let all = values(reader, scope, site, site.variables)?;
     reader.take(Mark::RightBrace)?;
-    push_evaluated(known, site, at, all, out)
+    Ok(all)
 }
 
-// An array that is declared, behind its name: its sizes, and its values, in which it isn't known.
-pub(crate) fn array(
-    reader: &mut Reader,
-    known: &mut Known,
-    first: &Named,
-    out: &mut Vec<Stmt>,
-) -> Result<(), Stop>
-    ensures reads { (i : Initialiser) (rest : List Token) → IsArray i → GoodInitialiser i → reader.old.ahead ≡ onto_initialiser i rest
-        → AfterPart (first_kind rest)
+// An array that is declared, from its name on: its sizes, and its values, in which it isn't known.
+pub(crate) fn array(reader: &mut Reader, known: &mut Known, out: &mut Vec<Stmt>) -> Result<(), Stop>
+    ensures reads { (x : Name) (a : ℕ) (i : Initialiser) (rest : List Token) → IsArray i → GoodInitialiser i
+        → reader.old.ahead ≡ token (a_name x) a ∷ onto_initialiser i rest → AfterPart (first_kind rest)
         → Answers (λ _ r. WasRead reader.old.integers reader.old.variables rest reader.old reader.new
         known.new out.old.items out.new.items r)
-        result (read_declarator reader.old.integers (line_at reader.old.text) reader.old.variables known.old
-        (declarator (name_of first.now) first.now.at i)) }
-    ensures shorter { OnOk result (length reader.new.ahead ≤ length reader.old.ahead) }
+        result (read_declarator reader.old.integers (line_at reader.old.text) reader.old.variables known.old (declarator x a i)) }
+    ensures shorter { OnOk result (length reader.new.ahead < length reader.old.ahead) }
 {
+    let scope = reader.scope(known);
+    let first = take_name(reader)?;
     known.fresh_array(first.name.bytes(), first.value, first.at)?;
     let mut extents = Vec::new(reader.alloc());
     sizes(reader, known, &mut extents)?;
     if has_assignment(reader) {
-        filled(reader, known, first.at, out)?;
+        let site = reader.site(first.at);
+        let all = filled(reader, &scope, site)?;
+        push_evaluated(known, site, first.at, all, out)?;
     }
     known.add_array(&first.name, extents)?;
     Ok(())

@@ -2,21 +2,21 @@
 
 ghost use Rattle.std.specs.Prelude.{◌≡◌, ◌<◌, ◌≤◌, ◌++◌, ◌∷◌, ℕ, List, length, OnOk};
 ghost use Rattle.lang_tokens.specs.Lines.{line_at};
-ghost use Rattle.source_grammar.specs.Tokens.{Token, token, change_sign, replaces};
-ghost use Rattle.source_grammar.specs.Grammar.{Expr, Groups, Initialiser, GoodInitialiser, bare, given};
+ghost use Rattle.source_grammar.specs.Tokens.{Name, Token, token, a_name, change_sign, replaces};
+ghost use Rattle.source_grammar.specs.Grammar.{Expr, Groups, bare, given};
 ghost use Rattle.source_grammar.specs.Grammar.{Declarator, GoodDeclarator};
 ghost use Rattle.source_grammar.specs.Grammar.{declarator, MoreDeclarators, GoodMoreDeclarators, Declarators, GoodDeclarators, spell_expr};
 ghost use Rattle.source_grammar.proofs.grammar.Follow.{AfterPart, AfterList};
 ghost use Rattle.source_meaning.specs.Statements.{read_declarator, read_more_declarators, read_declarators};
 ghost use Rattle.source_reader.specs.Answers.{Answers};
 ghost use Rattle.source_reader.specs.Reading.{first_kind};
-ghost use Rattle.source_change.specs.Onto.{onto_initialiser, onto_declarator, onto_more_declarators, onto_declarators};
+ghost use Rattle.source_change.specs.Onto.{onto_declarator, onto_more_declarators, onto_declarators};
 ghost use Rattle.source_change.specs.Tests.{WasRead, name_of};
 
 use crate::arrays::array;
 use crate::deeds::{Changed, counted_change};
 use crate::names::{Named, take_name};
-use crate::nexts::{Next, coming, has_comma};
+use crate::nexts::{Next, behind, has_comma};
 use crate::pushed::push_deeds;
 use lang_tree::Stmt;
 use source_expression::expression;
@@ -43,25 +43,20 @@ pub fn bare(
     Ok(())
 }
 
-// A name that is declared with the value behind its `=`.
-fn given(
-    reader: &mut Reader,
-    known: &mut Known,
-    first: &Named,
-    out: &mut Vec<Stmt>,
-) -> Result<(), Stop>
-    ensures reads { (b : ℕ) (e : Expr) (rest : List Token) → Groups 0 e → reader.old.ahead ≡ token (change_sign replaces) b ∷
-        (spell_expr e ++ rest)
-        → AfterPart (first_kind rest)
+// A name that is declared with the value behind its `=`, which comes behind it.
+fn given(reader: &mut Reader, known: &mut Known, out: &mut Vec<Stmt>) -> Result<(), Stop>
+    ensures reads { (x : Name) (a b : ℕ) (e : Expr) (rest : List Token) → Groups 0 e
+        → reader.old.ahead ≡ token (a_name x) a ∷ token (change_sign replaces) b ∷ (spell_expr e ++ rest) → AfterPart (first_kind rest)
         → Answers (λ _ r. WasRead reader.old.integers reader.old.variables rest reader.old reader.new
         known.new out.old.items out.new.items r)
-        result (read_declarator reader.old.integers (line_at reader.old.text) reader.old.variables known.old
-        (declarator (name_of first.now) first.now.at (given b e))) }
-    ensures shorter { OnOk result (length reader.new.ahead ≤ length reader.old.ahead) }
+        result (read_declarator reader.old.integers (line_at reader.old.text) reader.old.variables known.old (declarator x a (given b e))) }
+    ensures shorter { OnOk result (length reader.new.ahead < length reader.old.ahead) }
 {
+    let scope = reader.scope(known);
+    let first = take_name(reader)?;
     reader.skip();
     let site = reader.site(first.at);
-    let value = expression(reader, known, site, site.variables)?;
+    let value = expression(reader, &scope, site, site.variables)?;
     let var = known.add_variable(&first.name, first.value, first.at)?;
     let changed = Changed::Sets { var, value };
     let deeds = counted_change(reader.alloc(), known, site, first.at, changed)?;
@@ -69,26 +64,16 @@ fn given(
     Ok(())
 }
 
-// What stands behind a name that is declared.
-fn initialiser(
-    reader: &mut Reader,
-    known: &mut Known,
-    first: &Named,
-    out: &mut Vec<Stmt>,
-) -> Result<(), Stop>
-    ensures reads { (i : Initialiser) (rest : List Token) → GoodInitialiser i → reader.old.ahead ≡ onto_initialiser i rest
-        → AfterPart (first_kind rest)
+// A name that is declared alone.
+fn alone(reader: &mut Reader, known: &mut Known, out: &mut Vec<Stmt>) -> Result<(), Stop>
+    ensures reads { (x : Name) (a : ℕ) (rest : List Token) → reader.old.ahead ≡ token (a_name x) a ∷ rest
         → Answers (λ _ r. WasRead reader.old.integers reader.old.variables rest reader.old reader.new
         known.new out.old.items out.new.items r)
-        result (read_declarator reader.old.integers (line_at reader.old.text) reader.old.variables known.old
-        (declarator (name_of first.now) first.now.at i)) }
-    ensures shorter { OnOk result (length reader.new.ahead ≤ length reader.old.ahead) }
+        result (read_declarator reader.old.integers (line_at reader.old.text) reader.old.variables known.old (declarator x a bare)) }
+    ensures shorter { OnOk result (length reader.new.ahead < length reader.old.ahead) }
 {
-    match coming(reader) {
-        Next::Change(_) => given(reader, known, first, out),
-        Next::Bracket => array(reader, known, first, out),
-        _ => bare(reader, known, first, out),
-    }
+    let first = take_name(reader)?;
+    bare(reader, known, &first, out)
 }
 
 // A name that is declared.
@@ -100,8 +85,11 @@ fn declarator(reader: &mut Reader, known: &mut Known, out: &mut Vec<Stmt>) -> Re
         result (read_declarator reader.old.integers (line_at reader.old.text) reader.old.variables known.old x) }
     ensures shorter { OnOk result (length reader.new.ahead < length reader.old.ahead) }
 {
-    let first = take_name(reader)?;
-    initialiser(reader, known, &first, out)
+    match behind(reader) {
+        Next::Change(_) => given(reader, known, out),
+        Next::Bracket => array(reader, known, out),
+        _ => alone(reader, known, out),
+    }
 }
 
 // The names behind the first, each with its comma.

@@ -24,8 +24,7 @@ use crate::places::Target;
 use crate::ranges::ranged;
 use source_expression::expression;
 use source_grammar::{Change, Direction};
-use source_names::Known;
-use source_reader::{Reader, Stop};
+use source_reader::{Reader, Scope, Stop};
 use source_value::{Evaluated, Operation, Site, Value, operated};
 use std::alloc::Global;
 
@@ -88,22 +87,22 @@ pub(crate) fn stepped(
 }
 
 // What stands behind the `=` of an assignment to the place.
-fn replaced(reader: &mut Reader, known: &Known, site: Site, target: Target) -> Result<Changed, Stop>
+fn replaced(reader: &mut Reader, scope: &Scope, site: Site, target: Target) -> Result<Changed, Stop>
     ensures reads { (a : Aim) (sign : ℕ) (e : Expr) (rest : List Token) → StandsTarget site.integers site.variables site.line target a
         → Groups 0 e
         → reader.old.ahead ≡ spell_expr e ++ rest → AfterExpr (first_kind rest)
         → Answers (λ c h. StandsChange site.integers site.variables site.line c h × (reader.new ≡ at_tokens reader.old rest)) result
-        (done_to site.integers site.variables site.line known.now a (assigns g.replaces sign e)) }
+        (done_to site.integers site.variables site.line scope.now a (assigns g.replaces sign e)) }
     ensures shorter { OnOk result (length reader.new.ahead ≤ length reader.old.ahead) }
 {
     match target.var {
         Some(var) => {
-            let value = expression(reader, known, site, site.variables)?;
+            let value = expression(reader, scope, site, site.variables)?;
             Ok(Changed::Sets { var, value })
         }
         None => {
             let Target { old, .. } = target;
-            let value = expression(reader, known, site, old.next)?;
+            let value = expression(reader, scope, site, old.next)?;
             let all = Evaluated {
                 prelude: old.prelude,
                 next: old.next,
@@ -116,7 +115,7 @@ fn replaced(reader: &mut Reader, known: &Known, site: Site, target: Target) -> R
 // What stands behind the sign of an assignment by an operation; the sign stands at `sign`.
 fn joined(
     reader: &mut Reader,
-    known: &Known,
+    scope: &Scope,
     site: Site,
     target: Target,
     operation: Operation,
@@ -127,12 +126,12 @@ fn joined(
         → Some (operation_of operation) ≡ joined_by c
         → reader.old.ahead ≡ spell_expr e ++ rest → AfterExpr (first_kind rest)
         → Answers (λ c h. StandsChange site.integers site.variables site.line c h × (reader.new ≡ at_tokens reader.old rest)) result
-        (done_to site.integers site.variables site.line known.now a (assigns c sign e)) }
+        (done_to site.integers site.variables site.line scope.now a (assigns c sign e)) }
     ensures shorter { OnOk result (length reader.new.ahead ≤ length reader.old.ahead) }
 {
     let alloc = reader.alloc();
     let old = target.old.into_number(alloc, site)?;
-    let right = expression(reader, known, site, old.next)?;
+    let right = expression(reader, scope, site, old.next)?;
     let right = right.into_number(alloc, site)?;
     let value = ranged(operated(alloc, site, operation, sign, old, right), sign)?;
     Ok(change_to(target.var, value))
@@ -141,14 +140,14 @@ fn joined(
 // What is done to the place.
 pub(crate) fn effect(
     reader: &mut Reader,
-    known: &Known,
+    scope: &Scope,
     site: Site,
     target: Target,
 ) -> Result<Changed, Stop>
     ensures reads { (a : Aim) (f : Effect) (rest : List Token) → StandsTarget site.integers site.variables site.line target a → GoodEffect f
         → reader.old.ahead ≡ onto_effect f rest → AfterExpr (first_kind rest)
         → Answers (λ c h. StandsChange site.integers site.variables site.line c h × (reader.new ≡ at_tokens reader.old rest)) result
-        (done_to site.integers site.variables site.line known.now a f) }
+        (done_to site.integers site.variables site.line scope.now a f) }
     ensures shorter { OnOk result (length reader.new.ahead ≤ length reader.old.ahead) }
 {
     let what = coming(reader);
@@ -157,8 +156,8 @@ pub(crate) fn effect(
     match what {
         Next::Step(direction) => stepped(reader.alloc(), site, target, direction, sign),
         Next::Change(change) => match joined_by(change) {
-            Some(operation) => joined(reader, known, site, target, operation, sign),
-            None => replaced(reader, known, site, target),
+            Some(operation) => joined(reader, scope, site, target, operation, sign),
+            None => replaced(reader, scope, site, target),
         },
         _ => Err(Stop::Unlike),
     }

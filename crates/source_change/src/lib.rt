@@ -16,7 +16,7 @@ mod pushed;
 mod ranges;
 
 pub use arrays::sizes;
-pub use changes::{update, update_of, updates};
+pub use changes::{update, updates};
 pub use conditions::{Test, parenthesised, read_test};
 pub use declarations::{bare, declarators};
 pub use names::{Named, take_name};

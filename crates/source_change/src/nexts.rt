@@ -3,7 +3,7 @@
 ghost use Rattle.std.specs.Prelude.{◌≡◌};
 ghost use Rattle.std.specs.Option.{option_map};
 ghost use Rattle.source_grammar.specs.Symbols.{direction_of, symbol_kind};
-ghost use Rattle.source_reader.specs.Reading.{first_kind};
+ghost use Rattle.source_reader.specs.Reading.{behind_first, first_kind};
 ghost use Rattle.source_change.specs.Nexts.{begins_change, is_assignment, is_bracket, is_comma, next_in, next_of, step_in};
 
 use source_grammar::{Change, Direction, Symbol};
@@ -38,6 +38,13 @@ pub(crate) fn coming(reader: &Reader) -> Next
     ensures { next_of result ≡ next_in (first_kind reader.now.ahead) }
 {
     next_in(reader.symbol())
+}
+
+// What comes behind that.
+pub(crate) fn behind(reader: &Reader) -> Next
+    ensures { next_of result ≡ next_in (first_kind (behind_first reader.now.ahead)) }
+{
+    next_in(reader.second())
 }
 
 // Whether a comma comes next.

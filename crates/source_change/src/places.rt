@@ -16,8 +16,7 @@ ghost use Rattle.source_change.specs.Tests.{name_of};
 use crate::names::Named;
 use crate::nexts::{Next, coming};
 use source_expression::element;
-use source_names::Known;
-use source_reader::{Reader, Stop};
+use source_reader::{Reader, Scope, Stop};
 use source_value::{Site, Value};
 
 // A place: its value, which is any for an element, behind the check of its index; and its variable, if it is one.
@@ -30,7 +29,7 @@ pub(crate) struct Target {
 // The element of the array with this name, from its `[` on.
 fn read_element(
     reader: &mut Reader,
-    known: &Known,
+    scope: &Scope,
     site: Site,
     named: &Named,
 ) -> Result<Value, Stop>
@@ -38,20 +37,20 @@ fn read_element(
         → AfterPlace (first_kind rest)
         → Answers (λ v x. Stands site.variables v (elaborated site.integers site.line x site.variables) ×
         (reader.new ≡ at_tokens reader.old rest))
-        result (read_element site.integers site.variables site.line known.now (name_of named.now) named.now.at is) }
+        result (read_element site.integers site.variables site.line scope.now (name_of named.now) named.now.at is) }
     ensures shorter { OnOk result (length reader.new.ahead ≤ length reader.old.ahead) }
 {
     let count = reader.subscripts();
-    let extents = known.array(named.name.bytes(), named.value, named.at, count)?;
-    element(reader, known, site, site.variables, extents)
+    let extents = scope.array(named.name.bytes(), named.value, named.at, count)?;
+    element(reader, scope, site, site.variables, extents)
 }
 
 // The variable with this name.
-fn variable(reader: &Reader, known: &Known, site: Site, named: &Named) -> Result<Target, Stop>
+fn variable(reader: &Reader, scope: &Scope, site: Site, named: &Named) -> Result<Target, Stop>
     ensures { Answers (λ t a. StandsTarget site.integers site.variables site.line t a) result
-        (aim site.integers site.variables site.line known.now (name_of named.now) named.now.at Index.no_index) }
+        (aim site.integers site.variables site.line scope.now (name_of named.now) named.now.at Index.no_index) }
 {
-    let var = known.variable(named.name.bytes(), named.value, named.at)?;
+    let var = scope.variable(named.name.bytes(), named.value, named.at)?;
     Ok(Target {
         old: Value::variable(reader.alloc(), site, site.variables, var)?,
         var: Some(var),
@@ -61,20 +60,20 @@ fn variable(reader: &Reader, known: &Known, site: Site, named: &Named) -> Result
 // The place that begins with this name, behind it.
 pub(crate) fn place(
     reader: &mut Reader,
-    known: &Known,
+    scope: &Scope,
     site: Site,
     named: &Named,
 ) -> Result<Target, Stop>
     ensures reads { (i : Index) (rest : List Token) → GoodIndex i → reader.old.ahead ≡ onto_index i rest → AfterPlace (first_kind rest)
         → Answers (λ t a. StandsTarget site.integers site.variables site.line t a × (reader.new ≡ at_tokens reader.old rest)) result
-        (aim site.integers site.variables site.line known.now (name_of named.now) named.now.at i) }
+        (aim site.integers site.variables site.line scope.now (name_of named.now) named.now.at i) }
     ensures shorter { OnOk result (length reader.new.ahead ≤ length reader.old.ahead) }
 {
     match coming(reader) {
         Next::Bracket => Ok(Target {
-            old: read_element(reader, known, site, named)?,
+            old: read_element(reader, scope, site, named)?,
             var: None,
         }),
-        _ => variable(reader, known, site, named),
+        _ => variable(reader, scope, site, named),
     }
 }

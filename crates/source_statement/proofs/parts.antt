@@ -3,7 +3,6 @@ pub mod Starting
 pub mod Heads
 pub mod Pushes
 pub mod Updates
-pub mod Named
 pub mod Simple
 pub mod Demands
 pub mod Parameters

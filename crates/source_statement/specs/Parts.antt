@@ -1,16 +1,17 @@
 -- Parts of statements, each with what it may be followed by, and what it is.
 use Rattle.std.specs.Prelude.{◌≡◌, ◌+◌, ℕ, Bool, List, ◌∷◌, Result, Ok}
 use Rattle.source_grammar.specs.Tokens.{Name, Kind, else_word, Token, token}
-use Rattle.source_grammar.specs.Grammar.{Expr, Optional, Updates, ForFirst, Sub, Core, Items, GoodSub, GoodCore, GoodDeclarators, Ending}
-use Rattle.source_grammar.specs.Grammar.{shut, ending_sub, no_items, item}
+use Rattle.source_grammar.specs.Grammar.{Expr, Arguments, Optional, Updates, ForFirst, Sub, Core, Items, GoodSub, GoodCore}
+use Rattle.source_grammar.specs.Grammar.{GoodDeclarators, Ending, shut, ending_sub, no_items, item}
 use Rattle.source_grammar.specs.Grammar as tree
 use Rattle.source_grammar.proofs.grammar.Follow.{NotElse, AfterCore}
-use Rattle.source_tree.specs.Expressions.{Expression}
+use Rattle.source_tree.specs.Expressions.{Expression, Expressions}
 use Rattle.source_tree.specs.Statements.{Change, Statements, nil, branch, label}
 use Rattle.source_meaning.specs.declared.fault.FunctionFault.{FunctionFault}
 use Rattle.source_meaning.specs.Results.{◌>>=◌}
-use Rattle.source_meaning.specs.Names.{State}
+use Rattle.source_meaning.specs.Names.{State, as_called, thing_of}
 use Rattle.source_meaning.specs.Limits.{counted}
+use Rattle.source_meaning.specs.Expressions.{read_arguments}
 use Rattle.source_meaning.specs.Statements.{read_condition, prelude_of, read_sub, read_core, read_declarators, read_first, read_test}
 use Rattle.source_meaning.specs.Statements.{read_updates, new_label, one}
 use Rattle.source_statement.specs.Onto.{onto_sub}
@@ -35,6 +36,10 @@ GoodOther s (other d t) = (ending_sub s ≡ shut) × GoodSub t
 abbrev pub AfterOther : Other → Kind → Type 0
 AfterOther no_other k = NotElse k
 AfterOther (other d t) k = AfterCore (ending_sub t) k
+
+-- the arguments of the call of this name at this place, in this line over n variables, where the name may be called
+abbrev pub read_given : (integers : Integers) (line n : ℕ) → State → Name → (at : ℕ) → Arguments → Result Expressions FunctionFault
+read_given integers line n st x at es = as_called at (thing_of x st) es >>= λ es. read_arguments integers line st es n
 
 module _ (integers : Integers) (line : ℕ → ℕ) (n : ℕ) where
   -- what stands behind an `else`, with its names resolved
@@ -91,3 +96,10 @@ IsSimple (tree.demands k a b e c d) = Unit {0}
 IsSimple (tree.calls x a b es c d) = Unit {0}
 IsSimple (tree.updates u c) = Unit {0}
 IsSimple _ = ⊥
+
+-- and begins with a name
+abbrev pub IsNamed : Core → Type 0
+IsNamed (tree.calls x a b es c d) = Unit {0}
+IsNamed (tree.updates (tree.update p f) c) = Unit {0}
+IsNamed (tree.updates (tree.step_before d a p) c) = ⊥
+IsNamed _ = ⊥

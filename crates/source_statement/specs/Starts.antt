@@ -1,8 +1,9 @@
 -- What may come next where statements are read.
-use Rattle.std.specs.Prelude.{Bool, true, false}
+use Rattle.std.specs.Prelude.{Bool, true, false, List}
 use Rattle.source_grammar.specs.Tokens as g
-use Rattle.source_grammar.specs.Tokens.{Kind}
+use Rattle.source_grammar.specs.Tokens.{Kind, Token}
 use Rattle.source_grammar.specs.Symbols.{jump_of, demand_of}
+use Rattle.source_reader.specs.Reading.{behind_first, first_kind}
 use Rattle.source_statement.specs.declared.starts.Start.{Start}
 use Rattle.source_statement.specs.declared.starts.Start.TheVariants as start
 
@@ -81,6 +82,16 @@ start_of start.Comma = a_comma
 start_of start.Closing = a_closing
 start_of start.Storage = a_storage
 start_of start.Other = another
+
+-- whether a label begins with these two
+abbrev pub is_label : Begins → Begins → Bool
+is_label a_name a_colon = true
+is_label a_name b = false
+is_label a b = false
+
+-- whether a label comes first among tokens
+abbrev pub begins_label : List Token → Bool
+begins_label ts = is_label (start_in (first_kind ts)) (start_in (first_kind (behind_first ts)))
 
 -- whether a `}` does
 abbrev pub is_closing : Begins → Bool

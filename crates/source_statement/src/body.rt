@@ -2,13 +2,13 @@
 
 ghost use Rattle.std.specs.Prelude.{◌≡◌, ◌<◌, ◌≤◌, ◌∷◌, ℕ, Bool, List, Ok, length, OnOk};
 ghost use Rattle.lang_tokens.specs.Lines.{line_at};
-ghost use Rattle.source_grammar.specs.Tokens.{Token, token, colon, else_word};
+ghost use Rattle.source_grammar.specs.Tokens.{Name, Token, token, a_name, colon, else_word};
 ghost use Rattle.source_grammar.specs.Grammar.{Core, GoodCore, Sub, GoodSub, ending_core, ending_sub};
 ghost use Rattle.source_grammar.proofs.grammar.Follow.{AfterCore};
 ghost use Rattle.source_meaning.specs.Statements.{read_core, read_sub};
 ghost use Rattle.source_reader.specs.Answers.{Answers};
 ghost use Rattle.source_reader.specs.Reading.{first_kind};
-ghost use Rattle.source_change.specs.Tests.{WasRead, name_of};
+ghost use Rattle.source_change.specs.Tests.{WasRead};
 ghost use Rattle.source_statement.specs.Headed.{WasBlock};
 ghost use Rattle.source_statement.specs.Onto.{onto_core, onto_sub};
 ghost use Rattle.source_statement.specs.Parts.{Other, onto_other, GoodOther, AfterOther, read_label, read_other};
@@ -16,26 +16,22 @@ ghost use Rattle.source_statement.specs.Parts.{Other, onto_other, GoodOther, Aft
 use crate::branch::branch;
 use crate::items::block;
 use crate::loops::{do_loop, for_loop, while_loop};
-use crate::simple::{named_statement, simple};
-use crate::starts::{Start, coming};
+use crate::simple::simple;
+use crate::starts::{Start, coming, has_label};
 use lang_tree::{Block, Stmt};
-use source_change::{Named, take_name};
+use source_change::take_name;
 use source_names::Known;
 use source_reader::{Mark, Reader, Stop};
 
-// The label with this name, whose `:` comes next.
-pub(crate) fn label(
-    reader: &mut Reader,
-    known: &mut Known,
-    first: Named,
-    out: &mut Vec<Stmt>,
-) -> Result<(), Stop>
-    ensures reads { (b : ℕ) (rest : List Token) → reader.old.ahead ≡ token colon b ∷ rest
+// The label that comes next, and its `:`.
+pub(crate) fn label(reader: &mut Reader, known: &mut Known, out: &mut Vec<Stmt>) -> Result<(), Stop>
+    ensures reads { (x : Name) (a b : ℕ) (rest : List Token) → reader.old.ahead ≡ token (a_name x) a ∷ token colon b ∷ rest
         → Answers (λ _ r. WasRead reader.old.integers reader.old.variables rest reader.old reader.new
         known.new out.old.items out.new.items r) result
-        (read_label reader.old.integers (line_at reader.old.text) reader.old.variables known.old (name_of first) first.at) }
+        (read_label reader.old.integers (line_at reader.old.text) reader.old.variables known.old x a) }
     ensures shorter { OnOk result (length reader.new.ahead < length reader.old.ahead) }
 {
+    let first = take_name(reader)?;
     reader.take(Mark::Colon)?;
     known.add_label(&first.name, first.at)?;
     out.push(Stmt::Label {
@@ -85,18 +81,11 @@ pub(crate) fn sub(
         result (read_sub reader.old.integers (line_at reader.old.text) reader.old.variables inside known.old s) }
     ensures shorter { OnOk result (length reader.new.ahead < length reader.old.ahead) }
 {
-    match coming(reader) {
-        Start::Name => {
-            let first = take_name(reader)?;
-            match coming(reader) {
-                Start::Colon => {
-                    label(reader, known, first, out)?;
-                    sub(reader, known, inside, out)
-                }
-                _ => named_statement(reader, known, &first, out),
-            }
-        }
-        _ => core(reader, known, inside, out),
+    if has_label(reader) {
+        label(reader, known, out)?;
+        sub(reader, known, inside, out)
+    } else {
+        core(reader, known, inside, out)
     }
 }
 

@@ -13,10 +13,9 @@ ghost use Rattle.source_statement.specs.Parts.{GoodOne, others, read_one};
 
 use crate::body::{core, label};
 use crate::parameters::pass_type;
-use crate::simple::named_statement;
-use crate::starts::{Start, coming, is_closing};
+use crate::starts::{Start, coming, has_label, is_closing};
 use lang_tree::Stmt;
-use source_change::{declarators, take_name};
+use source_change::declarators;
 use source_names::Known;
 use source_reader::{Mark, Reader, Stop};
 
@@ -51,15 +50,11 @@ fn item(
         result (read_one reader.old.integers (line_at reader.old.text) reader.old.variables inside known.old is) }
     ensures shorter { OnOk result (length reader.new.ahead < length reader.old.ahead) }
 {
+    if has_label(reader) {
+        return label(reader, known, out);
+    }
     match coming(reader) {
         Start::Type => declaration(reader, known, out),
-        Start::Name => {
-            let first = take_name(reader)?;
-            match coming(reader) {
-                Start::Colon => label(reader, known, first, out),
-                _ => named_statement(reader, known, &first, out),
-            }
-        }
         _ => core(reader, known, inside, out),
     }
 }

@@ -74,8 +74,9 @@ fn returned(
     if let Start::Semicolon = coming(reader) {
         return Ok(());
     }
+    let scope = reader.scope(known);
     let site = reader.site(at);
-    let value = expression(reader, known, site, site.variables)?;
+    let value = expression(reader, &scope, site, site.variables)?;
     let all = Evaluated {
         prelude: value.prelude,
         next: value.next,

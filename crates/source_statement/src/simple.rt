@@ -4,24 +4,24 @@ ghost use Rattle.std.specs.Prelude.{◌≡◌, ◌<◌, ◌≤◌, ◌∷◌, �
 ghost use Rattle.lang_tokens.specs.Lines.{line_at};
 ghost use Rattle.lang_tree.specs.Tree.{nil};
 ghost use Rattle.lang_tree.specs.View.{deeds_of, statements_of};
-ghost use Rattle.source_grammar.specs.Tokens.{Token, token, a_name, semicolon};
+ghost use Rattle.source_grammar.specs.Tokens.{Token, token, semicolon};
 ghost use Rattle.source_grammar.specs.Grammar.{Core, GoodCore, Update, GoodUpdate, updates};
 ghost use Rattle.source_core.specs.Core.{followed_by, behind};
 ghost use Rattle.source_meaning.specs.Statements.{read_core};
 ghost use Rattle.source_reader.specs.Answers.{Answers};
-ghost use Rattle.source_change.specs.Tests.{WasRead, name_of};
+ghost use Rattle.source_change.specs.Tests.{WasRead};
 ghost use Rattle.source_statement.specs.Onto.{onto_core};
 ghost use Rattle.source_statement.specs.Headed.{no_fault};
-ghost use Rattle.source_statement.specs.Parts.{IsSimple};
+ghost use Rattle.source_statement.specs.Parts.{IsNamed, IsSimple};
 ghost use Rattle.source_change.specs.Onto.{onto_update};
 ghost use Rattle.source_reader.specs.Reading.{at_tokens};
 
 use crate::call::call;
 use crate::demand::demand;
 use crate::jump::{jump, return_statement};
-use crate::starts::{Start, coming};
+use crate::starts::{Start, behind, coming};
 use lang_tree::{Deed, Stmt};
-use source_change::{Named, push_deeds, take_name, update, update_of};
+use source_change::{push_deeds, update};
 use source_names::Known;
 use source_reader::{Mark, Reader, Stop};
 
@@ -38,29 +38,6 @@ fn push_update(reader: &mut Reader, deeds: Vec<Deed>, out: &mut Vec<Stmt>) -> Re
     Ok(())
 }
 
-// The statement without labels that begins with this name, behind it: a call or a change.
-pub(crate) fn named_statement(
-    reader: &mut Reader,
-    known: &mut Known,
-    first: &Named,
-    out: &mut Vec<Stmt>,
-) -> Result<(), Stop>
-    ensures reads { (inside : Bool) (c : Core) (rest : List Token) → GoodCore c
-        → token (a_name (name_of first.now)) first.now.at ∷ reader.old.ahead ≡ onto_core c rest
-        → Answers (λ _ r. WasRead reader.old.integers reader.old.variables rest reader.old reader.new
-        known.new out.old.items out.new.items r)
-        result (read_core reader.old.integers (line_at reader.old.text) reader.old.variables inside known.old c) }
-    ensures shorter { OnOk result (length reader.new.ahead ≤ length reader.old.ahead) }
-{
-    match coming(reader) {
-        Start::Paren => call(reader, known, first, out),
-        _ => {
-            let deeds = update_of(reader, known, first)?;
-            push_update(reader, deeds, out)
-        }
-    }
-}
-
 // A change and its `;`.
 fn update_statement(reader: &mut Reader, known: &mut Known, out: &mut Vec<Stmt>) -> Result<(), Stop>
     ensures reads { (inside : Bool) (u : Update) (c : ℕ) (rest : List Token) → GoodUpdate u
@@ -72,6 +49,20 @@ fn update_statement(reader: &mut Reader, known: &mut Known, out: &mut Vec<Stmt>)
 {
     let deeds = update(reader, known)?;
     push_update(reader, deeds, out)
+}
+
+// A statement without labels that begins with a name: a call or a change.
+fn named_statement(reader: &mut Reader, known: &mut Known, out: &mut Vec<Stmt>) -> Result<(), Stop>
+    ensures reads { (inside : Bool) (c : Core) (rest : List Token) → IsNamed c → GoodCore c → reader.old.ahead ≡ onto_core c rest
+        → Answers (λ _ r. WasRead reader.old.integers reader.old.variables rest reader.old reader.new
+        known.new out.old.items out.new.items r)
+        result (read_core reader.old.integers (line_at reader.old.text) reader.old.variables inside known.old c) }
+    ensures shorter { OnOk result (length reader.new.ahead < length reader.old.ahead) }
+{
+    match behind(reader) {
+        Start::Paren => call(reader, known, out),
+        _ => update_statement(reader, known, out),
+    }
 }
 
 // A statement without labels, and without statements in it.
@@ -95,10 +86,7 @@ pub(crate) fn simple(
         Start::Jump(which) => jump(reader, known, inside, which, out),
         Start::Return => return_statement(reader, known, out),
         Start::Demand(which) => demand(reader, known, which, out),
-        Start::Name => {
-            let first = take_name(reader)?;
-            named_statement(reader, known, &first, out)
-        }
+        Start::Name => named_statement(reader, known, out),
         _ => update_statement(reader, known, out),
     }
 }

@@ -3,7 +3,7 @@
 ghost use Rattle.std.specs.Prelude.{◌≡◌};
 ghost use Rattle.source_grammar.specs.Symbols.{symbol_kind};
 ghost use Rattle.source_reader.specs.Reading.{behind_first, first_kind};
-ghost use Rattle.source_statement.specs.Starts.{closes, is_closing, is_const, start_in, start_of};
+ghost use Rattle.source_statement.specs.Starts.{begins_label, closes, is_closing, is_const, is_label, start_in, start_of};
 
 use source_grammar::{Demand, Jump, Op, Symbol};
 use source_reader::Reader;
@@ -69,6 +69,29 @@ pub(crate) fn coming(reader: &Reader) -> Start
     ensures { start_of result ≡ start_in (first_kind reader.now.ahead) }
 {
     start_in(reader.symbol())
+}
+
+// What comes behind that.
+pub(crate) fn behind(reader: &Reader) -> Start
+    ensures { start_of result ≡ start_in (first_kind (behind_first reader.now.ahead)) }
+{
+    start_in(reader.second())
+}
+
+fn is_label(first: Start, second: Start) -> bool
+    ensures { result ≡ is_label (start_of first) (start_of second) }
+{
+    match first {
+        Start::Name => matches!(second, Start::Colon),
+        _ => false,
+    }
+}
+
+// Whether a label comes next: a name with a colon behind it.
+pub(crate) fn has_label(reader: &Reader) -> bool
+    ensures { result ≡ begins_label reader.now.ahead }
+{
+    is_label(coming(reader), behind(reader))
 }
 
 // Whether a `}` comes next.

@@ -9,6 +9,7 @@ use Rattle.lang_tree.specs.declared.limits.TheConstants.{MOST_VARIABLES}
 use Rattle.source_grammar.specs.Tokens as g
 use Rattle.source_grammar.specs.Tokens.{Name, Jump, Demand}
 use Rattle.source_grammar.specs.Expressions.{Expr}
+use Rattle.source_grammar.specs.Grammar.{spell_expr}
 use Rattle.source_grammar.specs.Grammar.{Size, number_size, name_size, Sizes, last_size, next_size, Bounds, sized_bounds}
 use Rattle.source_grammar.specs.Grammar.{open_bound, open_bounds}
 use Rattle.source_tree.specs.Expressions.{Expression}
@@ -22,7 +23,7 @@ use Rattle.source_meaning.specs.declared.fault.Limit.TheVariants as limit
 use Rattle.source_meaning.specs.Results.{provided}
 use Rattle.source_meaning.specs.Names.{Thing, Named, State, declared, thing_of, fresh, with_name, as_variable_again, with_variable}
 use Rattle.source_meaning.specs.Names.{as_array_again}
-use Rattle.source_meaning.specs.Names.{fresh_array}
+use Rattle.source_meaning.specs.Names.{fresh_array, among}
 use Rattle.source_meaning.specs.Names as names
 use Rattle.source_meaning.specs.Arrays.{sized_by, sized_by_name, read_size, read_sizes, read_bounds}
 use Rattle.source_meaning.specs.Limits.{is_small_deed, counted}
@@ -32,9 +33,10 @@ use Rattle.source_meaning.specs.Statements.{call_of, read_condition, prelude_of}
 use Rattle.acsl_shift.specs.Sources.{expression_without, change_without, statement_without, without_places}
 use Rattle.acsl_shift.proofs.moves.Trees.{move_expr, move_size, move_sizes, move_bounds}
 use Rattle.acsl_shift.proofs.moves.Twice.{nowhere}
+use Rattle.acsl_shift.proofs.moves.Spelled.{spelled_expr}
 use Rattle.acsl_shift.proofs.moves.Deeds.{bare_length, bare_small}
 use Rattle.acsl_shift.proofs.moves.Seen.{Seen, Same, seen_then, seen_provided, seen_limited, seen_counted}
-use Rattle.acsl_shift.proofs.moves.Read.{first_nowhere, seen_condition, seen_read}
+use Rattle.acsl_shift.proofs.moves.Read.{first_nowhere, seen_condition, seen_read_among}
 use Rattle.acsl_shift.proofs.moves.Cores.{condition_same}
 use Rattle.acsl_shift.proofs.moves.Changed.{beside}
 use Rattle.base_integers.specs.declared.integers.Integers.{Integers}
@@ -198,8 +200,10 @@ module _ (integers : Integers) (line : ℕ → ℕ) (n : ℕ) where
   pub seen_tested : (st : State) (at : ℕ) (e : Expr)
       → Seen expression_without (read_condition integers line n st at e) (read_condition integers nowhere n st 0 (move_expr nowhere e))
   seen_tested st at e =
-      seen_then expression_without expression_without (read integers (line at) st e n) (read integers 0 st (move_expr nowhere e) n) _ _
-      (seen_read integers (line at) st e n) (λ x.
+      let now = spell_expr (move_expr nowhere e) in
+      seen_then expression_without expression_without (read integers (line at) (among (spell_expr e) st) e n)
+      (read integers 0 (among now st) (move_expr nowhere e) n) _ _
+      (seen_read_among integers (line at) st (spell_expr e) now e n (spelled_expr nowhere e).same) (λ x.
       seen_then expression_without expression_without (as_condition integers (line at) (first_of e) n x)
       (as_condition integers 0 (first_of (move_expr nowhere e)) n (expression_without x)) _ _
       (seen_condition integers (line at) (first_of e) (first_of (move_expr nowhere e)) n x (first_nowhere e)) (λ x.

@@ -45,8 +45,9 @@ use Rattle.acsl_shift.proofs.moves.Trees.{move_subscripts, move_size, move_sizes
 use Rattle.acsl_shift.proofs.moves.Trees.{move_bounds, move_parameter}
 
 -- tokens, and the same at other places
-record Moved (to : ℕ → ℕ) (tokens now : List Token) : Type 0 where
-  same : now ≡ moved to tokens
+pub record Moved (to : ℕ → ℕ) (tokens now : List Token) : Type 0 where
+  -- they are those tokens
+  pub same : now ≡ moved to tokens
 
 module _ (to : ℕ → ℕ) where
   -- no tokens
@@ -64,7 +65,7 @@ module _ (to : ℕ → ℕ) where
   -- ---- spelling
   mutual
     -- an expression
-    spelled_expr : (x : Expr) → Moved to (spell_expr x) (spell_expr (move_expr to x))
+    pub spelled_expr : (x : Expr) → Moved to (spell_expr x) (spell_expr (move_expr to x))
     spelled_expr (number n a) = behind (token (a_number n) a) none
     spelled_expr (variable x a) = behind (token (a_name x) a) none
     spelled_expr (element x a is) = behind (token (a_name x) a) (spelled_subscripts is)
@@ -116,7 +117,7 @@ module _ (to : ℕ → ℕ) where
   spelled_effect (steps g a) = behind (token (step_sign g) a) none
 
   -- a change
-  spelled_update : (x : Update) → Moved to (spell_update x) (spell_update (move_update to x))
+  pub spelled_update : (x : Update) → Moved to (spell_update x) (spell_update (move_update to x))
   spelled_update (update p f) = after (spelled_place p) (spelled_effect f)
   spelled_update (step_before g a p) = behind (token (step_sign g) a) (spelled_place p)
 
@@ -167,7 +168,7 @@ module _ (to : ℕ → ℕ) where
       (behind (token left_brace b) (after (spelled_values vs) (behind (token right_brace c) none))))
 
   -- a name that is declared
-  spelled_declarator : (x : Declarator) → Moved to (spell_declarator x) (spell_declarator (move_declarator to x))
+  pub spelled_declarator : (x : Declarator) → Moved to (spell_declarator x) (spell_declarator (move_declarator to x))
   spelled_declarator (declarator x a i) = behind (token (a_name x) a) (spelled_initialiser i)
 
   -- the names behind the first

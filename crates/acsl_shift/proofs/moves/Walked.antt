@@ -9,6 +9,7 @@ use Rattle.source_grammar.specs.Grammar.{bare, given, sized, filled, Declarator,
 use Rattle.source_grammar.specs.Grammar.{last_declarator, next_declarator, Declarators, ForFirst, declared_first, updated_first}
 use Rattle.source_grammar.specs.Grammar.{Core, Sub, Items, empty, block, if_alone, if_else, repeat, repeat_after, repeat_for, jumps}
 use Rattle.source_grammar.specs.Grammar.{demands, calls, updates, labelled, plain, no_items, item}
+use Rattle.source_grammar.specs.Grammar.{spell_expr, spell_declarator}
 use Rattle.source_grammar.specs.Grammar as tree
 use Rattle.source_tree.specs.Expressions.{Expression, none, more}
 use Rattle.source_tree.specs.Statements.{Change, sets, evaluates, for_loop, Statement, Statements}
@@ -16,7 +17,7 @@ use Rattle.source_tree.specs.Statements.{loop, jump}
 use Rattle.source_core.specs.Core.{taken_any, change_deeds, core_in, core_of}
 use Rattle.source_meaning.specs.declared.fault.FunctionFault.{FunctionFault}
 use Rattle.source_meaning.specs.Results.{◌>>=◌}
-use Rattle.source_meaning.specs.Names.{State, with_variable, declared_number, fresh_array, closed, thing_of, as_called}
+use Rattle.source_meaning.specs.Names.{State, with_variable, declared_number, fresh_array, closed, thing_of, as_called, among}
 use Rattle.source_meaning.specs.Arrays.{read_sizes}
 use Rattle.source_meaning.specs.Limits.{counted}
 use Rattle.source_meaning.specs.Expressions.{read, read_arguments, read_values}
@@ -31,7 +32,9 @@ use Rattle.acsl_shift.proofs.moves.Trees.{move_declarator, move_more_declarators
 use Rattle.acsl_shift.proofs.moves.Trees.{move_items, move_sizes, move_values}
 use Rattle.acsl_shift.proofs.moves.Twice.{nowhere}
 use Rattle.acsl_shift.proofs.moves.Seen.{Seen, seen_ok, seen_then, seen_counted}
-use Rattle.acsl_shift.proofs.moves.Read.{seen_called, seen_read, seen_arguments, seen_values}
+use Rattle.acsl_shift.proofs.moves.Spelled.{spelled_expr, spelled_declarator}
+use Rattle.acsl_shift.proofs.moves.Around.{from_around}
+use Rattle.acsl_shift.proofs.moves.Read.{seen_called, seen_read_among, seen_arguments, seen_values}
 use Rattle.acsl_shift.proofs.moves.Cores.{any_length, deeds_length, node_same, nodes_in_same}
 use Rattle.acsl_shift.proofs.moves.Changed.{beside, seen_few, seen_update}
 use Rattle.acsl_shift.proofs.moves.Parts.{followed_without, as_statements_without, demand_without, jump_without, call_without, lines}
@@ -63,8 +66,11 @@ module _ (integers : Integers) (line : ℕ → ℕ) (n : ℕ) where
       (counted 0 (length (taken_any integers i 0)) now) _ _
       (seen_counted at _ _ now (any_length integers i (line at))) (λ now. record { same = refl }))
   seen_declarator st (declarator x at (given b e)) =
-      seen_then expression_without lines (read integers (line at) st e n) (read integers 0 st (move_expr nowhere e) n) _ _
-      (seen_read integers (line at) st e n) (λ e.
+      let ts = spell_declarator (declarator x at (given b e)) in
+      let now = spell_declarator (move_declarator nowhere (declarator x at (given b e))) in
+      seen_then expression_without lines (read integers (line at) (among ts st) e n)
+      (read integers 0 (among now st) (move_expr nowhere e) n) _ _
+      (seen_read_among integers (line at) st ts now e n (spelled_declarator nowhere (declarator x at (given b e))).same) (λ e.
       seen_then (λ z. z) lines (with_variable x at st) (with_variable x 0 st) _ _ (seen_with_variable x at st) (λ now.
       let g : Change = sets (declared_number now) e (line at) in
       seen_then (λ z. z) lines (few integers n (line at) at g now) (few integers n 0 0 (change_without g) now) _ _
@@ -77,10 +83,15 @@ module _ (integers : Integers) (line : ℕ → ℕ) (n : ℕ) where
       seen_then (λ z. z) lines (read_sizes now ss) (read_sizes now (move_sizes nowhere ss)) _ _ (seen_sizes now ss)
       (λ extents. record { same = refl }))
   seen_declarator st (declarator x at (filled ss a b vs c)) =
+      let ts = spell_declarator (declarator x at (filled ss a b vs c)) in
+      let after = spell_declarator (move_declarator nowhere (declarator x at (filled ss a b vs c))) in
       seen_then (λ z. z) lines (fresh_array x at st) (fresh_array x 0 st) _ _ (seen_fresh_array x at st) (λ now.
       seen_then (λ z. z) lines (read_sizes now ss) (read_sizes now (move_sizes nowhere ss)) _ _ (seen_sizes now ss) (λ extents.
-      seen_then expressions_without lines (read_values integers (line at) now vs n) (read_values integers 0 now (move_values nowhere vs) n)
-      _ _ (seen_values integers (line at) now vs n) (λ es.
+      seen_then expressions_without lines (read_values integers (line at) (among ts now) vs n)
+      (read_values integers 0 (among after now) (move_values nowhere vs) n) _ _
+      (from_around expressions_without (read_values integers (line at) (among ts now) vs n)
+      (λ z. read_values integers 0 z (move_values nowhere vs) n) ts after now
+      (spelled_declarator nowhere (declarator x at (filled ss a b vs c))).same (seen_values integers (line at) (among ts now) vs n)) (λ es.
       seen_then lines lines (read_evaluated integers line n now at (evaluates es (line at)))
       (read_evaluated integers nowhere n now 0 (evaluates (expressions_without es) 0)) _ _ (seen_value now at (evaluates es (line at)))
       (λ r. record { same = refl }))))
@@ -158,8 +169,10 @@ module _ (integers : Integers) (line : ℕ → ℕ) (n : ℕ) where
       → Seen lines (read_returned integers line n st at t) (read_returned integers nowhere n st 0 (move_optional nowhere t))
   seen_returned st at absent = record { same = refl }
   seen_returned st at (present e) =
-      seen_then expression_without lines (read integers (line at) st e n) (read integers 0 st (move_expr nowhere e) n) _ _
-      (seen_read integers (line at) st e n)
+      let now = spell_expr (move_expr nowhere e) in
+      seen_then expression_without lines (read integers (line at) (among (spell_expr e) st) e n)
+      (read integers 0 (among now st) (move_expr nowhere e) n) _ _
+      (seen_read_among integers (line at) st (spell_expr e) now e n (spelled_expr nowhere e).same)
       (λ x. seen_value st at (evaluates (more x none) (line at)))
 
   -- ---- statements
@@ -254,9 +267,13 @@ module _ (integers : Integers) (line : ℕ → ℕ) (n : ℕ) where
         seen_then (λ (z : Arguments). move_arguments nowhere z) lines (as_called at (thing_of x st) es)
         (as_called 0 (thing_of x st) (move_arguments nowhere es)) _ _
         (seen_called (λ (z : Arguments). move_arguments nowhere z) at (thing_of x st) es) (λ es.
-        seen_then expressions_without lines (read_arguments integers (line at) st es n)
-        (read_arguments integers 0 st (move_arguments nowhere es) n) _ _
-        (seen_arguments integers (line at) st es n) (λ es.
+        let ts = spell_expr (tree.call x at b es c) in
+        let now = spell_expr (move_expr nowhere (tree.call x at b es c)) in
+        seen_then expressions_without lines (read_arguments integers (line at) (among ts st) es n)
+        (read_arguments integers 0 (among now st) (move_arguments nowhere es) n) _ _
+        (from_around expressions_without (read_arguments integers (line at) (among ts st) es n)
+        (λ z. read_arguments integers 0 z (move_arguments nowhere es) n) ts now st (spelled_expr nowhere (tree.call x at b es c)).same
+        (seen_arguments integers (line at) (among ts st) es n)) (λ es.
         seen_then lines lines (read_evaluated integers line n st at (evaluates es (line at)))
         (read_evaluated integers nowhere n st 0 (evaluates (expressions_without es) 0)) _ _ (seen_value st at (evaluates es (line at)))
         (λ r.

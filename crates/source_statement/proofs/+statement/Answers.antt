@@ -7,7 +7,7 @@ use Rattle.lang_tree.specs.View.{deeds_of, statements_of}
 use Rattle.lang_tree.specs.declared.stmt.Stmt.TheVariants as code
 use Rattle.source_grammar.specs.Tokens.{Token, token, for_word, left_brace, right_brace}
 use Rattle.source_grammar.specs.Grammar.{Core, ending_core, Sub, GoodSub, ending_sub, Items, labelled, plain}
-use Rattle.source_grammar.specs.Grammar.{repeat_for, no_items, label, declaration, item}
+use Rattle.source_grammar.specs.Grammar.{repeat_for, no_items, label, declaration, item, plain_int, const_int}
 use Rattle.source_grammar.proofs.grammar.Follow.{AfterCore}
 use Rattle.source_tree.specs.Statements.{nil}
 use Rattle.source_meaning.specs.Names.{State}
@@ -20,20 +20,19 @@ use Rattle.source_statement.specs.Headed.{WasBlock}
 use Rattle.source_statement.specs.Onto.{onto_core, onto_sub, onto_items}
 use Rattle.source_statement.specs.Parts.{Other, no_other, other, onto_other, AfterOther, read_other, GoodOne, others}
 use Rattle.source_statement.specs.Parts.{read_one}
-use Rattle.source_statement.specs.Starts.{start_in, start_of, is_closing}
+use Rattle.source_statement.specs.Starts.{begins_label, start_in, start_of, is_closing}
 use Rattle.source_statement.specs.Starts as s
 use Rattle.source_statement.proofs.left.Items.{all_left, none_left}
 use Rattle.source_statement.proofs.left.Turns.{turn, turn_fault}
-use Rattle.source_statement.proofs.steps.Begun.{at_block, at_if, at_while, at_do, at_for, is_simple, never_type, no_else_in}
-use Rattle.source_statement.proofs.steps.Labels.{label_fault, label_read, labelled_read, named_read, no_name, colon_not, colon_is, on_ok}
+use Rattle.source_statement.proofs.steps.Begun.{at_block, at_if, at_while, at_do, at_for, is_simple, never_type, no_else_in, no_label}
+use Rattle.source_statement.proofs.steps.Labels.{label_fault, labelled_read}
 use Rattle.source_statement.proofs.steps.Moved.{CoreReads, come_to, passed_is, may_end}
 use Rattle.source_statement.proofs.steps.Repeats.{head_rest, for_head_fault, for_body_fault, for_read}
 use Rattle.source_statement.proofs.steps.Doing.{do_body, do_test, do_end, do_count, do_all}
 use Rattle.source_statement.proofs.steps.Loops.{block_fault, block_read}
 use Rattle.source_statement.proofs.steps.Promised.{while_test, while_count, while_body, while_all, if_test, if_count, if_first, if_second}
 use Rattle.source_statement.proofs.steps.Promised.{if_all}
-use Rattle.source_statement.proofs.steps.Said.{says_block, says_if, says_while, says_do, says_for, says_else, says_colon, says_name}
-use Rattle.source_statement.proofs.steps.Said.{says_type}
+use Rattle.source_statement.proofs.steps.Said.{says_block, says_if, says_while, says_do, says_for, says_else, says_type}
 use Rattle.source_statement.proofs.parts.Starting.{type_begins}
 use Rattle.source_statement.proofs.+statement.Goals as goal
 
@@ -329,87 +328,68 @@ body::other-returns-in_default t c = record {
       absurd (c.in_default.not-Else (says_else c.coming.result (c.coming.ensures ∙ ap (λ ts. start_in (first_kind ts)) q)))
 
 -- ---- a statement with its labels
-pub body::sub-returns-in_err-first-in-Name-clause-reads : goal.body::sub-returns-in_err-first-in-Name-clause-reads
-body::sub-returns-in_err-first-in-Name-clause-reads t c = λ x rest g q f.
-    let old : Reading = c.args.reader.now in
-    no_name {C = Unit {0}} (λ _ r. WasRead old.integers old.variables rest old c.take_name.new.reader c.args.known.now c.args.out.now.items
-    c.args.out.now.items r) old c.take_name.new.reader c.from_residual.result c.in_err-first-in-Name.field-0.0
-    (read_sub old.integers (line_at old.text) old.variables c.args.inside c.args.known.now x)
-    (sym c.coming.ensures ∙ ap start_of c.in-Name.is) c.in_err-first-in-Name.ensures.reads c.from_residual.ensures.1
+pub body::sub-returns-in_err-label-clause-reads : goal.body::sub-returns-in_err-label-clause-reads
+body::sub-returns-in_err-label-clause-reads t c = λ x rest g q f. on x rest q where
+  begun : begins_label c.args.reader.now.ahead ≡ true
+  begun = search rules
 
-pub body::sub-returns-in_err-label-in-Colon-clause-reads : goal.body::sub-returns-in_err-label-in-Colon-clause-reads
-body::sub-returns-in_err-label-in-Colon-clause-reads t c = λ x rest g q f. on x rest g q f where
-  on : (x : Sub) (rest : List Token) → GoodSub x → c.args.reader.now.ahead ≡ onto_sub x rest → AfterCore (ending_sub x) (first_kind rest)
+  on : (x : Sub) (rest : List Token) → c.args.reader.now.ahead ≡ onto_sub x rest
       → Answers {A = Unit {0}} (λ _ r. WasRead c.args.reader.now.integers c.args.reader.now.variables rest c.args.reader.now
-      c.label.new.reader c.label.new.known c.args.out.now.items c.label.new.out.items r) c.from_residual-in_err-label-in-Colon.result
+      c.label.new.reader c.label.new.known c.args.out.now.items c.label.new.out.items r) c.from_residual.result
       (read_sub c.args.reader.now.integers (line_at c.args.reader.now.text) c.args.reader.now.variables c.args.inside c.args.known.now x)
-  on (labelled x a b y) rest g q f =
+  on (labelled x a b y) rest q =
       label_fault {C = Unit {0}} (λ _ r. WasRead c.args.reader.now.integers c.args.reader.now.variables rest c.args.reader.now
-      c.label.new.reader c.label.new.known
-      c.args.out.now.items c.label.new.out.items r) c.args.reader.now c.take_name.new.reader c.label.new.reader c.args.known.now
-      c.label.new.known c.args.inside c.in_ok-first-in-Name.first c.args.out.now.items c.label.new.out.items
-      c.from_residual-in_err-label-in-Colon.result c.in_err-label-in-Colon.field-0.0 x a b y (onto_sub y rest) q
-      c.in_ok-first-in-Name.ensures.reads c.in_err-label-in-Colon.ensures.reads c.from_residual-in_err-label-in-Colon.ensures.1
-  on (plain d) rest g q f = absurd (colon_not c.args.reader.now c.take_name.new.reader c.in_ok-first-in-Name.first d
-      rest (sym c.coming.ensures ∙ ap start_of c.in-Name.is) c.in_ok-first-in-Name.ensures.reads q
-      (sym c.coming-in-Name.ensures ∙ ap start_of c.in-Colon.is))
+      c.label.new.reader c.label.new.known c.args.out.now.items c.label.new.out.items r) c.args.reader.now c.label.new.reader
+      c.args.known.now c.label.new.known c.args.inside c.args.out.now.items c.label.new.out.items c.from_residual.result
+      c.in_err-label.field-0.0 x a b y (onto_sub y rest) q c.in_err-label.ensures.reads c.from_residual.ensures.1
+  on (plain d) rest q = absurd (let k = sym begun ∙ ap begins_label q ∙ no_label d rest in cc)
 
-pub body::sub-returns-in_ok-label-in-Colon-clause-reads : goal.body::sub-returns-in_ok-label-in-Colon-clause-reads
-body::sub-returns-in_ok-label-in-Colon-clause-reads t c = λ x rest g q f. on x rest g q f where
+pub body::sub-returns-in_ok-label-clause-reads : goal.body::sub-returns-in_ok-label-clause-reads
+body::sub-returns-in_ok-label-clause-reads t c = λ x rest g q f. on x rest g q f where
+  begun : begins_label c.args.reader.now.ahead ≡ true
+  begun = search rules
+
   on : (x : Sub) (rest : List Token) → GoodSub x → c.args.reader.now.ahead ≡ onto_sub x rest → AfterCore (ending_sub x) (first_kind rest)
       → Answers {A = Unit {0}} (λ _ r. WasRead c.args.reader.now.integers c.args.reader.now.variables rest c.args.reader.now
       c.sub.new.reader c.sub.new.known c.args.out.now.items c.sub.new.out.items r) c.sub.result
       (read_sub c.args.reader.now.integers (line_at c.args.reader.now.text) c.args.reader.now.variables c.args.inside c.args.known.now x)
   on (labelled x a b y) rest g q f =
-      labelled_read c.args.reader.now c.take_name.new.reader c.label.new.reader c.sub.new.reader c.args.known.now c.label.new.known
-      c.sub.new.known c.args.inside c.in_ok-first-in-Name.first c.args.out.now.items c.label.new.out.items c.sub.new.out.items c.sub.result
-      x a b y rest g f q c.in_ok-first-in-Name.ensures.reads c.in_ok-label-in-Colon.ensures.reads c.sub.ensures.reads
-  on (plain d) rest g q f = absurd (colon_not c.args.reader.now c.take_name.new.reader c.in_ok-first-in-Name.first d
-      rest (sym c.coming.ensures ∙ ap start_of c.in-Name.is) c.in_ok-first-in-Name.ensures.reads q
-      (sym c.coming-in-Name.ensures ∙ ap start_of c.in-Colon.is))
+      labelled_read c.args.reader.now c.label.new.reader c.sub.new.reader c.args.known.now c.label.new.known c.sub.new.known
+      c.args.inside c.args.out.now.items c.label.new.out.items c.sub.new.out.items c.sub.result x a b y rest g f q
+      c.in_ok-label.ensures.reads c.sub.ensures.reads
+  on (plain d) rest g q f = absurd (let k = sym begun ∙ ap begins_label q ∙ no_label d rest in cc)
 
-pub body::sub-returns-in_default-coming : goal.body::sub-returns-in_default-coming
-body::sub-returns-in_default-coming t c = record {
-  reads = λ x rest g q f. on x rest g q f;
-  shorter = on_ok c.named_statement.result
-      (λ l. let m = c.in_ok-first-in-Name.ensures.shorter in omega (arith, l, m)) c.named_statement.ensures.shorter;
-} where
-  on : (x : Sub) (rest : List Token) → GoodSub x → c.args.reader.now.ahead ≡ onto_sub x rest → AfterCore (ending_sub x) (first_kind rest)
-      → Answers {A = Unit {0}} (λ _ r. WasRead c.args.reader.now.integers c.args.reader.now.variables rest c.args.reader.now
-      c.named_statement.new.reader c.named_statement.new.known
-      c.args.out.now.items c.named_statement.new.out.items r) c.named_statement.result
-      (read_sub c.args.reader.now.integers (line_at c.args.reader.now.text) c.args.reader.now.variables c.args.inside c.args.known.now x)
-  on (labelled x a b y) rest g q f = absurd (c.in_default-coming.not-Colon (says_colon c.coming-in-Name.result (c.coming-in-Name.ensures
-      ∙ colon_is c.args.reader.now c.take_name.new.reader c.in_ok-first-in-Name.first x a b (onto_sub y rest) q
-      c.in_ok-first-in-Name.ensures.reads)))
-  on (plain d) rest g q f = named_read c.args.reader.now c.take_name.new.reader c.named_statement.new.reader c.args.known.now
-      c.named_statement.new.known c.args.inside c.in_ok-first-in-Name.first c.args.out.now.items c.named_statement.new.out.items
-      c.named_statement.result d rest g (sym c.coming.ensures ∙ ap start_of c.in-Name.is) q c.in_ok-first-in-Name.ensures.reads
-      c.named_statement.ensures.reads
+pub body::sub-returns-else-has_label-clause-reads : goal.body::sub-returns-else-has_label-clause-reads
+body::sub-returns-else-has_label-clause-reads t c = λ x rest g q f. on x rest g q f where
+  begun : begins_label c.args.reader.now.ahead ≡ false
+  begun = search rules
 
-pub body::sub-returns-in_default : goal.body::sub-returns-in_default
-body::sub-returns-in_default t c = record {
-  reads = λ x rest g q f. on x rest g q f;
-  shorter = c.core.ensures.shorter;
-} where
   on : (x : Sub) (rest : List Token) → GoodSub x → c.args.reader.now.ahead ≡ onto_sub x rest → AfterCore (ending_sub x) (first_kind rest)
       → Answers {A = Unit {0}} (λ _ r. WasRead c.args.reader.now.integers c.args.reader.now.variables rest c.args.reader.now
       c.core.new.reader c.core.new.known c.args.out.now.items c.core.new.out.items r) c.core.result
       (read_sub c.args.reader.now.integers (line_at c.args.reader.now.text) c.args.reader.now.variables c.args.inside c.args.known.now x)
-  on (labelled x a b y) rest g q f =
-      absurd (c.in_default.not-Name (says_name c.coming.result (c.coming.ensures ∙ ap (λ ts. start_in (first_kind ts)) q)))
+  on (labelled x a b y) rest g q f = absurd (let k = sym begun ∙ ap begins_label q in cc)
   on (plain d) rest g q f = c.core.ensures.reads d rest g q f
 
 -- ---- one thing of a block
-pub items::item-returns-in_err-first-in-Name-clause-reads : goal.items::item-returns-in_err-first-in-Name-clause-reads
-items::item-returns-in_err-first-in-Name-clause-reads t c = λ is b rest gi g q.
-    let old : Reading = c.args.reader.now in
-    no_name {C = Unit {0}} (λ _ r. WasRead old.integers old.variables (onto_items (others is)
-    (token right_brace b ∷ rest)) old c.take_name.new.reader
-    c.args.known.now c.args.out.now.items c.args.out.now.items r) old c.take_name.new.reader c.from_residual.result
-    c.in_err-first-in-Name.field-0.0
-    (read_one old.integers (line_at old.text) old.variables c.args.inside c.args.known.now is)
-    (sym c.coming.ensures ∙ ap start_of c.in-Name.is) c.in_err-first-in-Name.ensures.reads c.from_residual.ensures.1
+pub items::item-returns-then-has_label-clause-reads : goal.items::item-returns-then-has_label-clause-reads
+items::item-returns-then-has_label-clause-reads t c = λ is b rest gi g q. on is b rest g q where
+  begun : begins_label c.args.reader.now.ahead ≡ true
+  begun = search rules
+
+  on : (is : Items) (b : ℕ) (rest : List Token) → GoodOne is
+      → c.args.reader.now.ahead ≡ onto_items is (token right_brace b ∷ rest)
+      → Answers {A = Unit {0}} (λ _ r. WasRead c.args.reader.now.integers c.args.reader.now.variables (onto_items (others is)
+      (token right_brace b ∷ rest))
+      c.args.reader.now c.label.new.reader c.label.new.known c.args.out.now.items c.label.new.out.items r)
+      c.label.result
+      (read_one c.args.reader.now.integers (line_at c.args.reader.now.text) c.args.reader.now.variables c.args.inside c.args.known.now is)
+  on no_items b rest g q = absurd g
+  on (declaration (plain_int i) xs d is) b rest g q = absurd (let k = sym begun ∙ ap begins_label q in cc)
+  on (declaration (const_int i j) xs d is) b rest g q = absurd (let k = sym begun ∙ ap begins_label q in cc)
+  on (label x a d is) b rest g q = c.label.ensures.reads x a d (onto_items is (token right_brace b ∷ rest)) q
+  on (item d is) b rest g q =
+      absurd (let k = sym begun ∙ ap begins_label q ∙ no_label d (onto_items is (token right_brace b ∷ rest)) in cc)
 
 pub items::item-returns-in-Type-clause-reads : goal.items::item-returns-in-Type-clause-reads
 items::item-returns-in-Type-clause-reads t c = λ is b rest gi g q. on is b rest g q
@@ -428,58 +408,14 @@ items::item-returns-in-Type-clause-reads t c = λ is b rest gi g q. on is b rest
       on (declaration a xs d is) b rest g q h = c.declaration.ensures.reads a xs d (onto_items is (token right_brace b ∷ rest)) g q
       on (item d is) b rest g q h = absurd (never_type d (onto_items is (token right_brace b ∷ rest)) (sym h))
 
-pub items::item-returns-in-Colon-clause-reads : goal.items::item-returns-in-Colon-clause-reads
-items::item-returns-in-Colon-clause-reads t c = λ is b rest gi g q. on is b rest g q
-    (sym (ap start_of c.in-Name.is) ∙ c.coming.ensures ∙ ap (λ ts. start_in (first_kind ts)) q) where
-      on : (is : Items) (b : ℕ) (rest : List Token) → GoodOne is
-          → c.args.reader.now.ahead ≡ onto_items is (token right_brace b ∷ rest)
-          → s.a_name ≡ start_in (first_kind (onto_items is (token right_brace b ∷ rest)))
-          → Answers {A = Unit {0}} (λ _ r. WasRead c.args.reader.now.integers c.args.reader.now.variables (onto_items (others is)
-          (token right_brace b ∷ rest))
-          c.args.reader.now c.label.new.reader c.label.new.known c.args.out.now.items c.label.new.out.items r)
-          c.label.result
-          (read_one c.args.reader.now.integers (line_at c.args.reader.now.text) c.args.reader.now.variables c.args.inside
-          c.args.known.now is)
-      on no_items b rest g q h = absurd g
-      on (declaration k xs d is) b rest g q h = absurd (let j = h ∙ type_begins k _ in cc)
-      on (label x a d is) b rest g q h = label_read c.args.reader.now c.take_name.new.reader c.label.new.reader c.args.known.now
-          c.label.new.known c.in_ok-first-in-Name.first c.args.out.now.items c.label.new.out.items c.label.result x a d
-          (onto_items is (token right_brace b ∷ rest)) q c.in_ok-first-in-Name.ensures.reads c.label.ensures.reads
-      on (item d is) b rest g q h = absurd (colon_not c.args.reader.now c.take_name.new.reader c.in_ok-first-in-Name.first d
-          (onto_items is (token right_brace b ∷ rest)) (sym c.coming.ensures ∙ ap start_of c.in-Name.is)
-          c.in_ok-first-in-Name.ensures.reads q
-          (sym c.coming-in-Name.ensures ∙ ap start_of c.in-Colon.is))
-
-pub items::item-returns-in_default-coming : goal.items::item-returns-in_default-coming
-items::item-returns-in_default-coming t c = record {
-  reads = λ is b rest gi g q. on is b rest g q
-      (sym (ap start_of c.in-Name.is) ∙ c.coming.ensures ∙ ap (λ ts. start_in (first_kind ts)) q);
-  shorter = on_ok c.named_statement.result
-      (λ l. let m = c.in_ok-first-in-Name.ensures.shorter in omega (arith, l, m)) c.named_statement.ensures.shorter;
-} where
-  on : (is : Items) (b : ℕ) (rest : List Token) → GoodOne is
-      → c.args.reader.now.ahead ≡ onto_items is (token right_brace b ∷ rest)
-      → s.a_name ≡ start_in (first_kind (onto_items is (token right_brace b ∷ rest)))
-      → Answers {A = Unit {0}} (λ _ r. WasRead c.args.reader.now.integers c.args.reader.now.variables (onto_items (others is)
-      (token right_brace b ∷ rest))
-      c.args.reader.now c.named_statement.new.reader c.named_statement.new.known c.args.out.now.items c.named_statement.new.out.items r)
-      c.named_statement.result
-      (read_one c.args.reader.now.integers (line_at c.args.reader.now.text) c.args.reader.now.variables c.args.inside c.args.known.now is)
-  on no_items b rest g q h = absurd g
-  on (declaration k xs d is) b rest g q h = absurd (let j = h ∙ type_begins k _ in cc)
-  on (label x a d is) b rest g q h = absurd (c.in_default-coming.not-Colon (says_colon c.coming-in-Name.result (c.coming-in-Name.ensures
-      ∙ colon_is c.args.reader.now c.take_name.new.reader c.in_ok-first-in-Name.first x a d (onto_items is (token right_brace b ∷ rest)) q
-      c.in_ok-first-in-Name.ensures.reads)))
-  on (item d is) b rest g q h = named_read c.args.reader.now c.take_name.new.reader c.named_statement.new.reader c.args.known.now
-      c.named_statement.new.known c.args.inside c.in_ok-first-in-Name.first c.args.out.now.items c.named_statement.new.out.items
-      c.named_statement.result d (onto_items is (token right_brace b ∷ rest)) g (sym c.coming.ensures ∙ ap start_of c.in-Name.is) q
-      c.in_ok-first-in-Name.ensures.reads c.named_statement.ensures.reads
-
 pub items::item-returns-in_default : goal.items::item-returns-in_default
 items::item-returns-in_default t c = record {
   reads = λ is b rest gi g q. on is b rest g q;
   shorter = c.core.ensures.shorter;
 } where
+  begun : begins_label c.args.reader.now.ahead ≡ false
+  begun = search rules
+
   on : (is : Items) (b : ℕ) (rest : List Token) → GoodOne is
       → c.args.reader.now.ahead ≡ onto_items is (token right_brace b ∷ rest)
       → Answers {A = Unit {0}} (λ _ r. WasRead c.args.reader.now.integers c.args.reader.now.variables (onto_items (others is)
@@ -488,8 +424,7 @@ items::item-returns-in_default t c = record {
       c.core.result
       (read_one c.args.reader.now.integers (line_at c.args.reader.now.text) c.args.reader.now.variables c.args.inside c.args.known.now is)
   on no_items b rest g q = absurd g
-  on (label x a d is) b rest g q =
-      absurd (c.in_default.not-Name (says_name c.coming.result (c.coming.ensures ∙ ap (λ ts. start_in (first_kind ts)) q)))
+  on (label x a d is) b rest g q = absurd (let k = sym begun ∙ ap begins_label q in cc)
   on (declaration k xs d is) b rest g q =
       absurd (c.in_default.not-Type (says_type c.coming.result (c.coming.ensures ∙ ap (λ ts. start_in (first_kind ts)) q
       ∙ type_begins k _)))

@@ -1,5 +1,6 @@
 -- What is answered where a list is filled that has no fault.
 use Rattle.std.proofs.Common.{Result, Ok, Err, OnOk, refl}
+use Rattle.std.specs.Result.{IsErrAnd}
 use Rattle.source_reader.specs.Answers.{Answers}
 use Rattle.source_reader.specs.declared.stop.Stop.{Stop}
 use Rattle.source_reader.specs.declared.stop.Stop.TheVariants.{Fault, Unlike}
@@ -16,3 +17,8 @@ pushed_answer Is (Err Unlike) P E y p a h = a
 pub on_ok : {A : Type 0} (r : Result A Stop) {P : Type 0} → P → OnOk r P
 on_ok (Ok x) p = p
 on_ok (Err x) p = tt
+
+-- where there is a fault nothing is asked
+pub err_on : {A B : Type 0} (r : Result A B) (Q : B → Type 0) (P : Type 0) → IsErrAnd r Q → OnOk r P
+err_on (Ok x) Q P h = absurd h
+err_on (Err x) Q P h = tt

@@ -1,16 +1,16 @@
 -- Which statements begin with what.
-use Rattle.std.proofs.Common.{◌≡◌, ◌∙◌, ◌∷◌, ℕ, List, refl, sym, ap, subst}
-use Rattle.source_grammar.specs.Tokens.{Kind, Name, Token, token, a_name, semicolon}
+use Rattle.std.proofs.Common.{◌≡◌, ◌∷◌, ℕ, false, List, refl, ap}
+use Rattle.source_grammar.specs.Tokens.{Kind, Token, token, semicolon}
 use Rattle.source_grammar.specs.Grammar.{Core, empty, block, if_alone, if_else, repeat, repeat_after, repeat_for, jumps, returns, demands}
 use Rattle.source_grammar.specs.Grammar.{calls, updates, update, step_before, place, no_index, index, assigns, steps, Expr, Sub, Items}
 use Rattle.source_grammar.specs.Grammar.{ForFirst}
 use Rattle.source_grammar.specs.Grammar.{Optional, Updates, no_items, label, declaration, plain_int, const_int, item}
 use Rattle.source_grammar.proofs.grammar.Follow.{NotElse}
-use Rattle.source_reader.specs.Reading.{behind_first, first_kind}
+use Rattle.source_reader.specs.Reading.{first_kind}
 use Rattle.source_change.specs.Onto.{onto_effect}
 use Rattle.source_change.proofs.spelled.Changes.{subscripts_first}
 use Rattle.source_statement.specs.Onto.{onto_core, onto_items}
-use Rattle.source_statement.specs.Starts.{Begins, start_in, a_block, an_if, a_while, a_do, a_for, a_type, a_colon, a_bracket}
+use Rattle.source_statement.specs.Starts.{Begins, begins_label, is_label, start_in, a_block, an_if, a_while, a_do, a_for, a_name, a_type}
 use Rattle.source_statement.specs.Parts.{IsSimple}
 
 -- the beginning of a statement
@@ -89,24 +89,14 @@ no_else_in (declaration (plain_int a) xs c is) k b w h = refl
 no_else_in (declaration (const_int a d) xs c is) k b w h = refl
 no_else_in (item c is) k b w h = no_else c (onto_items is (token k b ∷ w))
 
--- a name with a colon behind it begins no statement
-pub no_colon : (c : Core) (w ts : List Token) (x : Name) (a : ℕ) → token (a_name x) a ∷ ts ≡ onto_core c w
-    → (start_in (first_kind ts) ≡ a_colon → ⊥)
-no_colon (calls y b d es g i) w ts x a e h =
-    let k : start_in (first_kind (behind_first (onto_core (calls y b d es g i) w))) ≡ a_colon =
-    subst (λ us. start_in (first_kind (behind_first us)) ≡ a_colon) e h in cc
-no_colon (updates (update (place y b no_index) (assigns g d f)) i) w ts x a e h =
-    let k : start_in (first_kind (behind_first (onto_core (updates (update (place y b no_index) (assigns g d f)) i) w))) ≡ a_colon =
-    subst (λ us. start_in (first_kind (behind_first us)) ≡ a_colon) e h in cc
-no_colon (updates (update (place y b no_index) (steps g d)) i) w ts x a e h =
-    let k : start_in (first_kind (behind_first (onto_core (updates (update (place y b no_index) (steps g d)) i) w))) ≡ a_colon =
-    subst (λ us. start_in (first_kind (behind_first us)) ≡ a_colon) e h in cc
-no_colon (updates (update (place y b (index is)) g) i) w ts x a e h =
-    let k : start_in (first_kind (behind_first (onto_core (updates (update (place y b (index is)) g) i) w))) ≡ a_colon =
-    subst (λ us. start_in (first_kind (behind_first us)) ≡ a_colon) e h in
-    let q : a_bracket ≡ a_colon = sym (ap start_in (subscripts_first is (onto_effect g (token semicolon i ∷ w)))) ∙ k in cc
-no_colon (updates (step_before d b p) i) w ts x a e h = cc
-no_colon _ w ts x a e h = cc
+-- no statement begins as a label does
+pub no_label : (c : Core) (w : List Token) → begins_label (onto_core c w) ≡ false
+no_label (updates (update (place x a no_index) (assigns g d e)) i) w = refl
+no_label (updates (update (place x a no_index) (steps g d)) i) w = refl
+no_label (updates (update (place x a (index is)) f) i) w =
+    ap (λ k. is_label a_name (start_in k)) (subscripts_first is (onto_effect f (token semicolon i ∷ w)))
+no_label (updates (step_before g a p) i) w = refl
+no_label _ w = refl
 
 -- no statement begins with a type
 pub never_type : (c : Core) (w : List Token) → (beginning c w ≡ a_type → ⊥)

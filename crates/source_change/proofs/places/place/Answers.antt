@@ -53,7 +53,7 @@ returns-in_err-read_element-in-Bracket-clause-reads c = λ i rest gi f h. on i r
   on : (i : Index) (rest : List Token) → GoodIndex i → c.args.reader.now.ahead ≡ onto_index i rest → AfterPlace (first_kind rest)
       → Answers (Placed c.args.site.integers c.args.site.variables c.args.site.line c.args.reader.now c.read_element.new.reader rest)
       c.from_residual.result
-      (aim c.args.site.integers c.args.site.variables c.args.site.line c.args.known.now (name_of c.args.named.now) c.args.named.now.at i)
+      (aim c.args.site.integers c.args.site.variables c.args.site.line c.args.scope.now (name_of c.args.named.now) c.args.named.now.at i)
   on no_index rest gi f h = absurd (no_bracket (first_kind rest) h
       (ap (λ ts. next_in (first_kind ts)) (sym f) ∙ sym c.coming.ensures ∙ ap next_of c.in-Bracket.is))
   on (index is) rest gi f h =
@@ -61,7 +61,7 @@ returns-in_err-read_element-in-Bracket-clause-reads c = λ i rest gi f h. on i r
       (Placed c.args.site.integers c.args.site.variables c.args.site.line c.args.reader.now c.read_element.new.reader rest)
       c.from_residual.result
       c.in_err-read_element-in-Bracket.field-0.0
-      (read_element c.args.site.integers c.args.site.variables c.args.site.line c.args.known.now (name_of c.args.named.now)
+      (read_element c.args.site.integers c.args.site.variables c.args.site.line c.args.scope.now (name_of c.args.named.now)
       c.args.named.now.at is)
       (λ old. Ok (an_element old)) c.from_residual.ensures.1 (c.in_err-read_element-in-Bracket.ensures.reads is rest gi f h)
 
@@ -70,7 +70,7 @@ returns-in_ok-read_element-in-Bracket-clause-reads c = λ i rest gi f h. on i re
   on : (i : Index) (rest : List Token) → GoodIndex i → c.args.reader.now.ahead ≡ onto_index i rest → AfterPlace (first_kind rest)
       → Answers (Placed c.args.site.integers c.args.site.variables c.args.site.line c.args.reader.now c.read_element.new.reader rest)
       (Ok (record { old = c.in_ok-read_element-in-Bracket.field-0; var = None }))
-      (aim c.args.site.integers c.args.site.variables c.args.site.line c.args.known.now (name_of c.args.named.now) c.args.named.now.at i)
+      (aim c.args.site.integers c.args.site.variables c.args.site.line c.args.scope.now (name_of c.args.named.now) c.args.named.now.at i)
   on no_index rest gi f h = absurd (no_bracket (first_kind rest) h
       (ap (λ ts. next_in (first_kind ts)) (sym f) ∙ sym c.coming.ensures ∙ ap next_of c.in-Bracket.is))
   on (index is) rest gi f h =
@@ -78,7 +78,7 @@ returns-in_ok-read_element-in-Bracket-clause-reads c = λ i rest gi f h. on i re
       (Placed c.args.site.integers c.args.site.variables c.args.site.line c.args.reader.now c.read_element.new.reader rest)
       c.in_ok-read_element-in-Bracket.field-0
       (Ok (record { old = c.in_ok-read_element-in-Bracket.field-0; var = None }))
-      (read_element c.args.site.integers c.args.site.variables c.args.site.line c.args.known.now (name_of c.args.named.now)
+      (read_element c.args.site.integers c.args.site.variables c.args.site.line c.args.scope.now (name_of c.args.named.now)
       c.args.named.now.at is)
       (λ old. Ok (an_element old)) (c.in_ok-read_element-in-Bracket.ensures.reads is rest gi f h)
       (λ x s. (an_element x, refl, (record { old = s.0; var = refl }, s.1)))
@@ -88,11 +88,11 @@ returns-in_default-clause-reads c = λ i rest gi f h. on i rest gi f h where
   on : (i : Index) (rest : List Token) → GoodIndex i → c.args.reader.now.ahead ≡ onto_index i rest → AfterPlace (first_kind rest)
       → Answers (Placed c.args.site.integers c.args.site.variables c.args.site.line c.args.reader.now c.args.reader.now rest)
       c.variable.result
-      (aim c.args.site.integers c.args.site.variables c.args.site.line c.args.known.now (name_of c.args.named.now) c.args.named.now.at i)
+      (aim c.args.site.integers c.args.site.variables c.args.site.line c.args.scope.now (name_of c.args.named.now) c.args.named.now.at i)
   on no_index rest gi f h =
       weaker (λ t a. StandsTarget c.args.site.integers c.args.site.variables c.args.site.line t a)
       (Placed c.args.site.integers c.args.site.variables c.args.site.line c.args.reader.now c.args.reader.now rest) c.variable.result
-      (aim c.args.site.integers c.args.site.variables c.args.site.line c.args.known.now (name_of c.args.named.now) c.args.named.now.at
+      (aim c.args.site.integers c.args.site.variables c.args.site.line c.args.scope.now (name_of c.args.named.now) c.args.named.now.at
       no_index)
       (λ t a s. (s, let P : List Token → Type 0 = λ ts. c.args.reader.now ≡ at_tokens c.args.reader.now ts in subst P f refl))
       c.variable.ensures

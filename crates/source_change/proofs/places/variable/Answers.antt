@@ -9,7 +9,7 @@ returns c =
     let at : ℕ = c.args.named.now.at in (
       a_variable c.in_ok-var.var at,
       ap (λ w. w >>= λ i. Ok (a_variable i at))
-          (ap (λ y. variable_of (record { text = y; value = c.args.named.now.value }) at c.args.known.now) (sym c.bytes.ensures.bytes)
+          (ap (λ y. variable_of (record { text = y; value = c.args.named.now.value }) at c.args.scope.now) (sym c.bytes.ensures.bytes)
           ∙ sym c.in_ok-var.ensures),
       record { old = c.in_ok-variable.ensures; var = refl },
     )

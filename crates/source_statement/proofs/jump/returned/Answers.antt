@@ -1,11 +1,11 @@
 use Rattle.std.proofs.Common.{◌≡◌, ◌∙◌, ◌∷◌, ℕ, List, Result, Ok, Err, refl, sym, ap, subst}
 use Rattle.lang_tokens.specs.Lines.{line_at}
 use Rattle.source_grammar.specs.Tokens.{Token, token, semicolon}
-use Rattle.source_grammar.specs.Grammar.{Optional, absent, present, GoodOptional}
+use Rattle.source_grammar.specs.Grammar.{Optional, absent, present, GoodOptional, spell_expr}
 use Rattle.source_tree.specs.Expressions.{more, none}
 use Rattle.source_tree.specs.Statements.{Statements, evaluates, nil}
 use Rattle.source_core.specs.Elaborated.{elaborated, evaluated}
-use Rattle.source_meaning.specs.Names.{State}
+use Rattle.source_meaning.specs.Names.{State, among}
 use Rattle.source_meaning.specs.Expressions.{read}
 use Rattle.source_meaning.specs.Statements.{read_evaluated, read_returned}
 use Rattle.source_value.specs.Stands.{Stands, StandsEvaluated}
@@ -21,8 +21,7 @@ use Rattle.source_change.specs.Pushed.{WasEvaluated}
 use Rattle.source_statement.specs.Onto.{onto_optional}
 use Rattle.source_statement.specs.Starts.{start_in, start_of}
 use Rattle.source_change.proofs.lists.Pushed.{none_pushed}
-use Rattle.source_statement.proofs.parts.Named.{err_on}
-use Rattle.source_statement.proofs.parts.Pushes.{on_ok}
+use Rattle.source_statement.proofs.parts.Pushes.{err_on, on_ok}
 use Rattle.source_statement.proofs.parts.Read.{at_first, one_evaluated}
 use Rattle.source_statement.proofs.parts.Starting.{no_expr, says_semicolon}
 use Rattle.base_integers.specs.declared.integers.Integers.{Integers}
@@ -71,18 +70,22 @@ returns-in_err-value c = record {
       let ts : List Token = token semicolon b ∷ rest in
       let res : Result (Unit {0}) Stop = c.from_residual.result in
       let s : Stop = c.in_err-value.field-0.0 in
-      let A : Integers → ℕ → ℕ → Type 0 = λ j l v. Answers (λ (w : Value) y. Stands v w (elaborated j l y v) × (new.ahead ≡ ts)) (Err s)
-      (read j l st x v) in
-      let raw : A c.site-site.result.integers c.site-site.result.line c.site-site.result.variables = c.in_err-value.ensures.reads x ts g
-      tt e in
-      let lined : A integers (line at) c.site-site.result.variables = subst
-      (λ l. A integers l c.site-site.result.variables) c.site-site.ensures.line
-      (subst (λ j. A j c.site-site.result.line c.site-site.result.variables) c.site-site.ensures.integers raw) in
-      let a : A integers (line at) n = subst (λ v. A integers (line at) v) c.site-site.ensures.variables lined in
+      let here : State = among (spell_expr x) st in
+      let A : Integers → ℕ → ℕ → State → Type 0 = λ j l v st. Answers (λ (w : Value) y. Stands v w (elaborated j l y v)
+      × (new.ahead ≡ ts)) (Err s) (read j l st x v) in
+      let raw : A c.site-site.result.integers c.site-site.result.line c.site-site.result.variables c.scope-scope.result =
+      c.in_err-value.ensures.reads x ts g tt e in
+      let around : A c.site-site.result.integers c.site-site.result.line c.site-site.result.variables here =
+      subst (λ st. A c.site-site.result.integers c.site-site.result.line c.site-site.result.variables st)
+      (c.scope-scope.ensures.expression x ts e refl) raw in
+      let lined : A integers (line at) c.site-site.result.variables here = subst
+      (λ l. A integers l c.site-site.result.variables here) c.site-site.ensures.line
+      (subst (λ j. A j c.site-site.result.line c.site-site.result.variables here) c.site-site.ensures.integers around) in
+      let a : A integers (line at) n here = subst (λ v. A integers (line at) v here) c.site-site.ensures.variables lined in
       let is : Unit {0} → State × Statements → Type 0 = λ u r. WasRead integers n ts old new st c.args.out.now.items
       c.args.out.now.items r in
       err_then (λ (w : Value) y. Stands n w (elaborated integers (line at) y n)
-      × (new.ahead ≡ ts)) is res s (read integers (line at) st x n)
+      × (new.ahead ≡ ts)) is res s (read integers (line at) here x n)
       (λ y. read_evaluated integers line n st at (evaluates (more y none) (line at))) c.from_residual.ensures.1 a
 
 pub returns : goal.returns
@@ -110,19 +113,23 @@ returns c = record {
       let value : Value = c.in_ok-value.value in
       let all : Evaluated = record { prelude = value.prelude; next = value.next } in
       let res : Result (Unit {0}) _ = c.push_evaluated.result in
-      let A : Integers → ℕ → ℕ → Type 0 = λ j l v. Answers (λ (w : Value) y. Stands v w (elaborated j l y v) × (new.ahead ≡ ts)) (Ok value)
-      (read j l st x v) in
+      let here : State = among (spell_expr x) st in
+      let A : Integers → ℕ → ℕ → State → Type 0 = λ j l v st. Answers (λ (w : Value) y. Stands v w (elaborated j l y v)
+      × (new.ahead ≡ ts)) (Ok value) (read j l st x v) in
       let by : c.site-site.result.integers ≡ integers = c.site-site.ensures.integers in
-      let raw : A c.site-site.result.integers c.site-site.result.line c.site-site.result.variables = c.in_ok-value.ensures.reads x ts g
-      tt e in
-      let lined : A integers (line at) c.site-site.result.variables = subst
-      (λ l. A integers l c.site-site.result.variables) c.site-site.ensures.line
-      (subst (λ j. A j c.site-site.result.line c.site-site.result.variables) by raw) in
-      let a : A integers (line at) n = subst (λ v. A integers (line at) v) c.site-site.ensures.variables lined in
+      let raw : A c.site-site.result.integers c.site-site.result.line c.site-site.result.variables c.scope-scope.result =
+      c.in_ok-value.ensures.reads x ts g tt e in
+      let around : A c.site-site.result.integers c.site-site.result.line c.site-site.result.variables here =
+      subst (λ st. A c.site-site.result.integers c.site-site.result.line c.site-site.result.variables st)
+      (c.scope-scope.ensures.expression x ts e refl) raw in
+      let lined : A integers (line at) c.site-site.result.variables here = subst
+      (λ l. A integers l c.site-site.result.variables here) c.site-site.ensures.line
+      (subst (λ j. A j c.site-site.result.line c.site-site.result.variables here) by around) in
+      let a : A integers (line at) n here = subst (λ v. A integers (line at) v here) c.site-site.ensures.variables lined in
       let is : Unit {0} → State × Statements
       → Type 0 = λ u r. WasRead integers n ts old new c.push_evaluated.new.known c.args.out.now.items c.push_evaluated.new.out.items r in
       ok_then (λ (w : Value) y. Stands n w (elaborated integers (line at) y n)
-      × (new.ahead ≡ ts)) is value res (read integers (line at) st x n)
+      × (new.ahead ≡ ts)) is value res (read integers (line at) here x n)
       (λ y. read_evaluated integers line n st at (evaluates (more y none) (line at))) a
       (λ y s.
       let B : Integers → ℕ → Type 0 = λ j v. StandsEvaluated v all (evaluated j (line at) (more y none) v)

@@ -17,7 +17,8 @@ use Rattle.source_statement.specs.Onto.{onto_bounds, onto_parameter, onto_type}
 use Rattle.source_statement.specs.Starts.{start_in, start_of, a_bracket, a_star}
 use Rattle.source_statement.specs.declared.starts.Start.{Start}
 use Rattle.source_statement.specs.declared.starts.Start.TheVariants as start
-use Rattle.source_statement.proofs.parts.Named.{taken_is, err_on}
+use Rattle.source_change.proofs.firsts.Taken.{taken_is}
+use Rattle.source_statement.proofs.parts.Pushes.{err_on}
 use Rattle.source_statement.proofs.parts.Read.{same_read}
 use Rattle.source_statement.proofs.steps.Labels.{on_ok}
 use Rattle.source_statement.proofs.parameters.parameter.Goals as goal

@@ -14,7 +14,7 @@ use Rattle.source_change.specs.Tests.{WasRead, WasTaken, name_of}
 use Rattle.source_change.specs.declared.names.Named.{Named}
 use Rattle.source_change.proofs.lists.Pushed.{none_pushed}
 use Rattle.source_change.proofs.results.Answered.{err_never}
-use Rattle.source_statement.proofs.parts.Named.{taken_is}
+use Rattle.source_change.proofs.firsts.Taken.{taken_is}
 use Rattle.source_statement.proofs.parts.Parameters.{array_known}
 use Rattle.source_statement.proofs.parts.Read.{at_first}
 use Rattle.source_statement.proofs.parameters.pointer.Goals as goal

@@ -16,7 +16,6 @@ use Rattle.source_change.proofs.results.Answered.{err_never}
 use Rattle.source_statement.specs.Onto.{onto_core}
 use Rattle.source_statement.specs.Parts.{IsSimple}
 use Rattle.source_statement.specs.Starts.{start_in, start_of, a_semicolon, a_jump, a_return, a_demand, a_name as begins_name}
-use Rattle.source_statement.proofs.parts.Named.{taken_is}
 use Rattle.source_change.proofs.lists.Pushed.{none_pushed}
 use Rattle.source_statement.proofs.parts.Read.{same_read}
 use Rattle.source_statement.proofs.parts.Simple.{begins, core_begins, says_return, says_name, says_jump, says_demand}
@@ -105,72 +104,18 @@ returns-in-Demand-clause-reads c = λ x rest s ok e. on x rest ok e
       on (updates (step_before k a p) d) rest ok e h = absurd cc
       on _ rest ok e h = absurd cc
 
-pub returns-in_err-first-in-Name-clause-reads : goal.returns-in_err-first-in-Name-clause-reads
-returns-in_err-first-in-Name-clause-reads c = λ x rest s g e. on x rest e
+pub returns-in-Name-clause-reads : goal.returns-in-Name-clause-reads
+returns-in-Name-clause-reads c = λ x rest s g e. on x rest g e
     (sym (ap start_of c.in-Name.is) ∙ c.coming.ensures ∙ ap (λ ts. start_in (first_kind ts)) e ∙ core_begins x rest s) where
-      on : (x : Core) (rest : List Token) → c.args.reader.now.ahead ≡ onto_core x rest → begins_name ≡ begins x
-          → Answers {A = Unit {0}} (λ _ r. WasRead c.args.reader.now.integers c.args.reader.now.variables rest c.args.reader.now
-          c.take_name.new.reader
-          c.args.known.now
-          c.args.out.now.items c.args.out.now.items r) c.from_residual.result
-          (read_core c.args.reader.now.integers (line_at c.args.reader.now.text) c.args.reader.now.variables c.args.inside
-          c.args.known.now x)
-      on (calls x a b es d i) rest e h =
-          let ts : List Token = token left_paren b ∷ (spell_arguments es ++ token right_paren d ∷ token semicolon i ∷ rest) in
-          err_never (λ (n : Named) p. WasTaken ts c.args.reader.now c.take_name.new.reader n p)
-          (λ (u : Unit {0}) r. WasRead c.args.reader.now.integers c.args.reader.now.variables rest c.args.reader.now
-          c.take_name.new.reader c.args.known.now
-          c.args.out.now.items c.args.out.now.items r) c.from_residual.result c.in_err-first-in-Name.field-0.0 (x, a)
-          (read_core c.args.reader.now.integers (line_at c.args.reader.now.text) c.args.reader.now.variables c.args.inside
-          c.args.known.now (calls x a b es d i))
-          c.from_residual.ensures.1 (c.in_err-first-in-Name.ensures.reads x a ts e)
-      on (updates (update (place x a i) f) d) rest e h =
-          let ts : List Token = onto_index i (onto_effect f (token semicolon d ∷ rest)) in
-          err_never (λ (n : Named) p. WasTaken ts c.args.reader.now c.take_name.new.reader n p)
-          (λ (u : Unit {0}) r. WasRead c.args.reader.now.integers c.args.reader.now.variables rest c.args.reader.now
-          c.take_name.new.reader c.args.known.now
-          c.args.out.now.items c.args.out.now.items r) c.from_residual.result c.in_err-first-in-Name.field-0.0 (x, a)
-          (read_core c.args.reader.now.integers (line_at c.args.reader.now.text) c.args.reader.now.variables c.args.inside c.args.known.now
-          (updates (update (place x a i) f) d))
-          c.from_residual.ensures.1 (c.in_err-first-in-Name.ensures.reads x a ts e)
-      on (updates (step_before k a p) d) rest e h = absurd cc
-      on _ rest e h = absurd cc
-
-pub returns-in_ok-first-in-Name-clause-reads : goal.returns-in_ok-first-in-Name-clause-reads
-returns-in_ok-first-in-Name-clause-reads c = λ x rest s g e. on x rest g e
-    (sym (ap start_of c.in-Name.is) ∙ c.coming.ensures ∙ ap (λ ts. start_in (first_kind ts)) e ∙ core_begins x rest s) where
-      -- what it begins is read behind it
-      named : (x : Name) (a : ℕ) (ts : List Token) (y : Core) (rest : List Token) → GoodCore y → c.args.reader.now.ahead
-          ≡ token (a_name x) a ∷ ts → token (a_name x) a ∷ ts ≡ onto_core y rest
-          → Answers {A = Unit {0}} (λ _ r. WasRead c.args.reader.now.integers c.args.reader.now.variables rest c.args.reader.now
-          c.named_statement.new.reader
-          c.named_statement.new.known c.args.out.now.items c.named_statement.new.out.items r) c.named_statement.result
-          (read_core c.args.reader.now.integers (line_at c.args.reader.now.text) c.args.reader.now.variables c.args.inside
-          c.args.known.now y)
-      named x a ts y rest g e f =
-          let old : Reading = c.args.reader.now in
-          let t = taken_is ts old c.take_name.new.reader c.in_ok-first-in-Name.first x a (c.in_ok-first-in-Name.ensures.reads x a ts e) in
-          let P : Reading → Type 0 = λ m. Answers {A = Unit {0}} (λ _ r. WasRead m.integers m.variables rest m c.named_statement.new.reader
-          c.named_statement.new.known c.args.out.now.items c.named_statement.new.out.items r) c.named_statement.result
-          (read_core m.integers (line_at m.text) m.variables c.args.inside c.args.known.now y) in
-          let q : P (at_tokens old ts) = subst P t.2 (c.named_statement.ensures.reads c.args.inside y rest g
-          (ap₂ (λ x a. token (a_name x) a ∷ c.take_name.new.reader.ahead) t.0 t.1
-          ∙ ap (λ (r : Reading). token (a_name x) a ∷ r.ahead) t.2 ∙ f)) in
-          same_read old.integers old.variables ts rest old c.named_statement.new.reader c.named_statement.new.known c.args.out.now.items
-          c.named_statement.new.out.items c.named_statement.result
-          (read_core old.integers (line_at old.text) old.variables c.args.inside c.args.known.now y) q
-
       on : (x : Core) (rest : List Token) → GoodCore x → c.args.reader.now.ahead ≡ onto_core x rest → begins_name ≡ begins x
           → Answers {A = Unit {0}} (λ _ r. WasRead c.args.reader.now.integers c.args.reader.now.variables rest c.args.reader.now
           c.named_statement.new.reader
           c.named_statement.new.known c.args.out.now.items c.named_statement.new.out.items r) c.named_statement.result
           (read_core c.args.reader.now.integers (line_at c.args.reader.now.text) c.args.reader.now.variables c.args.inside
           c.args.known.now x)
-      on (calls x a b es d i) rest g e h =
-          named x a (token left_paren b ∷ (spell_arguments es ++ token right_paren d ∷ token semicolon i ∷ rest)) (calls x a b es d i) rest
-          g e refl
+      on (calls x a b es d i) rest g e h = c.named_statement.ensures.reads c.args.inside (calls x a b es d i) rest tt g e
       on (updates (update (place x a i) f) d) rest g e h =
-          named x a (onto_index i (onto_effect f (token semicolon d ∷ rest))) (updates (update (place x a i) f) d) rest g e refl
+          c.named_statement.ensures.reads c.args.inside (updates (update (place x a i) f) d) rest tt g e
       on (updates (step_before k a p) d) rest g e h = absurd cc
       on _ rest g e h = absurd cc
 
