@@ -17,7 +17,8 @@ use Rattle.lang_tokens.specs.declared.token.Token as lex_token
 use Rattle.lang_tokens.specs.Lexemes.{IsName, IsToken}
 use Rattle.source_grammar.specs.Tokens.{Name, Kind, a_name, Token, token, semicolon, left_paren, right_paren, left_brace, right_brace}
 use Rattle.source_grammar.specs.Tokens.{else_word}
-use Rattle.source_grammar.specs.Grammar.{spell_expr, Optional, absent, present, Update, update, step_before, steps, MoreUpdates}
+use Rattle.source_grammar.specs.Grammar.{spell_expr, spell_update, Optional, absent, present, Update, update, step_before, steps}
+use Rattle.source_grammar.specs.Grammar.{MoreUpdates}
 use Rattle.source_grammar.specs.Grammar.{last_update, next_update, Updates, no_updates, some_updates, bare, given, sized, filled}
 use Rattle.source_grammar.specs.Grammar.{Declarator, declarator, MoreDeclarators, last_declarator, next_declarator, Declarators}
 use Rattle.source_grammar.specs.Grammar.{spell_type, spell_declarator, spell_more_declarators, spell_declarators, ForFirst}
@@ -43,6 +44,7 @@ use Rattle.source_meaning.specs.declared.fault.FunctionFault.TheVariants.{NameTw
 use Rattle.source_meaning.specs.declared.fault.FunctionFault.TheVariants as fault
 use Rattle.source_meaning.specs.declared.fault.Limit.TheVariants as limit
 use Rattle.source_meaning.specs.Results.{◌>>=◌, provided}
+use Rattle.source_meaning.specs.Names.{among}
 use Rattle.source_meaning.specs.Names.{variable, array, constant, Thing, State, start_state, fresh, as_variable_again, with_variable}
 use Rattle.source_meaning.specs.Names.{declared_number, as_array_again, fresh_array, as_called, thing_of}
 use Rattle.source_meaning.specs.Arrays.{read_sizes, read_bounds}
@@ -191,7 +193,8 @@ module _ (integers : Integers) (line : ℕ → ℕ) (n : ℕ) where
   declarator_kept (declarator x at bare) st m h = now_kept (with_variable x at st) _ (variable_kept x at st m.0 h)
       (λ now k. let size = length (taken_any integers (declared_number now) (line at)) in
       now_kept (counted at size now) _ (count_kept at size now k) (λ more l. l))
-  declarator_kept (declarator x at (given b e)) st m h = some_kept (read integers (line at) st e n) _
+  declarator_kept (declarator x at (given b e)) st m h = some_kept
+      (read integers (line at) (among (spell_declarator (declarator x at (given b e))) st) e n) _
       (λ v. now_kept (with_variable x at st) _ (variable_kept x at st m.0 h)
       (λ now k. let g : Change = sets (declared_number now) v (line at) in
       now_kept (few integers n (line at) at g now) _ (few_kept Kept (line at) at g now k)
@@ -202,7 +205,8 @@ module _ (integers : Integers) (line : ℕ → ℕ) (n : ℕ) where
       (λ now k. some_kept (read_sizes now zs) _ (λ extents. k))
   declarator_kept (declarator x at (filled zs a b vs c)) st m h = now_kept (fresh_array x at st) _ (array_kept x at st h)
       (λ now k. some_kept (read_sizes now zs) _
-      (λ extents. some_kept (read_values integers (line at) now vs n) _
+      (λ extents. some_kept
+      (read_values integers (line at) (among (spell_declarator (declarator x at (filled zs a b vs c))) now) vs n) _
       (λ es. then_kept (read_evaluated integers line n now at (evaluates es (line at))) _
       (evaluated_kept at (evaluates es (line at)) now k) (λ r l. l))))
 
@@ -230,10 +234,11 @@ module _ (integers : Integers) (line : ℕ → ℕ) (n : ℕ) where
 
   update_kept : (u : Update) (st : State) → Kept st → OnValue (KeptWith {A = Change}) (read_update integers line n st u)
   update_kept (update p f) st h = let at = first_place p in
-      change_kept (changed integers n (line at) st p f) (λ g. few integers n (line at) at g g) at
+      change_kept (changed integers n (line at) (among (spell_update (update p f)) st) p f) (λ g. few integers n (line at) at g g) at
       (λ g. length (change_deeds integers n g)) st h
   update_kept (step_before d at p) st h =
-      change_kept (changed integers n (line at) st p (steps d at)) (λ g. few integers n (line at) at g g) at
+      change_kept (changed integers n (line at) (among (spell_update (step_before d at p)) st) p (steps d at))
+      (λ g. few integers n (line at) at g g) at
       (λ g. length (change_deeds integers n g)) st h
 
   more_updates_kept : (us : MoreUpdates) (st : State) → Kept st
@@ -259,7 +264,7 @@ module _ (integers : Integers) (line : ℕ → ℕ) (n : ℕ) where
 
   returned_kept : (at : ℕ) (t : Optional) (st : State) → Kept st → Walks (read_returned integers line n st at t)
   returned_kept at absent st h = h
-  returned_kept at (present e) st h = some_kept (read integers (line at) st e n) _
+  returned_kept at (present e) st h = some_kept (read integers (line at) (among (spell_expr e) st) e n) _
       (λ x. evaluated_kept at (evaluates (operand.more x operand.none) (line at)) st h)
 
   -- a statement under a condition that stands before it
@@ -316,7 +321,7 @@ module _ (integers : Integers) (line : ℕ → ℕ) (n : ℕ) where
     core_kept inside (calls x a b es c d) st m h =
         let size = nodes_in (core_in integers n (call_of x a (line a))) in
         some_kept (as_called a (thing_of x st) es) _
-        (λ es. some_kept (read_arguments integers (line a) st es n) _
+        (λ es. some_kept (read_arguments integers (line a) (among (spell_expr (tree.call x a b es c)) st) es n) _
         (λ es. then_kept (read_evaluated integers line n st a (evaluates es (line a))) _ (evaluated_kept a (evaluates es (line a)) st h)
         (λ r k. now_kept (counted a size r.0) _ (count_kept a size r.0 k) (λ now l. l))))
     core_kept inside (updates u c) st m h =
