@@ -5,8 +5,8 @@ use Rattle.std.specs.Result.{IsErrAnd}
 use Rattle.lang_tokens.specs.Lines.{line_at}
 use Rattle.lang_tree.specs.View.{statements_of}
 use Rattle.lang_tree.specs.declared.stmt.Stmt.{Stmt}
-use Rattle.source_grammar.specs.Tokens.{Name, Token, token, a_name, colon, infix_sign, times_op}
-use Rattle.source_grammar.specs.Grammar.{Core, GoodCore, Sub, GoodSub, ending_sub, labelled}
+use Rattle.source_grammar.specs.Tokens.{Name, Token, token, a_name, colon}
+use Rattle.source_grammar.specs.Grammar.{Sub, GoodSub, ending_sub, labelled}
 use Rattle.source_grammar.proofs.grammar.Follow.{AfterCore}
 use Rattle.source_tree.specs.Statements.{Statements, label}
 use Rattle.source_core.specs.Core as core
@@ -14,19 +14,16 @@ use Rattle.source_core.specs.Core.{core_in}
 use Rattle.source_meaning.specs.declared.fault.FunctionFault.{FunctionFault}
 use Rattle.source_meaning.specs.Results.{◌>>=◌}
 use Rattle.source_meaning.specs.Names.{State}
-use Rattle.source_meaning.specs.Statements.{followed_by, read_sub, read_core, new_label, one}
+use Rattle.source_meaning.specs.Statements.{followed_by, read_sub, new_label, one}
 use Rattle.source_reader.specs.Answers.{Answers}
-use Rattle.source_reader.specs.Reading.{Reading, at_tokens, first_kind}
+use Rattle.source_reader.specs.Reading.{Reading, first_kind}
 use Rattle.source_reader.specs.declared.stop.Stop.{Stop}
-use Rattle.source_change.specs.Tests.{WasRead, WasTaken, name_of}
-use Rattle.source_change.specs.declared.names.Named.{Named}
+use Rattle.source_change.specs.Tests.{WasRead}
 use Rattle.source_change.proofs.lists.Deeds.{followed_assoc}
 use Rattle.source_change.proofs.lists.Statements.{core_followed}
-use Rattle.source_change.proofs.results.Answered.{answers_so, err_never, err_then, ok_then, weaker}
+use Rattle.source_change.proofs.results.Answered.{answers_so, err_then, ok_then}
 use Rattle.source_change.proofs.results.Binds.{bind_assoc}
-use Rattle.source_statement.specs.Onto.{onto_core, onto_sub}
-use Rattle.source_statement.specs.Starts.{start_in}
-use Rattle.source_statement.specs.Starts as s
+use Rattle.source_statement.specs.Onto.{onto_sub}
 use Rattle.source_statement.specs.Parts.{read_label}
 use Rattle.source_statement.proofs.steps.Moved.{SubReads, sub_read}
 use Rattle.base_integers.specs.declared.integers.Integers.{Integers}

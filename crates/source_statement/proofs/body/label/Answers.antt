@@ -3,14 +3,12 @@ use Rattle.lang_tokens.specs.Lines.{line_at}
 use Rattle.lang_tree.specs.Tree as tree
 use Rattle.lang_tree.specs.declared.stmt.Stmt.TheVariants.{Label}
 use Rattle.source_grammar.specs.Tokens.{Name, Token, token, colon}
-use Rattle.source_tree.specs.Statements.{Statement, Statements, label}
+use Rattle.source_tree.specs.Statements.{Statement, label}
 use Rattle.source_core.specs.Core as core
 use Rattle.source_meaning.specs.Results.{◌>>=◌}
-use Rattle.source_meaning.specs.Names.{State}
 use Rattle.source_meaning.specs.Statements.{one}
 use Rattle.source_reader.specs.Answers.{Answers}
-use Rattle.source_reader.specs.Marks.{mark_in}
-use Rattle.source_reader.specs.Reading.{Reading, at_tokens, behind_first, first_kind, passed}
+use Rattle.source_reader.specs.Reading.{Reading, at_tokens, passed}
 use Rattle.source_change.specs.Tests.{WasRead, WasTaken, name_of}
 use Rattle.source_change.specs.declared.names.Named.{Named}
 use Rattle.source_change.proofs.lists.Pushed.{one_pushed}

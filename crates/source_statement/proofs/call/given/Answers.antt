@@ -1,4 +1,4 @@
-use Rattle.std.proofs.Common.{◌≡◌, ◌∙◌, ◌∷◌, ◌++◌, ℕ, List, Option, Some, None, Result, Ok, Err, refl, sym, ap, subst}
+use Rattle.std.proofs.Common.{◌≡◌, ◌∙◌, ◌∷◌, ◌++◌, ℕ, List, Option, Some, None, Result, Ok, refl, sym, ap, subst}
 use Rattle.source_grammar.specs.Tokens.{Name, Token, token, right_paren, semicolon}
 use Rattle.source_grammar.specs.Grammar.{spell_arguments}
 use Rattle.source_tree.specs.Expressions.{Expressions}

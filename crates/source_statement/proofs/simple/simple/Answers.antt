@@ -1,23 +1,19 @@
-use Rattle.std.proofs.Common.{◌≡◌, ◌∙◌, ◌∷◌, ◌++◌, ℕ, List, Ok, refl, sym, ap, ap₂, subst}
+use Rattle.std.proofs.Common.{◌≡◌, ◌∙◌, ◌∷◌, ◌++◌, List, Ok, refl, sym, ap, subst}
 use Rattle.lang_tokens.specs.Lines.{line_at}
 use Rattle.source_grammar.specs.Tokens as g
 use Rattle.source_grammar.specs.Tokens.{Name, Token, token, a_name, left_paren, right_paren, semicolon, jump_word, demand_word}
 use Rattle.source_grammar.specs.Symbols.{jump_of, demand_of}
 use Rattle.source_grammar.specs.Grammar.{Core, GoodCore, empty, jumps, returns, demands, calls, updates, update, place, step_before}
-use Rattle.source_grammar.specs.Grammar.{spell_expr, spell_arguments}
+use Rattle.source_grammar.specs.Grammar.{spell_expr}
 use Rattle.source_tree.specs.Statements.{nil}
 use Rattle.source_meaning.specs.Statements.{read_core}
 use Rattle.source_reader.specs.Answers.{Answers}
-use Rattle.source_reader.specs.Reading.{Reading, at_tokens, behind_first, first_kind}
-use Rattle.source_change.specs.Onto.{onto_index, onto_effect}
-use Rattle.source_change.specs.Tests.{WasRead, WasTaken}
-use Rattle.source_change.specs.declared.names.Named.{Named}
-use Rattle.source_change.proofs.results.Answered.{err_never}
+use Rattle.source_reader.specs.Reading.{at_tokens, behind_first, first_kind}
+use Rattle.source_change.specs.Tests.{WasRead}
 use Rattle.source_statement.specs.Onto.{onto_core}
 use Rattle.source_statement.specs.Parts.{IsSimple}
 use Rattle.source_statement.specs.Starts.{start_in, start_of, a_semicolon, a_jump, a_return, a_demand, a_name as begins_name}
 use Rattle.source_change.proofs.lists.Pushed.{none_pushed}
-use Rattle.source_statement.proofs.parts.Read.{same_read}
 use Rattle.source_statement.proofs.parts.Simple.{begins, core_begins, says_return, says_name, says_jump, says_demand}
 use Rattle.source_statement.proofs.parts.Starting.{says_semicolon}
 use Rattle.source_statement.proofs.simple.simple.Goals as goal
