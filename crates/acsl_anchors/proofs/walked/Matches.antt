@@ -27,6 +27,8 @@ use Rattle.acsl_anchors.proofs.walked.Parts.{Still, still_scope, still_numbered,
 use Rattle.acsl_anchors.proofs.walked.Parts.{jumped_still}
 use Rattle.acsl_anchors.proofs.walked.Parts.{Passes, declarators_pass, updates_still, update_passes, first_passes, returned_passes}
 use Rattle.acsl_anchors.proofs.walked.Parts.{call_passes}
+use Rattle.source_grammar.specs.Expressions as expression
+use Rattle.source_grammar.specs.Expressions.{spell_expr}
 use Rattle.acsl_anchors.proofs.walked.Numbered.{numbered_closed}
 use Rattle.acsl_anchors.proofs.walked.Points.{anchored_in, behind_deeds, branch_anchored, loop_anchored, assume_anchored, anchored_followed}
 use Rattle.acsl_anchors.proofs.walked.Points.{anchored_one}
@@ -267,7 +269,8 @@ module _ (integers : Integers) (line : ℕ → ℕ) (n : ℕ) where
           grows = still_grows st now.value s;
           points = λ s m. demand_none k a x.value m;
         })
-    core_matches inside (calls x a b es c d) st r h = passed (λ s. s) st r.0 r.1 (call_passes integers line n x a es st r h)
+    core_matches inside (calls x a b es c d) st r h =
+        passed (λ s. s) st r.0 r.1 (call_passes integers line n x a es (λ es. spell_expr (expression.call x a b es c)) st r h)
     core_matches inside (updates u c) st r h = passed (λ s. s) st r.0 r.1 (update_passes integers line n u st r h)
 
     -- a statement under a loop, an `if` or a label

@@ -10,9 +10,9 @@ use Rattle.lang_tree.specs.declared.limits.TheConstants.{MOST_HIDDEN, MOST_VARIA
 use Rattle.source_grammar.specs.Expressions.{Arguments, Optional, absent, present, steps, Update, update, step_before}
 use Rattle.source_grammar.specs.Expressions.{MoreUpdates, last_update, next_update, Updates, no_updates, some_updates}
 use Rattle.source_grammar.specs.Grammar.{bare, given}
-use Rattle.source_grammar.specs.Tokens.{Name}
+use Rattle.source_grammar.specs.Tokens.{Name, Token}
 use Rattle.source_grammar.specs.Grammar.{sized, filled, Declarator, declarator, MoreDeclarators, last_declarator, next_declarator}
-use Rattle.source_grammar.specs.Grammar.{Declarators}
+use Rattle.source_grammar.specs.Grammar.{Declarators, spell_expr, spell_update, spell_declarator}
 use Rattle.source_grammar.specs.Grammar.{ForFirst, declared_first, updated_first}
 use Rattle.source_grammar.specs.Grammar as tree
 use Rattle.source_tree.specs.Expressions.{Extent, none, more}
@@ -23,6 +23,7 @@ use Rattle.source_meaning.specs.declared.fault.FunctionFault.{FunctionFault}
 use Rattle.source_meaning.specs.declared.fault.FunctionFault.TheVariants as fault
 use Rattle.source_meaning.specs.declared.fault.Limit.TheVariants as limit
 use Rattle.source_meaning.specs.Results.{◌>>=◌, provided}
+use Rattle.source_meaning.specs.Names.{among}
 use Rattle.source_meaning.specs.Names.{Named, Thing, State, variable, array, constant, declared, fresh, with_name, as_variable_again}
 use Rattle.source_meaning.specs.Names.{with_variable, declared_number, as_array_again, fresh_array, with_array, thing_of, as_called}
 use Rattle.source_meaning.specs.Arrays.{read_sizes}
@@ -326,7 +327,7 @@ module _ (integers : Integers) (line : ℕ → ℕ) (n : ℕ) where
       subst P (ok_is _ r more.gave) (declares_passes integers n (spec.declared x.text) st more.value _ d (declares_none integers n i
       (line at)))
   declarator_passes (declarator x at (given b e)) st r h =
-      let v = met (read integers (line at) st e n) _ r h in
+      let v = met (read integers (line at) (among (spell_declarator (declarator x at (given b e))) st) e n) _ r h in
       let now = met (with_variable x at st) _ r v.gave in
       let g : Change = sets (declared_number now.value) v.value (line at) in
       let within = met (few integers n (line at) at g now.value) _ r now.gave in
@@ -345,7 +346,8 @@ module _ (integers : Integers) (line : ℕ → ℕ) (n : ℕ) where
   declarator_passes (declarator x at (filled ss a b vs c)) st r h =
       let now = met (fresh_array x at st) _ r h in
       let extents = met (read_sizes now.value ss) _ r now.gave in
-      let es = met (read_values integers (line at) now.value vs n) _ r extents.gave in
+      let es = met (read_values integers (line at) (among (spell_declarator (declarator x at (filled ss a b vs c))) now.value) vs n) _ r
+      extents.gave in
       let g : Change = evaluates es.value (line at) in
       let q = met (read_evaluated integers line n now.value at g) _ r es.gave in
       let (still, same) = evaluated_still at g now.value q.value q.was in
@@ -395,9 +397,11 @@ module _ (integers : Integers) (line : ℕ → ℕ) (n : ℕ) where
   -- a change declares nothing
   pub update_still : (u : Update) (st : State) (r : State × Change) → IsOk (read_update integers line n st u) r → Still st r.0
   update_still (update p f) st r h =
-      let g = met (changed integers n (line (first_place p)) st p f) _ r h in counted_change st (first_place p) g.value r g.gave
+      let g = met (changed integers n (line (first_place p)) (among (spell_update (update p f)) st) p f) _ r h in
+      counted_change st (first_place p) g.value r g.gave
   update_still (step_before d at p) st r h =
-      let g = met (changed integers n (line at) st p (steps d at)) _ r h in counted_change st at g.value r g.gave
+      let g = met (changed integers n (line at) (among (spell_update (step_before d at p)) st) p (steps d at)) _ r h in
+      counted_change st at g.value r g.gave
 
   -- nor do those behind the first
   more_updates_still : (us : MoreUpdates) (st : State) (r : State × List Change) → IsOk (read_more_updates integers line n st us) r
@@ -448,7 +452,8 @@ module _ (integers : Integers) (line : ℕ → ℕ) (n : ℕ) where
       let P : State × Statements → Type 0 = λ z. passes_by integers n (λ s. s) st z in
       subst P (ok_is _ r h) (still_passes integers n st st nil (still_here st) (λ m. refl))
   returned_passes at (present e) st r h =
-      let x = met (read integers (line at) st e n) _ r h in evaluated_passes at (evaluates (more x.value none) (line at)) st r x.gave
+      let x = met (read integers (line at) (among (spell_expr e) st) e n) _ r h in
+      evaluated_passes at (evaluates (more x.value none) (line at)) st r x.gave
 
   -- what a call does behind its arguments
   call_none : (x : Name) (at k m : ℕ) → anchored_in (core_in integers n (call_of x at k)) m ≡ []
@@ -460,14 +465,14 @@ module _ (integers : Integers) (line : ℕ → ℕ) (n : ℕ) where
     by_name false false = refl
 
   -- a call as a statement
-  pub call_passes : (x : Name) (at : ℕ) (es : Arguments) (st : State) (r : State × Statements)
-      → IsOk (as_called at (thing_of x st) es >>= λ es. read_arguments integers (line at) st es n
+  pub call_passes : (x : Name) (at : ℕ) (es : Arguments) (ts : Arguments → List Token) (st : State) (r : State × Statements)
+      → IsOk (as_called at (thing_of x st) es >>= λ es. read_arguments integers (line at) (among (ts es) st) es n
       >>= λ es. read_evaluated integers line n st at (evaluates es (line at))
       >>= λ r. (let after : Statements = call_of x at (line at) in counted at (nodes_in (core_in integers n after)) r.0
       >>= λ now. Ok (now, followed_by r.1 after))) r → passes_by integers n (λ s. s) st r
-  call_passes x at es st r h =
+  call_passes x at es ts st r h =
       let named = met (as_called at (thing_of x st) es) _ r h in
-      let xs = met (read_arguments integers (line at) st named.value n) _ r named.gave in
+      let xs = met (read_arguments integers (line at) (among (ts named.value) st) named.value n) _ r named.gave in
       let q = met (read_evaluated integers line n st at (evaluates xs.value (line at))) _ r xs.gave in
       let after : Statements = call_of x at (line at) in
       let now = met (counted at (nodes_in (core_in integers n after)) q.value.0) _ r q.gave in
