@@ -1,16 +1,18 @@
 -- A certificate as JSON.
-use Rattle.std.specs.Prelude.{◌≡◌, ◌≤◌, ◌<◌, ◌&&◌, ◌||◌, ◌==◌, ◌⊎◌, ℕ, ℤ, Bool, false, List, [], Option}
+use Rattle.std.specs.Prelude.{◌≡◌, ◌≤◌, ◌<◌, ◌&&◌, ◌||◌, ◌==◌, ◌⊎◌, ℕ, ℤ, Bool, false, true, List, [], Option}
 use Rattle.std.specs.Prelude.{Some, None, Result, Ok, Err, IsUtf8, if◌then◌else◌, is_some, length, map, nat_lt, option_and_then, codes, ⊤}
 use Rattle.serde_json.specs.Data.{Data, Members, member, no_members, object}
 use Rattle.serde_json.specs.Find.{as_i64, as_number, as_u64, get}
 use Rattle.serde_json.specs.Read.{read}
 use Rattle.base_fractions.specs.Extended.{extended}
 use Rattle.base_fractions.specs.declared.ext.Ext.{Ext}
-use Rattle.flow_systems.specs.declared.trace.Trace.{Trace}
-use Rattle.cert_types.specs.Shaped.{IsShaped}
-use Rattle.cert_types.specs.declared.cert.Cert.{Cert}
-use Rattle.cert_types.specs.declared.step.Step.{Step}
-use Rattle.cert_types.specs.declared.upper.Upper.{Upper}
+use Rattle.cert_written.specs.declared.trace.Trace.{Trace}
+use Rattle.cert_written.specs.Bare.{bare_cert, bare_step}
+use Rattle.cert_written.specs.Shaped.{IsShaped, are_whole}
+use Rattle.cert_written.specs.declared.cert.Cert.{Cert}
+use Rattle.cert_written.specs.declared.entries.Entries.{Entries}
+use Rattle.cert_written.specs.declared.step.Step.{Step}
+use Rattle.cert_written.specs.declared.upper.Upper.{Upper}
 use Rattle.cert_text.specs.declared.fault.Field.{Field}
 use Rattle.cert_text.specs.declared.fault.Field.TheVariants.{Top, Format, Rows, Bounds, Traces, Steps, Uppers}
 use Rattle.cert_text.specs.declared.fault.FormFault.{FormFault}
@@ -18,9 +20,9 @@ use Rattle.cert_text.specs.declared.fault.FormFault.TheVariants.{Expanded, Numbe
 use Rattle.cert_text.specs.declared.limits.TheConstants.{MOST_VALUES}
 use Rattle.cert_text.specs.declared.setting.Setting.{Setting}
 use Rattle.cert_text.specs.Lists.{is_list, list_data, list_in}
-use Rattle.cert_text.specs.Numbers.{whole_data, whole_in}
 use Rattle.cert_text.specs.Keys.{index_data, member_count}
-use Rattle.cert_text.specs.Traces.{are_texts, is_trace, trace_data, trace_in}
+use Rattle.cert_text.specs.Pairs.{are_entries, entries_data, entries_in}
+use Rattle.cert_text.specs.Traces.{is_trace, trace_data, trace_in}
 use Rattle.cert_text.specs.Naming.{named_traces, values_of, with_traces}
 use Rattle.cert_text.specs.StepForms.{is_step, step_data, step_in}
 use Rattle.cert_text.specs.Evidence.{is_upper, upper_data, upper_in}
@@ -50,25 +52,32 @@ is_top d = (member_count d == 5 || has_traces d) && has_key (codes "bounds") d &
 abbrev pub top_in : Data → Result ⊤ FormFault
 top_in d = if is_top d then Ok tt else Err (Shape Top)
 
--- the format that has these keys
-abbrev pub format_of : Bool → ℕ
-format_of listed = if listed then 2 else 1
-
 -- there is a number, and it is this one
 abbrev pub is_this : ℕ → Option ℕ → Bool
 is_this m None = false
 is_this m (Some n) = n == m
 
--- a whole number is one that JSON's reader gives as 64 bits without or with a sign; 1 and 2 each ask for its keys
-abbrev pub format_from : Bool → Option ℕ → Option ℤ → Result ⊤ FormFault
-format_from listed n z = if is_this (format_of listed) n then Ok tt
-    else (if is_this 1 n || is_this 2 n then Err (Shape Format) else (if is_some n || is_some z then Err Version else Err (Shape Format)))
+-- a format that has these keys: 1 has no traces of their own, 2 and 3 have
+abbrev pub has_keys : Bool → Option ℕ → Bool
+has_keys listed n = if listed then is_this 2 n || is_this 3 n else is_this 1 n
 
--- whether the format is 1 or 2, as the keys say
+-- a whole number is one that JSON's reader gives as 64 bits without or with a sign; 1, 2 and 3 each ask for their keys
+abbrev pub format_from : Bool → Option ℕ → Option ℤ → Result ⊤ FormFault
+format_from listed n z = if has_keys listed n then Ok tt
+    else (if is_this 1 n || is_this 2 n || is_this 3 n then Err (Shape Format)
+    else (if is_some n || is_some z then Err Version else Err (Shape Format)))
+
+-- the format as a whole number without a sign, if it is one
+abbrev pub natural_format : Data → Option ℕ
+natural_format d = option_and_then as_u64 (option_and_then as_number (get (codes "format") d))
+
+-- whether the format is 1, 2 or 3, as the keys say
 abbrev pub format_in : Data → Result ⊤ FormFault
-format_in d =
-    format_from (has_traces d) (option_and_then as_u64 (option_and_then as_number (get (codes "format") d)))
-    (option_and_then as_i64 (option_and_then as_number (get (codes "format") d)))
+format_in d = format_from (has_traces d) (natural_format d) (option_and_then as_i64 (option_and_then as_number (get (codes "format") d)))
+
+-- lists of fractions are without zeros in format 3
+abbrev pub is_sparse_form : Data → Bool
+is_sparse_form d = is_this 3 (natural_format d)
 
 -- the elements of a field that has its shape
 abbrev pub or_number : {A : Type 0} → Field → Option (List A) → Result (List A) FormFault
@@ -80,17 +89,27 @@ abbrev pub list_from : {A : Type 0} → Field → (Data → Bool) → (Data → 
 list_from field test read None = Err (Shape field)
 list_from field test read (Some d) = if is_list test d then or_number field (list_in read d) else Err (Shape field)
 
+-- a list, if its entries are whole numbers
+abbrev pub if_row : Entries → Option Entries
+if_row e = if are_whole e then Some e else None
+
+-- the row of the template that a value is
+abbrev pub row_in : Bool → Data → Option Entries
+row_in sparse d = option_and_then if_row (entries_in sparse d)
+
 -- the rows
-abbrev pub rows_in : Data → Result (List (List ℤ)) FormFault
-rows_in d = list_from Rows are_texts (list_in whole_in) (get (codes "rows") d)
+abbrev pub rows_in : Bool → Data → Result (List Entries) FormFault
+rows_in sparse d = list_from Rows (are_entries sparse) (row_in sparse) (get (codes "rows") d)
 
 -- the bounds, a list for each point
 abbrev pub bounds_in : ℕ → Data → Result (List (List Ext)) FormFault
 bounds_in rows d = list_from Bounds (is_line rows) line_in (get (codes "bounds") d)
 
 -- the traces, if they stand in a list of their own
-abbrev pub traces_in : Data → Result (Option (List Trace)) FormFault
-traces_in d = if has_traces d then and_then (list_from Traces is_trace trace_in (get (codes "traces") d)) (λ traces. Ok (Some traces))
+abbrev pub traces_in : Bool → Data → Result (Option (List Trace)) FormFault
+traces_in sparse d =
+    if has_traces d then and_then (list_from Traces (is_trace sparse) (trace_in sparse) (get (codes "traces") d)) (λ traces. Ok (Some
+        traces))
     else Ok None
 
 -- the steps
@@ -98,8 +117,8 @@ abbrev pub steps_in : Setting → Data → Result (List Step) FormFault
 steps_in s d = list_from Steps (is_step s) (step_in s) (get (codes "steps") d)
 
 -- the evidence
-abbrev pub uppers_in : Data → Result (List Upper) FormFault
-uppers_in d = list_from Uppers is_upper upper_in (get (codes "uppers") d)
+abbrev pub uppers_in : Bool → Data → Result (List Upper) FormFault
+uppers_in sparse d = list_from Uppers (is_upper sparse) (upper_in sparse) (get (codes "uppers") d)
 
 -- this number of values is refused where traces are named: all that they hold, counted once for each naming
 abbrev pub is_over : Option (List Trace) → ℕ → Bool
@@ -107,27 +126,31 @@ is_over None values = false
 is_over (Some traces) values = nat_lt MOST_VALUES values
 
 -- the steps and the evidence; last, that the traces named hold few enough values
-abbrev pub rest_in : Setting → Data → Result (List Step × List Upper) FormFault
-rest_in s d = and_then (steps_in s d) (λ steps. and_then (uppers_in d) (λ uppers.
+abbrev pub rest_in : Bool → Setting → Data → Result (List Step × List Upper) FormFault
+rest_in sparse s d = and_then (steps_in s d) (λ steps. and_then (uppers_in sparse d) (λ uppers.
     if is_over s.traces (values_of (named_traces steps)) then Err Expanded else Ok (steps, uppers)))
 
--- the certificate that a value is, or why it is none: the fields one after another
+-- the setting of steps of a certificate of n rows with these traces; a trace that stands in its place has its zeros
+abbrev pub step_setting : ℕ → Option (List Trace) → Setting
+step_setting n traces = record { rows = n; traces = traces; sparse = is_some traces }
+
+-- the fields of a value one after another, where lists are without zeros or aren't
+abbrev pub fields_in : Bool → Data → Result Cert FormFault
+fields_in sparse d =
+    and_then (rows_in sparse d) (λ rows. and_then (bounds_in (length rows) d) (λ lines.
+    and_then (traces_in sparse d) (λ traces. and_then (rest_in sparse (step_setting (length rows) traces) d) (λ rest.
+    Ok (record { rows = rows; bounds = map extended (joined lines); steps = rest.0; uppers = rest.1 })))))
+
+-- the certificate that a value is, or why it is none
 abbrev pub cert_in : Data → Result Cert FormFault
-cert_in d =
-    and_then (top_in d) (λ _. and_then (format_in d) (λ _. and_then (rows_in d) (λ rows. and_then (bounds_in (length rows) d) (λ lines.
-    and_then (traces_in d) (λ traces. and_then (rest_in (record { rows = length rows; traces = traces }) d) (λ rest.
-    Ok (record { rows = rows; bounds = map extended (joined lines); steps = rest.0; uppers = rest.1 })))))))
+cert_in d = and_then (top_in d) (λ _. and_then (format_in d) (λ _. fields_in (is_sparse_form d) d))
 
 -- ---- writing
-
--- the value of a row
-abbrev pub row_data : List ℤ → Data
-row_data row = list_data whole_data row
 
 -- the value with these fields
 abbrev pub cert_object : (bounds rows steps traces uppers : Data) → Data
 cert_object bounds rows steps traces uppers =
-    object (member (codes "bounds") bounds (member (codes "format") (index_data 2) (member (codes "rows") rows (member (codes "steps") steps
+    object (member (codes "bounds") bounds (member (codes "format") (index_data 3) (member (codes "rows") rows (member (codes "steps") steps
     (member (codes "traces") traces (member (codes "uppers") uppers no_members))))))
 
 -- steps, the traces that they name and evidence as the last fields of a certificate of n rows
@@ -143,7 +166,7 @@ listed_traces c = with_traces [] (named_traces c.steps)
 -- the value of a certificate
 abbrev pub cert_data : Cert → Data
 cert_data c =
-    cert_object (bounds_data (length c.rows) c.bounds) (list_data row_data c.rows)
+    cert_object (bounds_data (length c.rows) c.bounds) (list_data entries_data c.rows)
     (list_data (step_data (length c.rows) (listed_traces c)) c.steps)
     (list_data trace_data (listed_traces c)) (list_data upper_data c.uppers)
 
@@ -157,17 +180,21 @@ pub record IsEmpty (c : Cert) : Type 0 where
 abbrev pub IsWritable : Cert → Type 0
 IsWritable c = IsShaped c ⊎ IsEmpty c
 
+-- how many values the traces hold that its steps name, without zeros
+abbrev pub written_values : Cert → ℕ
+written_values c = values_of (named_traces (map bare_step c.steps))
+
 -- the traces named hold few enough values for the certificate to be read again
 abbrev pub IsWithin : Cert → Type 0
-IsWithin c = values_of (named_traces c.steps) ≤ MOST_VALUES
+IsWithin c = written_values c ≤ MOST_VALUES
 
 -- and they hold too many
 abbrev pub IsBeyond : Cert → Type 0
-IsBeyond c = MOST_VALUES < values_of (named_traces c.steps)
+IsBeyond c = MOST_VALUES < written_values c
 
--- what the value of a certificate is read as
+-- what the value of a certificate is read as: it without the zeros of its lists
 abbrev pub read_again : Cert → Result Cert FormFault
-read_again c = if nat_lt MOST_VALUES (values_of (named_traces c.steps)) then Err Expanded else Ok c
+read_again c = if nat_lt MOST_VALUES (written_values c) then Err Expanded else Ok (bare_cert c)
 
 -- ---- bytes
 

@@ -7,7 +7,7 @@ use Rattle.base_fractions.specs.Texts.{frac_text}
 use Rattle.base_fractions.specs.Extended.{ExtFits, ext_text}
 use Rattle.base_fractions.specs.declared.ext.Ext.{Ext}
 use Rattle.lang_tree.specs.Numbers.{is_number}
-use Rattle.cert_types.specs.declared.cert.Cert.{Cert}
+use Rattle.cert_written.specs.declared.cert.Cert.{Cert}
 use Rattle.cert_text.specs.Numbers.{ext_of, frac_of, whole_of}
 use Rattle.cert_text.specs.Certificates.{SpellsCert}
 

@@ -1,6 +1,7 @@
 pub mod Lists
 pub mod Numbers
 pub mod Keys
+pub mod Pairs
 pub mod Traces
 pub mod Naming
 pub mod StepItems

@@ -1,5 +1,6 @@
 -- The traces that the items of steps name, how many values they hold, and their numbers.
-use Rattle.std.specs.Prelude.{◌≡◌, ◌+◌, ℕ, Bool, List, [], ◌∷◌, ◌++◌, Option, Some, fold, length, map, min, option_and_then, if◌then◌else◌}
+use Rattle.std.specs.Prelude.{◌≡◌, ◌+◌, ℕ, Bool, true, List, [], ◌∷◌, ◌++◌, Option, Some, fold, length, map, min}
+use Rattle.std.specs.Prelude.{option_and_then, if◌then◌else◌}
 use Rattle.std.specs.List.{flat_map, list_any, position_or_len}
 use Rattle.std.specs.Str.{bytes_eq}
 use Rattle.std.specs.declared.alloc.Global.{Global}
@@ -7,14 +8,17 @@ use Rattle.std.specs.declared.vec.Vec.{Vec}
 use Rattle.serde_json.specs.Data.{Data}
 use Rattle.serde_json.specs.Read.{read}
 use Rattle.serde_json.specs.Written.{compact_text}
-use Rattle.flow_systems.specs.declared.trace.Trace.{Trace}
-use Rattle.cert_types.specs.declared.step.Item.{Item}
-use Rattle.cert_types.specs.declared.step.JumpItem.{JumpItem}
-use Rattle.cert_types.specs.declared.step.RayItem.{RayItem}
-use Rattle.cert_types.specs.declared.step.Step.{Step}
-use Rattle.cert_types.specs.declared.step.Step.TheVariants.{Plain, Jump, Ray}
+use Rattle.cert_written.specs.declared.trace.Trace.{Trace}
+use Rattle.cert_written.specs.declared.step.Item.{Item}
+use Rattle.cert_written.specs.declared.step.JumpItem.{JumpItem}
+use Rattle.cert_written.specs.declared.step.RayItem.{RayItem}
+use Rattle.cert_written.specs.declared.step.Step.{Step}
+use Rattle.cert_written.specs.declared.step.Step.TheVariants.{Plain, Jump, Ray}
 use Rattle.cert_text.specs.declared.limits.TheConstants.{MOST_VALUES}
 use Rattle.cert_text.specs.Keys.{index_data}
+use Rattle.cert_written.specs.Bare.{bare_trace}
+use Rattle.cert_written.specs.declared.entries.Entries.{Entries}
+use Rattle.cert_written.specs.declared.entries.Entries.TheVariants.{Dense, Sparse}
 use Rattle.cert_text.specs.Traces.{trace_data, trace_in}
 
 -- ---- which traces are named, in order
@@ -43,10 +47,15 @@ named_traces steps = flat_map step_traces steps
 
 -- ---- how many values they hold
 
+-- how many values a list has: all of them, or those that it has without zeros
+abbrev pub entry_count : Entries → ℕ
+entry_count (Dense qs) = length qs
+entry_count (Sparse ps) = length ps
+
 -- the start values and the free values of all of them
 abbrev pub values_of : List Trace → ℕ
 values_of [] = 0
-values_of (t ∷ ts) = (length t.start + length t.free) + values_of ts
+values_of (t ∷ ts) = (entry_count t.start + entry_count t.free) + values_of ts
 
 -- as far as values are counted
 abbrev pub capped : ℕ → ℕ
@@ -54,18 +63,18 @@ capped n = min n (MOST_VALUES + 1)
 
 -- ---- their numbers
 
--- the text of a trace
+-- the text of a trace, which is that without the zeros of its lists
 unfoldable pub trace_text : Trace → List ℕ
 trace_text t = compact_text (trace_data t)
 
--- the trace that a text spells
+-- the trace that a text spells, without the zeros of its lists
 unfoldable pub spelt_trace : List ℕ → Option Trace
-spelt_trace text = option_and_then trace_in (read text)
+spelt_trace text = option_and_then (trace_in true) (read text)
 
--- the text of each trace spells it
+-- the text of each trace spells it without the zeros of its lists
 abbrev pub AreSpelt : List Trace → Type 0
 AreSpelt [] = Unit {0}
-AreSpelt (t ∷ ts) = (spelt_trace (trace_text t) ≡ Some t) × AreSpelt ts
+AreSpelt (t ∷ ts) = (spelt_trace (trace_text t) ≡ Some (bare_trace t)) × AreSpelt ts
 
 -- the texts that a set holds, in order
 abbrev pub texts_of : List (Vec ℕ Global) → List (List ℕ)

@@ -54,10 +54,6 @@ is_text d = is_some (as_str d)
 abbrev pub frac_in : Data → Option ℚ
 frac_in d = option_and_then frac_of (as_str d)
 
--- the whole number that a value is
-abbrev pub whole_in : Data → Option ℤ
-whole_in d = option_and_then whole_of (as_str d)
-
 -- the fraction or infinity that a value is
 abbrev pub ext_in : Data → Option Ext
 ext_in d = option_and_then ext_of (as_str d)
@@ -65,10 +61,6 @@ ext_in d = option_and_then ext_of (as_str d)
 -- the value of a fraction
 abbrev pub frac_data : ℚ → Data
 frac_data q = string (frac_text q)
-
--- the value of a whole number
-abbrev pub whole_data : ℤ → Data
-whole_data z = frac_data (whole z)
 
 -- the value of a bound, as an extended number
 abbrev pub bound_data : Extended → Data

@@ -2,9 +2,9 @@
 use Rattle.std.specs.Prelude.{◌&&◌, ◌||◌, ◌==◌, ℕ, Bool, List, Option, None, nat_lt, if◌then◌else◌, option_and_then, option_map, codes}
 use Rattle.serde_json.specs.Data.{Data, member, no_members, object, string}
 use Rattle.serde_json.specs.Find.{get}
-use Rattle.flow_systems.specs.declared.trace.Trace.{Trace}
-use Rattle.cert_types.specs.declared.step.Step.{Step}
-use Rattle.cert_types.specs.declared.step.Step.TheVariants.{Plain, Jump, Ray}
+use Rattle.cert_written.specs.declared.trace.Trace.{Trace}
+use Rattle.cert_written.specs.declared.step.Step.{Step}
+use Rattle.cert_written.specs.declared.step.Step.TheVariants.{Plain, Jump, Ray}
 use Rattle.cert_text.specs.declared.setting.Setting.{Setting}
 use Rattle.cert_text.specs.Lists.{is_list, list_data, list_in}
 use Rattle.cert_text.specs.Keys.{is_kind, item_count, member_count, passes_at}

@@ -2,10 +2,10 @@
 use Rattle.std.specs.Prelude.{◌/◌, ◌%◌, ◌&&◌, ◌==◌, ℕ, Bool, List, Option, option_and_then, option_map, codes}
 use Rattle.serde_json.specs.Data.{Data, array, item, member, no_items, no_members, object}
 use Rattle.serde_json.specs.Find.{get}
-use Rattle.cert_types.specs.declared.step.Item.{Item}
-use Rattle.cert_types.specs.declared.step.JumpItem.{JumpItem}
-use Rattle.cert_types.specs.declared.step.RayItem.{RayItem}
-use Rattle.flow_systems.specs.declared.trace.Trace.{Trace}
+use Rattle.cert_written.specs.declared.step.Item.{Item}
+use Rattle.cert_written.specs.declared.step.JumpItem.{JumpItem}
+use Rattle.cert_written.specs.declared.step.RayItem.{RayItem}
+use Rattle.cert_written.specs.declared.trace.Trace.{Trace}
 use Rattle.cert_text.specs.declared.items.TwoTraces.{TwoTraces}
 use Rattle.cert_text.specs.declared.setting.Setting.{Setting}
 use Rattle.cert_text.specs.Numbers.{frac_data, frac_in, is_text}
@@ -21,7 +21,7 @@ unknown_data rows u = array (item (index_data (u / rows)) (item (index_data (u %
 
 -- `edge`, `low` and `unknown`, which each kind of item has
 abbrev pub has_start : Setting → Data → Bool
-has_start s d = passes_at is_index (codes "edge") d && passes_at (is_trace_by s.traces) (codes "low") d
+has_start s d = passes_at is_index (codes "edge") d && passes_at (is_trace_by s.sparse s.traces) (codes "low") d
     && passes_at (is_unknown s.rows) (codes "unknown") d
 
 -- `edge`, `low`, `to` and `unknown`
@@ -30,7 +30,7 @@ is_plain_item s d = (member_count d == 4) && has_start s d && passes_at is_text 
 
 -- `edge`, `low`, `unknown`, and a second trace and a number at these keys
 abbrev pub has_two_traces : List ℕ → List ℕ → Setting → Data → Bool
-has_two_traces second number s d = (member_count d == 5) && has_start s d && passes_at (is_trace_by s.traces) second d
+has_two_traces second number s d = (member_count d == 5) && has_start s d && passes_at (is_trace_by s.sparse s.traces) second d
     && passes_at is_text number d
 
 -- `edge`, `high`, `low`, `to` and `unknown`
@@ -53,7 +53,7 @@ plain_item_in s d =
       to =
           to;
     })
-    (unknown_at s.rows (codes "unknown") d)) (option_and_then frac_in (get (codes "to") d))) (trace_at s.traces (codes "low") d))
+    (unknown_at s.rows (codes "unknown") d)) (option_and_then frac_in (get (codes "to") d))) (trace_at s.sparse s.traces (codes "low") d))
     (index_at (codes "edge") d)
 
 -- the parts of an item with a second trace and a number at these keys
@@ -66,8 +66,8 @@ two_traces_in second number s d =
       second = other;
       number = amount;
     })
-    (unknown_at s.rows (codes "unknown") d)) (option_and_then frac_in (get number d))) (trace_at s.traces second d))
-    (trace_at s.traces (codes "low") d))
+    (unknown_at s.rows (codes "unknown") d)) (option_and_then frac_in (get number d))) (trace_at s.sparse s.traces second d))
+    (trace_at s.sparse s.traces (codes "low") d))
     (index_at (codes "edge") d)
 
 -- the item of a jump that a value is

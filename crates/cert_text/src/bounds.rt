@@ -74,6 +74,8 @@ impl Entry for Line {
 
     ghost element_data = { λ _ _ line. ext_line_data line };
 
+    ghost bare = { λ line. line };
+
     ghost writable = { λ rows _ line. length line == rows };
 
     fn has_shape(setting: &Setting, value: &Value) -> bool {

@@ -1,10 +1,10 @@
 //! What stands in the lists of a certificate.
 
-ghost use Rattle.std.specs.Prelude.{◌≡◌, IfOk, IsTrue, true, Some, option_map, vec_items};
+ghost use Rattle.std.specs.Prelude.{◌≡◌, IfOk, IsTrue, true, Some, map, option_map, vec_items};
 ghost use Rattle.std.specs.List.{list_all};
 ghost use Rattle.serde_json.specs.View.{items_view, view};
 ghost use Rattle.cert_text.specs.Lists.{all_items, is_list, items_in, list_data, list_in};
-ghost use Rattle.cert_text.specs.Traces.{listing};
+ghost use Rattle.cert_text.specs.Traces.{relisting};
 
 use crate::numbering::Numbering;
 use crate::setting::Setting;
@@ -12,11 +12,11 @@ use serde_json::Value;
 use std::alloc::{AllocError, Global};
 
 /// An element of a list: its shape as JSON and what it is read as, under a setting; and what it is written as, where the
-/// template has `rows` rows and traces are named by their numbers in `names`.
+/// template has `rows` rows and traces are named by their numbers in `names`. Lists of fractions are written without zeros.
 pub(crate) trait Entry: Drop {
     ghost use Rattle.std.specs.Prelude.{ℕ, Bool, List, Option};
     ghost use Rattle.serde_json.specs.Data.{Data};
-    ghost use Rattle.flow_systems.specs.declared.trace.Trace.{Trace};
+    ghost use Rattle.cert_written.specs.declared.trace.Trace.{Trace};
     ghost use Rattle.cert_text.specs.declared.setting.Setting.{Setting};
 
     // Whether a value has the shape of such an element.
@@ -27,6 +27,9 @@ pub(crate) trait Entry: Drop {
 
     // The value that an element is written as.
     ghost element_data: { ℕ → List Trace → Self → Data };
+
+    // An element without the zeros of its lists.
+    ghost bare: { Self → Self };
 
     // Whether an element can be written.
     ghost writable: { ℕ → List Trace → Self → Bool };
@@ -43,8 +46,9 @@ pub(crate) trait Entry: Drop {
     fn write(&self, alloc: Global, rows: usize, names: &Numbering) -> Result<Value, AllocError>
         requires { IsTrue (writable rows names.now self.now) }
         ensures value { IfOk result (λ v. view v ≡ element_data rows names.now self.now) }
-        ensures shape { IfOk result (λ _. shaped (listing rows names.now) (element_data rows names.now self.now) ≡ true) }
-        ensures back { IfOk result (λ _. element_in (listing rows names.now) (element_data rows names.now self.now) ≡ Some self.now) };
+        ensures shape { IfOk result (λ _. shaped (relisting rows names.now) (element_data rows names.now self.now) ≡ true) }
+        ensures back { IfOk result (λ _. element_in (relisting rows names.now) (element_data rows names.now self.now)
+            ≡ Some (bare self.now)) };
 }
 
 // Whether each of the values has its shape.
@@ -110,10 +114,10 @@ pub(crate) fn write_list<T: Entry>(
 ) -> Result<Value, AllocError>
     requires { IsTrue (list_all (T.writable rows names.now) list.now) }
     ensures value { IfOk result (λ v. view v ≡ list_data (T.element_data rows names.now) list.now) }
-    ensures shape { IfOk result (λ _. is_list (T.shaped (listing rows names.now)) (list_data (T.element_data rows names.now) list.now)
+    ensures shape { IfOk result (λ _. is_list (T.shaped (relisting rows names.now)) (list_data (T.element_data rows names.now) list.now)
         ≡ true) }
-    ensures back { IfOk result (λ _. list_in (T.element_in (listing rows names.now)) (list_data (T.element_data rows names.now) list.now)
-        ≡ Some list.now) }
+    ensures back { IfOk result (λ _. list_in (T.element_in (relisting rows names.now)) (list_data (T.element_data rows names.now) list.now)
+        ≡ Some (map T.bare list.now)) }
 {
     let mut values = Vec::new(alloc);
     for element in list {

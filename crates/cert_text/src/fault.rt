@@ -9,7 +9,7 @@ pub enum Field {
     Format,
     Rows,
     Bounds,
-    /// The list of traces, which format 2 alone has.
+    /// The list of traces, which formats 2 and 3 have.
     Traces,
     Steps,
     Uppers,
@@ -24,9 +24,10 @@ pub enum FormFault {
     Shape(Field),
     /// The field has its shape, and a text in it isn't the canonical text of a number of its kind.
     Number(Field),
-    /// The format is a whole number other than 1 and 2.
+    /// The format is a whole number other than 1, 2 and 3.
     Version,
-    /// The traces that items name by number hold more than `MOST_VALUES` values, counted once for each naming.
+    /// The traces that items name by number hold more than `MOST_VALUES` values, counted once for each naming; without
+    /// zeros in format 3.
     Expanded,
     /// Memory was refused.
     NoMemory,

@@ -20,8 +20,7 @@ use crate::numbers::{is_text, number_value, read_number};
 use crate::setting::Setting;
 use crate::trace::{is_trace_at, named_at, trace_at, trace_values};
 use base_fractions::Frac;
-use cert_types::{Item, JumpItem, RayItem};
-use flow_systems::Trace;
+use cert_written::{Item, JumpItem, RayItem, Trace};
 use serde_json::{Map, Value};
 use std::alloc::{AllocError, Global};
 
@@ -200,6 +199,7 @@ impl Entry for Item {
     ghost use Rattle.std.specs.Prelude.{◌&&◌, nat_lt};
     ghost use Rattle.std.specs.List.{list_all};
     ghost use Rattle.cert_text.specs.Naming.{is_listed, plain_traces};
+    ghost use Rattle.cert_written.specs.Bare.{bare_item};
     ghost use Rattle.cert_text.specs.StepItems.{is_plain_item, plain_item_data, plain_item_in};
 
     ghost shaped = { is_plain_item };
@@ -207,6 +207,8 @@ impl Entry for Item {
     ghost element_in = { plain_item_in };
 
     ghost element_data = { plain_item_data };
+
+    ghost bare = { bare_item };
 
     ghost writable = { λ rows names item. nat_lt 0 rows && list_all (is_listed names) (plain_traces item) };
 
@@ -247,6 +249,7 @@ impl Entry for JumpItem {
     ghost use Rattle.std.specs.Prelude.{◌&&◌, nat_lt};
     ghost use Rattle.std.specs.List.{list_all};
     ghost use Rattle.cert_text.specs.Naming.{is_listed, jump_traces};
+    ghost use Rattle.cert_written.specs.Bare.{bare_jump_item};
     ghost use Rattle.cert_text.specs.StepItems.{is_jump_item, jump_item_data, jump_item_in};
 
     ghost shaped = { is_jump_item };
@@ -254,6 +257,8 @@ impl Entry for JumpItem {
     ghost element_in = { jump_item_in };
 
     ghost element_data = { jump_item_data };
+
+    ghost bare = { bare_jump_item };
 
     ghost writable = { λ rows names item. nat_lt 0 rows && list_all (is_listed names) (jump_traces item) };
 
@@ -298,6 +303,7 @@ impl Entry for RayItem {
     ghost use Rattle.std.specs.Prelude.{◌&&◌, nat_lt};
     ghost use Rattle.std.specs.List.{list_all};
     ghost use Rattle.cert_text.specs.Naming.{is_listed, ray_traces};
+    ghost use Rattle.cert_written.specs.Bare.{bare_ray_item};
     ghost use Rattle.cert_text.specs.StepItems.{is_ray_item, ray_item_data, ray_item_in};
 
     ghost shaped = { is_ray_item };
@@ -305,6 +311,8 @@ impl Entry for RayItem {
     ghost element_in = { ray_item_in };
 
     ghost element_data = { ray_item_data };
+
+    ghost bare = { bare_ray_item };
 
     ghost writable = { λ rows names item. nat_lt 0 rows && list_all (is_listed names) (ray_traces item) };
 

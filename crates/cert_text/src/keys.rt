@@ -85,8 +85,8 @@ fn numbered(rows: usize, point: u32, row: u32) -> Option<u32>
     }
 }
 
-// The index at this place of a list.
-fn index_in_list(value: &Value, place: usize) -> Option<u32>
+/// The index at this place of a list.
+pub(crate) fn index_in_list(value: &Value, place: usize) -> Option<u32>
     ensures { result ≡ option_and_then index_in (at place (view value.now)) }
 {
     match value.get(place) {

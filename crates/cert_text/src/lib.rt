@@ -1,7 +1,8 @@
-//! Certificates as text, a JSON object: format 1, which is read, and format 2, which is read and written.
+//! Certificates as text, a JSON object: formats 1 and 2, which are read, and format 3, which is read and written.
 #![tactic(auto)]
 
 mod bounds;
+mod entries;
 mod entry;
 mod fault;
 mod items;
@@ -12,6 +13,7 @@ mod members;
 mod naming;
 mod numbering;
 mod numbers;
+mod pairs;
 mod reading;
 mod rows;
 mod setting;

@@ -10,14 +10,14 @@ ghost use Rattle.cert_text.specs.Traces.{listing};
 use crate::entry::Entry;
 use crate::limits::MOST_VALUES;
 use crate::numbering::Numbering;
-use flow_systems::Trace;
+use cert_written::Trace;
 use serde_json::Value;
 use std::alloc::AllocError;
 
 /// An element that names traces, whose numbers are their places in a list.
 pub(crate) trait Naming: Entry {
     ghost use Rattle.std.specs.Prelude.{List};
-    ghost use Rattle.flow_systems.specs.declared.trace.Trace.{Trace};
+    ghost use Rattle.cert_written.specs.declared.trace.Trace.{Trace};
 
     // The traces that an element names, in order.
     ghost traces_of: { Self → List Trace };

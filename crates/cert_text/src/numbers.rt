@@ -5,10 +5,7 @@ ghost use Rattle.std.specs.Str.{IsAscii};
 ghost use Rattle.serde_json.specs.Data.{string};
 ghost use Rattle.serde_json.specs.Find.{as_str};
 ghost use Rattle.serde_json.specs.View.{view};
-ghost use Rattle.base_numbers.specs.Rational.{whole};
-ghost use Rattle.lang_tree.specs.Numbers.{is_number};
-ghost use Rattle.base_fractions.specs.Texts.{frac_text};
-ghost use Rattle.cert_text.specs.Numbers.{is_text, whole_of};
+ghost use Rattle.cert_text.specs.Numbers.{is_text};
 
 use crate::entry::Entry;
 use crate::numbering::Numbering;
@@ -61,39 +58,6 @@ impl Numeral for Frac {
     fn canonical(self) -> Text {
         let _num = self.num();
         self.text()
-    }
-}
-
-// The number as a fraction.
-fn whole_frac(number: i64) -> Frac
-    requires { IsTrue (is_number number) }
-    ensures value { result ≡ whole number }
-    ensures back { whole_of (frac_text (whole number)) ≡ Some number }
-{
-    Frac::make(number, 1).unwrap()
-}
-
-impl Numeral for i64 {
-    ghost use Rattle.base_numbers.specs.Rational.{whole};
-    ghost use Rattle.lang_tree.specs.Numbers.{is_number};
-    ghost use Rattle.base_fractions.specs.Texts.{frac_text};
-    ghost use Rattle.cert_text.specs.Numbers.{whole_of};
-
-    ghost number_of = { whole_of };
-
-    ghost text_of = { λ number. frac_text (whole number) };
-
-    ghost has_text = { is_number };
-
-    fn number(text: &[u8]) -> Option<i64> {
-        match Frac::number(text) {
-            Some(number) if number.den() == 1 => Some(number.num()),
-            _ => None,
-        }
-    }
-
-    fn canonical(self) -> Text {
-        whole_frac(self).canonical()
     }
 }
 
@@ -180,6 +144,8 @@ impl<T: Numeral> Entry for T {
     ghost element_in = { λ _ d. option_and_then T.number_of (as_str d) };
 
     ghost element_data = { λ _ _ number. string (T.text_of number) };
+
+    ghost bare = { λ number. number };
 
     ghost writable = { λ _ _ number. T.has_text number };
 

@@ -5,8 +5,10 @@ ghost use Rattle.serde_json.specs.Data.{Data};
 ghost use Rattle.serde_json.specs.Find.{as_i64, as_number, as_u64, get};
 ghost use Rattle.serde_json.specs.View.{view};
 ghost use Rattle.cert_text.specs.Naming.{capped, named_traces, values_of};
-ghost use Rattle.cert_text.specs.Certificates.{IsWritable, Spells, SpellsCert, and_then, cert_in, format_in, format_of, has_key};
-ghost use Rattle.cert_text.specs.Certificates.{has_traces, is_top, list_from, rest_in, steps_in, traces_in};
+ghost use Rattle.cert_text.specs.Traces.{listing};
+ghost use Rattle.cert_text.specs.Certificates.{IsWritable, Spells, SpellsCert, and_then, cert_in, fields_in, format_in, has_key};
+ghost use Rattle.cert_text.specs.Certificates.{has_keys, has_traces, is_sparse_form, is_top, list_from, natural_format, rest_in};
+ghost use Rattle.cert_text.specs.Certificates.{step_setting, steps_in, traces_in};
 
 use crate::bounds::{Line, joined};
 use crate::entry::{Entry, is_list, read_list};
@@ -15,9 +17,8 @@ use crate::keys::member_count;
 use crate::limits::MOST_VALUES;
 use crate::naming::list_values;
 use crate::setting::{Setting, Traces};
-use cert_types::{Cert, Rows, Step, Steps, Upper, Uppers};
-use flow_systems::{Bounds, Trace};
-use lang_tree::Coeffs;
+use cert_written::{Cert, Entries, Rows, Step, Steps, Trace, Upper, Uppers};
+use flow_systems::Bounds;
 use serde_json::Value;
 use serde_json::error::Category;
 use std::alloc::Global;
@@ -50,7 +51,7 @@ fn is_top(value: &Value) -> bool
 
 // The format as a whole number without a sign.
 fn natural_format(value: &Value) -> Option<u64>
-    ensures { result ≡ option_and_then as_u64 (option_and_then as_number (get (codes "format") (view value.now))) }
+    ensures { result ≡ natural_format (view value.now) }
 {
     match value.get("format") {
         Some(format) => format.as_u64(),
@@ -68,11 +69,15 @@ fn signed_format(value: &Value) -> Option<i64>
     }
 }
 
-// The format that has the keys of this value.
-fn format_of(value: &Value) -> u64
-    ensures { result ≡ format_of (has_traces (view value.now)) }
+// Whether a format has the keys of this value.
+fn has_keys(value: &Value, natural: Option<u64>) -> bool
+    ensures { result ≡ has_keys (has_traces (view value.now)) natural }
 {
-    if has_traces(value) { 2 } else { 1 }
+    if has_traces(value) {
+        natural == Some(2) || natural == Some(3)
+    } else {
+        natural == Some(1)
+    }
 }
 
 // Refuses any format but that of the keys.
@@ -80,10 +85,10 @@ fn test_format(value: &Value) -> Result<(), FormFault>
     ensures { result ≡ format_in (view value.now) }
 {
     let natural = natural_format(value);
-    if natural == Some(format_of(value)) {
+    if has_keys(value, natural) {
         return Ok(());
     }
-    if natural == Some(1) || natural == Some(2) {
+    if natural == Some(1) || natural == Some(2) || natural == Some(3) {
         return Err(FormFault::Shape(Field::Format));
     }
     if natural.is_some() || signed_format(value).is_some() {
@@ -121,8 +126,8 @@ fn read_field<T: Entry>(
 
 // The traces, if they stand in a list of their own.
 fn read_traces(alloc: Global, setting: &Setting, value: &Value) -> Result<Option<Traces>, FormFault>
-    ensures { MatchResult result (λ traces. traces_in (view value.now) ≡ Ok traces)
-        (λ fault. fault ≢ FormFault.NoMemory → traces_in (view value.now) ≡ Err fault) }
+    ensures { MatchResult result (λ traces. traces_in setting.now.sparse (view value.now) ≡ Ok traces)
+        (λ fault. fault ≢ FormFault.NoMemory → traces_in setting.now.sparse (view value.now) ≡ Err fault) }
 {
     if !has_traces(value) {
         return Ok(None);
@@ -140,7 +145,7 @@ struct Rest {
 
 // How many values the traces hold that the steps name, counted up to `MOST_VALUES + 1`. Nothing is copied.
 fn count_values(setting: &Setting, traces: &[Trace], value: &Value) -> Result<usize, FormFault>
-    requires { setting.now.traces ≡ Some traces.now }
+    requires { setting.now ≡ listing setting.now.rows traces.now }
     ensures { result ≡ and_then (steps_in setting.now (view value.now)) (λ steps. Ok (capped (values_of (named_traces steps)))) }
 {
     match value.get("steps") {
@@ -160,16 +165,17 @@ fn count_values(setting: &Setting, traces: &[Trace], value: &Value) -> Result<us
 // The steps and the evidence where traces are listed. A step is read only once all steps are known not to expand too far.
 fn read_listed(
     alloc: Global,
+    lists: &Setting,
     setting: &Setting,
     traces: &[Trace],
     value: &Value,
 ) -> Result<Rest, FormFault>
-    requires { setting.now.traces ≡ Some traces.now }
-    ensures { MatchResult result (λ rest. rest_in setting.now (view value.now) ≡ Ok (rest.steps.items, rest.uppers.items))
-        (λ fault. fault ≢ FormFault.NoMemory → rest_in setting.now (view value.now) ≡ Err fault) }
+    requires { setting.now ≡ listing setting.now.rows traces.now }
+    ensures { MatchResult result (λ rest. rest_in lists.now.sparse setting.now (view value.now) ≡ Ok (rest.steps.items, rest.uppers.items))
+        (λ fault. fault ≢ FormFault.NoMemory → rest_in lists.now.sparse setting.now (view value.now) ≡ Err fault) }
 {
     let values = count_values(setting, traces, value)?;
-    let uppers = read_field::<Upper>(alloc, setting, value, "uppers", Field::Uppers)?;
+    let uppers = read_field::<Upper>(alloc, lists, value, "uppers", Field::Uppers)?;
     if values > MOST_VALUES {
         return Err(FormFault::Expanded);
     }
@@ -178,25 +184,85 @@ fn read_listed(
 }
 
 // The steps and the evidence where traces stand in their places.
-fn read_placed(alloc: Global, setting: &Setting, value: &Value) -> Result<Rest, FormFault>
+fn read_placed(
+    alloc: Global,
+    lists: &Setting,
+    setting: &Setting,
+    value: &Value,
+) -> Result<Rest, FormFault>
     requires { setting.now.traces ≡ None }
-    ensures { MatchResult result (λ rest. rest_in setting.now (view value.now) ≡ Ok (rest.steps.items, rest.uppers.items))
-        (λ fault. fault ≢ FormFault.NoMemory → rest_in setting.now (view value.now) ≡ Err fault) }
+    ensures { MatchResult result (λ rest. rest_in lists.now.sparse setting.now (view value.now) ≡ Ok (rest.steps.items, rest.uppers.items))
+        (λ fault. fault ≢ FormFault.NoMemory → rest_in lists.now.sparse setting.now (view value.now) ≡ Err fault) }
 {
     let steps = read_field::<Step>(alloc, setting, value, "steps", Field::Steps)?;
-    let uppers = read_field::<Upper>(alloc, setting, value, "uppers", Field::Uppers)?;
+    let uppers = read_field::<Upper>(alloc, lists, value, "uppers", Field::Uppers)?;
     Ok(Rest { steps, uppers })
 }
 
 // The steps and the evidence.
-fn read_rest(alloc: Global, setting: &Setting, value: &Value) -> Result<Rest, FormFault>
-    ensures { MatchResult result (λ rest. rest_in setting.now (view value.now) ≡ Ok (rest.steps.items, rest.uppers.items))
-        (λ fault. fault ≢ FormFault.NoMemory → rest_in setting.now (view value.now) ≡ Err fault) }
+fn read_rest(
+    alloc: Global,
+    lists: &Setting,
+    setting: &Setting,
+    value: &Value,
+) -> Result<Rest, FormFault>
+    requires { setting.now ≡ step_setting setting.now.rows setting.now.traces }
+    ensures { MatchResult result (λ rest. rest_in lists.now.sparse setting.now (view value.now) ≡ Ok (rest.steps.items, rest.uppers.items))
+        (λ fault. fault ≢ FormFault.NoMemory → rest_in lists.now.sparse setting.now (view value.now) ≡ Err fault) }
 {
     match &setting.traces {
-        Some(traces) => read_listed(alloc, setting, traces.as_slice(), value),
-        None => read_placed(alloc, setting, value),
+        Some(traces) => read_listed(alloc, lists, setting, traces.as_slice(), value),
+        None => read_placed(alloc, lists, setting, value),
     }
+}
+
+// Whether lists of fractions are without zeros.
+fn is_sparse_form(value: &Value) -> bool
+    ensures { result ≡ is_sparse_form (view value.now) }
+{
+    natural_format(value) == Some(3)
+}
+
+// The setting of steps of a certificate of so many rows with these traces.
+fn step_setting(rows: usize, traces: Option<Traces>) -> Setting
+    ensures { result ≡ step_setting rows traces }
+{
+    let sparse = traces.is_some();
+    Setting {
+        rows,
+        traces,
+        sparse,
+    }
+}
+
+// The fields of the value one after another.
+fn read_fields(alloc: Global, sparse: bool, value: &Value) -> Result<Cert, FormFault>
+    ensures { MatchResult result (λ c. fields_in sparse (view value.now) ≡ Ok c)
+        (λ fault. fault ≢ FormFault.NoMemory → fields_in sparse (view value.now) ≡ Err fault) }
+{
+    let start = Setting {
+        rows: 0,
+        traces: None,
+        sparse,
+    };
+    let rows = read_field::<Entries>(alloc, &start, value, "rows", Field::Rows)?;
+    let count = rows.len();
+    let lists = Setting {
+        rows: count,
+        traces: None,
+        sparse,
+    };
+    let lines = read_field::<Line>(alloc, &lists, value, "bounds", Field::Bounds)?;
+    let bounds = joined(alloc, lines.as_slice())?;
+    let traces = read_traces(alloc, &lists, value)?;
+    let setting = step_setting(count, traces);
+    let Rest { steps, uppers } = read_rest(alloc, &lists, &setting, value)?;
+    Ok(Cert {
+        rows: Rows::new(rows),
+        bounds: Bounds::new(bounds),
+        steps: Steps::new(steps),
+        uppers: Uppers::new(uppers),
+    })
 }
 
 // The certificate that the value is.
@@ -208,37 +274,14 @@ fn read_cert(alloc: Global, value: &Value) -> Result<Cert, FormFault>
         return Err(FormFault::Shape(Field::Top));
     }
     test_format(value)?;
-    let start = Setting {
-        rows: 0,
-        traces: None,
-    };
-    let rows = read_field::<Coeffs>(alloc, &start, value, "rows", Field::Rows)?;
-    let count = rows.len();
-    let setting = Setting {
-        rows: count,
-        traces: None,
-    };
-    let lines = read_field::<Line>(alloc, &setting, value, "bounds", Field::Bounds)?;
-    let bounds = joined(alloc, lines.as_slice())?;
-    let traces = read_traces(alloc, &setting, value)?;
-    let setting = Setting {
-        rows: count,
-        traces,
-    };
-    let Rest { steps, uppers } = read_rest(alloc, &setting, value)?;
-    Ok(Cert {
-        rows: Rows::new(rows),
-        bounds: Bounds::new(bounds),
-        steps: Steps::new(steps),
-        uppers: Uppers::new(uppers),
-    })
+    read_fields(alloc, is_sparse_form(value), value)
 }
 
-/// The certificate that the bytes are, in format 1 or 2. It has the traces in their places, in either.
+/// The certificate that the bytes are, in format 1, 2 or 3. It has the traces in their places, in each.
 ///
 /// It refuses all other bytes, by the first field that is refused in the order of `Field`, all shapes of a field before
 /// its numbers: `NotJson` exactly where the bytes are no JSON, and every other fault but `NoMemory` exactly where
-/// `specs/Certificates.antt` names it. `Expanded` comes after all fields, in format 2 alone. The formats are written out in
+/// `specs/Certificates.antt` names it. `Expanded` comes after all fields, in formats 2 and 3 alone. The formats are written out in
 /// `docs/FORMATS.md`.
 pub fn read(alloc: Global, bytes: &[u8]) -> Result<Cert, FormFault>
     ensures ok { IfOk result (λ c. SpellsCert bytes.now c) }

@@ -3,12 +3,13 @@
 ghost use Rattle.std.specs.Prelude.{◌≡◌, ◌<◌, ◌≤◌, ◌+◌, IfOk, IfSome, IsTrue, OnOk, Some, codes, option_map, true, vec_items};
 ghost use Rattle.std.specs.List.{flat_map, list_all};
 ghost use Rattle.serde_json.specs.View.{view};
-ghost use Rattle.cert_types.specs.Shaped.{has_item};
-ghost use Rattle.cert_types.specs.declared.step.Step.TheVariants.{Jump, Plain, Ray};
+ghost use Rattle.cert_written.specs.Shaped.{has_item};
+ghost use Rattle.cert_written.specs.declared.step.Step.TheVariants.{Jump, Plain, Ray};
 ghost use Rattle.cert_text.specs.Naming.{capped, is_listed, step_traces, values_of, with_traces};
 ghost use Rattle.cert_text.specs.StepItems.{jump_item_in, plain_item_in, ray_item_in};
 ghost use Rattle.cert_text.specs.StepForms.{has_items, is_step, items_at, step_data, step_in, step_object};
-ghost use Rattle.cert_text.specs.Traces.{listing};
+ghost use Rattle.cert_text.specs.Traces.{listing, relisting};
+ghost use Rattle.cert_written.specs.Bare.{bare_step};
 
 use crate::entry::{Entry, is_list, read_list, write_list};
 use crate::keys::{is_kind, item_count, member_count};
@@ -17,8 +18,7 @@ use crate::members::with;
 use crate::naming::{Naming, list_values, number_all};
 use crate::numbering::Numbering;
 use crate::setting::Setting;
-use cert_types::{Item, Items, JumpItem, JumpItems, RayItem, RayItems, Step};
-use flow_systems::Trace;
+use cert_written::{Item, Items, JumpItem, JumpItems, RayItem, RayItems, Step, Trace};
 use serde_json::{Map, Value};
 use std::alloc::{AllocError, Global};
 
@@ -122,8 +122,8 @@ fn step_value(
     requires item { IsTrue (has_item step.now) }
     requires listed { IsTrue (list_all (is_listed names.now) (step_traces step.now)) }
     ensures value { IfOk result (λ v. view v ≡ step_data rows names.now step.now) }
-    ensures shape { IfOk result (λ _. is_step (listing rows names.now) (step_data rows names.now step.now) ≡ true) }
-    ensures back { IfOk result (λ _. step_in (listing rows names.now) (step_data rows names.now step.now) ≡ Some step.now) }
+    ensures shape { IfOk result (λ _. is_step (relisting rows names.now) (step_data rows names.now step.now) ≡ true) }
+    ensures back { IfOk result (λ _. step_in (relisting rows names.now) (step_data rows names.now step.now) ≡ Some (bare_step step.now)) }
 {
     match step {
         Step::Plain(items) => {
@@ -144,8 +144,9 @@ fn step_value(
 impl Entry for Step {
     ghost use Rattle.std.specs.Prelude.{◌&&◌, nat_lt};
     ghost use Rattle.std.specs.List.{list_all};
-    ghost use Rattle.cert_types.specs.Shaped.{has_item};
+    ghost use Rattle.cert_written.specs.Shaped.{has_item};
     ghost use Rattle.cert_text.specs.Naming.{is_listed, step_traces};
+    ghost use Rattle.cert_written.specs.Bare.{bare_step};
     ghost use Rattle.cert_text.specs.StepForms.{is_step, step_data, step_in};
 
     ghost shaped = { is_step };
@@ -153,6 +154,8 @@ impl Entry for Step {
     ghost element_in = { step_in };
 
     ghost element_data = { step_data };
+
+    ghost bare = { bare_step };
 
     ghost writable = { λ rows names step. nat_lt 0 rows && has_item step && list_all (is_listed names) (step_traces step) };
 

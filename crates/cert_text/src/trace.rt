@@ -1,82 +1,42 @@
-//! Lists of fractions, and traces: where they stand, or by their numbers.
+//! Traces: where they stand, or by their numbers.
 
-ghost use Rattle.std.specs.Prelude.{◌≡◌, ◌+◌, IfOk, Some, codes, length, option_map, true};
+ghost use Rattle.std.specs.Prelude.{◌≡◌, ◌+◌, IfOk, Some, codes, option_map, true};
 ghost use Rattle.serde_json.specs.Data.{member, no_members, object};
 ghost use Rattle.serde_json.specs.View.{view};
 ghost use Rattle.cert_text.specs.Keys.{passes_at};
-ghost use Rattle.cert_text.specs.Traces.{are_texts, fracs_at, fracs_data, fracs_in, is_trace, is_trace_by};
+ghost use Rattle.cert_written.specs.Bare.{bare_trace};
+ghost use Rattle.cert_text.specs.Traces.{is_trace, is_trace_by};
 ghost use Rattle.cert_text.specs.Traces.{numbered_trace, trace_at, trace_by, trace_data, trace_in};
-ghost use Rattle.cert_text.specs.Naming.{capped};
+ghost use Rattle.cert_text.specs.Naming.{capped, entry_count};
 
-use crate::entry::{Entry, is_list, read_list, write_list};
+use crate::entries::{are_entries_at, entries_at, entries_value};
+use crate::entry::Entry;
 use crate::keys::member_count;
 use crate::limits::MOST_VALUES;
 use crate::members::with;
 use crate::numbering::Numbering;
 use crate::setting::Setting;
-use base_fractions::Frac;
-use flow_systems::{Fracs, Trace};
+use cert_written::{Entries, Trace, copied};
 use serde_json::{Map, Value};
 use std::alloc::{AllocError, Global};
 
-/// Whether the member of this key is there and a list of texts.
-pub(crate) fn are_texts_at(setting: &Setting, value: &Value, key: &str) -> bool
-    ensures { result ≡ passes_at are_texts key.now (view value.now) }
-{
-    match value.get(key) {
-        Some(list) => is_list::<Frac>(setting, list),
-        None => false,
-    }
-}
-
-/// The fractions that the member of this key is.
-pub(crate) fn fracs_at(
-    alloc: Global,
-    setting: &Setting,
-    value: &Value,
-    key: &str,
-) -> Result<Option<Fracs>, AllocError>
-    ensures { IfOk result (λ list. list ≡ fracs_at key.now (view value.now)) }
-{
-    match value.get(key) {
-        Some(member) => match read_list::<Frac>(alloc, setting, member)? {
-            Some(list) => Ok(Some(Fracs::new(list))),
-            None => Ok(None),
-        },
-        None => Ok(None),
-    }
-}
-
-/// Fractions as a value.
-pub(crate) fn fracs_value(
-    alloc: Global,
-    names: &Numbering,
-    list: &Fracs,
-) -> Result<Value, AllocError>
-    ensures value { IfOk result (λ v. view v ≡ fracs_data list.now) }
-    ensures shape { IfOk result (λ _. are_texts (fracs_data list.now) ≡ true) }
-    ensures back { IfOk result (λ _. fracs_in (fracs_data list.now) ≡ Some list.now) }
-{
-    write_list(alloc, 0, names, list.as_slice())
-}
-
 // Whether the value has the shape of a trace.
 fn is_trace(setting: &Setting, value: &Value) -> bool
-    ensures { result ≡ is_trace (view value.now) }
+    ensures { result ≡ is_trace setting.now.sparse (view value.now) }
 {
     member_count(value) == 2
-        && are_texts_at(setting, value, "free")
-        && are_texts_at(setting, value, "start")
+        && are_entries_at(setting, value, "free")
+        && are_entries_at(setting, value, "start")
 }
 
 // The trace that the value is.
 fn trace(alloc: Global, setting: &Setting, value: &Value) -> Result<Option<Trace>, AllocError>
-    ensures { IfOk result (λ trace. trace ≡ trace_in (view value.now)) }
+    ensures { IfOk result (λ trace. trace ≡ trace_in setting.now.sparse (view value.now)) }
 {
-    let Some(free) = fracs_at(alloc, setting, value, "free")? else {
+    let Some(free) = entries_at(alloc, setting, value, "free")? else {
         return Ok(None);
     };
-    let Some(start) = fracs_at(alloc, setting, value, "start")? else {
+    let Some(start) = entries_at(alloc, setting, value, "start")? else {
         return Ok(None);
     };
     Ok(Some(Trace { start, free }))
@@ -98,23 +58,26 @@ pub(crate) fn trace_value(
     trace: &Trace,
 ) -> Result<Value, AllocError>
     ensures value { IfOk result (λ v. view v ≡ trace_data trace.now) }
-    ensures shape { IfOk result (λ _. is_trace (trace_data trace.now) ≡ true) }
-    ensures back { IfOk result (λ _. trace_in (trace_data trace.now) ≡ Some trace.now) }
+    ensures shape { IfOk result (λ _. is_trace true (trace_data trace.now) ≡ true) }
+    ensures back { IfOk result (λ _. trace_in true (trace_data trace.now) ≡ Some (bare_trace trace.now)) }
 {
-    let free = fracs_value(alloc, names, &trace.free)?;
-    let start = fracs_value(alloc, names, &trace.start)?;
+    let free = entries_value(alloc, names, &trace.free)?;
+    let start = entries_value(alloc, names, &trace.start)?;
     trace_object(alloc, free, start)
 }
 
 impl Entry for Trace {
     ghost use Rattle.std.specs.Prelude.{true};
+    ghost use Rattle.cert_written.specs.Bare.{bare_trace};
     ghost use Rattle.cert_text.specs.Traces.{is_trace, trace_data, trace_in};
 
-    ghost shaped = { λ _ d. is_trace d };
+    ghost shaped = { λ setting d. is_trace setting.sparse d };
 
-    ghost element_in = { λ _ d. trace_in d };
+    ghost element_in = { λ setting d. trace_in setting.sparse d };
 
     ghost element_data = { λ _ _ t. trace_data t };
+
+    ghost bare = { bare_trace };
 
     ghost writable = { λ _ _ _. true };
 
@@ -131,25 +94,21 @@ impl Entry for Trace {
     }
 }
 
-/// A trace of its own with the same values.
-pub(crate) fn copied(alloc: Global, trace: &Trace) -> Result<Trace, AllocError>
-    ensures { IfOk result (λ copy. copy ≡ trace.now) }
+// How many values a list has, counted up to `MOST_VALUES + 1`.
+fn entry_count(list: &Entries) -> usize
+    ensures { result ≡ capped (entry_count list.now) }
 {
-    let start = trace.start.as_slice().to_vec(alloc)?;
-    let free = trace.free.as_slice().to_vec(alloc)?;
-    Ok(Trace {
-        start: Fracs::new(start),
-        free: Fracs::new(free),
-    })
+    match list {
+        Entries::Dense(list) => list.as_slice().len().min(MOST_VALUES + 1),
+        Entries::Sparse(pairs) => pairs.as_slice().len().min(MOST_VALUES + 1),
+    }
 }
 
 /// How many values a trace holds, counted up to `MOST_VALUES + 1`.
 pub(crate) fn trace_values(trace: &Trace) -> usize
-    ensures { result ≡ capped (length trace.now.start + length trace.now.free) }
+    ensures { result ≡ capped (entry_count trace.now.start + entry_count trace.now.free) }
 {
-    let start = trace.start.as_slice().len().min(MOST_VALUES + 1);
-    let free = trace.free.as_slice().len().min(MOST_VALUES + 1);
-    (start + free).min(MOST_VALUES + 1)
+    (entry_count(&trace.start) + entry_count(&trace.free)).min(MOST_VALUES + 1)
 }
 
 // The trace that the value names among these by its number, counted from 0.
@@ -164,7 +123,7 @@ fn numbered_trace<'a>(traces: &'a [Trace], value: &Value) -> Option<&'a Trace>
 
 /// The trace that the member of this key names among these.
 pub(crate) fn named_at<'a>(traces: &'a [Trace], value: &Value, key: &str) -> Option<&'a Trace>
-    ensures { option_map (λ t. t.now) result ≡ trace_at (Some traces.now) key.now (view value.now) }
+    ensures { option_map (λ t. t.now) result ≡ trace_at true (Some traces.now) key.now (view value.now) }
 {
     match value.get(key) {
         Some(member) => numbered_trace(traces, member),
@@ -174,7 +133,7 @@ pub(crate) fn named_at<'a>(traces: &'a [Trace], value: &Value, key: &str) -> Opt
 
 // Whether the value has the shape of a trace, or names one, where traces are listed.
 fn is_trace_by(setting: &Setting, value: &Value) -> bool
-    ensures { result ≡ is_trace_by setting.now.traces (view value.now) }
+    ensures { result ≡ is_trace_by setting.now.sparse setting.now.traces (view value.now) }
 {
     match &setting.traces {
         Some(traces) => numbered_trace(traces.as_slice(), value).is_some(),
@@ -184,7 +143,7 @@ fn is_trace_by(setting: &Setting, value: &Value) -> bool
 
 /// Whether the member of this key is there and a trace, or names one, where traces are listed.
 pub(crate) fn is_trace_at(setting: &Setting, value: &Value, key: &str) -> bool
-    ensures { result ≡ passes_at (is_trace_by setting.now.traces) key.now (view value.now) }
+    ensures { result ≡ passes_at (is_trace_by setting.now.sparse setting.now.traces) key.now (view value.now) }
 {
     match value.get(key) {
         Some(member) => is_trace_by(setting, member),
@@ -208,7 +167,7 @@ fn copy_numbered(
 
 // The trace that the value is, or a copy of the one that it names, where traces are listed.
 fn trace_by(alloc: Global, setting: &Setting, value: &Value) -> Result<Option<Trace>, AllocError>
-    ensures { IfOk result (λ trace. trace ≡ trace_by setting.now.traces (view value.now)) }
+    ensures { IfOk result (λ trace. trace ≡ trace_by setting.now.sparse setting.now.traces (view value.now)) }
 {
     match &setting.traces {
         Some(traces) => copy_numbered(alloc, traces.as_slice(), value),
@@ -223,7 +182,7 @@ pub(crate) fn trace_at(
     value: &Value,
     key: &str,
 ) -> Result<Option<Trace>, AllocError>
-    ensures { IfOk result (λ trace. trace ≡ trace_at setting.now.traces key.now (view value.now)) }
+    ensures { IfOk result (λ trace. trace ≡ trace_at setting.now.sparse setting.now.traces key.now (view value.now)) }
 {
     match value.get(key) {
         Some(member) => trace_by(alloc, setting, member),

@@ -4,16 +4,16 @@ ghost use Rattle.std.specs.Prelude.{◌≡◌, IfOk, Some, codes, option_map, tr
 ghost use Rattle.serde_json.specs.View.{view};
 ghost use Rattle.cert_text.specs.Evidence.{is_unreached, is_upper, is_weighted, unreached_data, upper_data, upper_in, weights_data};
 ghost use Rattle.cert_text.specs.Evidence.{weights_in, weights_object};
-ghost use Rattle.cert_text.specs.Traces.{are_texts, fracs_data, fracs_in};
+ghost use Rattle.cert_written.specs.Bare.{bare_entries, bare_upper};
+ghost use Rattle.cert_text.specs.Pairs.{are_entries, entries_data, entries_in};
 
+use crate::entries::{are_entries_at, entries_at, entries_value};
 use crate::entry::Entry;
 use crate::keys::{index_at, is_index_at, is_kind, member_count};
 use crate::members::with;
 use crate::numbering::Numbering;
 use crate::setting::Setting;
-use crate::trace::{are_texts_at, fracs_at, fracs_value};
-use cert_types::Upper;
-use flow_systems::Fracs;
+use cert_written::{Entries, Upper};
 use serde_json::{Map, Value};
 use std::alloc::{AllocError, Global};
 
@@ -26,17 +26,17 @@ fn is_unreached(value: &Value) -> bool
 
 // Whether the value has the shape of evidence of this kind by multipliers.
 fn is_weighted(setting: &Setting, value: &Value, kind: &str) -> bool
-    ensures { result ≡ is_weighted kind.now (view value.now) }
+    ensures { result ≡ is_weighted setting.now.sparse kind.now (view value.now) }
 {
     member_count(value) == 3
         && is_kind(value, kind)
-        && are_texts_at(setting, value, "guards")
-        && are_texts_at(setting, value, "rows")
+        && are_entries_at(setting, value, "guards")
+        && are_entries_at(setting, value, "rows")
 }
 
 // Whether the value has the shape of evidence.
 fn is_upper(setting: &Setting, value: &Value) -> bool
-    ensures { result ≡ is_upper (view value.now) }
+    ensures { result ≡ is_upper setting.now.sparse (view value.now) }
 {
     is_unreached(value)
         || is_weighted(setting, value, "bound")
@@ -46,8 +46,8 @@ fn is_upper(setting: &Setting, value: &Value) -> bool
 // Multipliers of rows and of guards.
 #[derive(Drop)]
 struct Weights {
-    rows: Fracs,
-    guards: Fracs,
+    rows: Entries,
+    guards: Entries,
 }
 
 // The multipliers that the value has.
@@ -56,12 +56,12 @@ fn read_weights(
     setting: &Setting,
     value: &Value,
 ) -> Result<Option<Weights>, AllocError>
-    ensures { IfOk result (λ found. option_map (λ w. (w.rows, w.guards)) found ≡ weights_in (view value.now)) }
+    ensures { IfOk result (λ found. option_map (λ w. (w.rows, w.guards)) found ≡ weights_in setting.now.sparse (view value.now)) }
 {
-    let Some(guards) = fracs_at(alloc, setting, value, "guards")? else {
+    let Some(guards) = entries_at(alloc, setting, value, "guards")? else {
         return Ok(None);
     };
-    let Some(rows) = fracs_at(alloc, setting, value, "rows")? else {
+    let Some(rows) = entries_at(alloc, setting, value, "rows")? else {
         return Ok(None);
     };
     Ok(Some(Weights { rows, guards }))
@@ -69,7 +69,7 @@ fn read_weights(
 
 // The evidence that the value is.
 fn read_upper(alloc: Global, setting: &Setting, value: &Value) -> Result<Option<Upper>, AllocError>
-    ensures { IfOk result (λ upper. upper ≡ upper_in (view value.now)) }
+    ensures { IfOk result (λ upper. upper ≡ upper_in setting.now.sparse (view value.now)) }
 {
     if is_kind(value, "unreached") {
         return Ok(index_at(value, "row").map(|row| Upper::Unreached { row }));
@@ -120,25 +120,25 @@ fn weights_value(
     alloc: Global,
     names: &Numbering,
     kind: &str,
-    rows: &Fracs,
-    guards: &Fracs,
+    rows: &Entries,
+    guards: &Entries,
 ) -> Result<Value, AllocError>
     ensures value { IfOk result (λ v. view v ≡ weights_data kind.now rows.now guards.now) }
-    ensures rows_shape { IfOk result (λ _. are_texts (fracs_data rows.now) ≡ true) }
-    ensures guards_shape { IfOk result (λ _. are_texts (fracs_data guards.now) ≡ true) }
-    ensures rows_back { IfOk result (λ _. fracs_in (fracs_data rows.now) ≡ Some rows.now) }
-    ensures guards_back { IfOk result (λ _. fracs_in (fracs_data guards.now) ≡ Some guards.now) }
+    ensures rows_shape { IfOk result (λ _. are_entries true (entries_data rows.now) ≡ true) }
+    ensures guards_shape { IfOk result (λ _. are_entries true (entries_data guards.now) ≡ true) }
+    ensures rows_back { IfOk result (λ _. entries_in true (entries_data rows.now) ≡ Some (bare_entries rows.now)) }
+    ensures guards_back { IfOk result (λ _. entries_in true (entries_data guards.now) ≡ Some (bare_entries guards.now)) }
 {
-    let guards = fracs_value(alloc, names, guards)?;
-    let rows = fracs_value(alloc, names, rows)?;
+    let guards = entries_value(alloc, names, guards)?;
+    let rows = entries_value(alloc, names, rows)?;
     weights_object(alloc, guards, kind, rows)
 }
 
 // The evidence as a value.
 fn upper_value(alloc: Global, names: &Numbering, upper: &Upper) -> Result<Value, AllocError>
     ensures value { IfOk result (λ v. view v ≡ upper_data upper.now) }
-    ensures shape { IfOk result (λ _. is_upper (upper_data upper.now) ≡ true) }
-    ensures back { IfOk result (λ _. upper_in (upper_data upper.now) ≡ Some upper.now) }
+    ensures shape { IfOk result (λ _. is_upper true (upper_data upper.now) ≡ true) }
+    ensures back { IfOk result (λ _. upper_in true (upper_data upper.now) ≡ Some (bare_upper upper.now)) }
 {
     match upper {
         Upper::Unreached { row } => unreached_value(alloc, *row),
@@ -149,13 +149,16 @@ fn upper_value(alloc: Global, names: &Numbering, upper: &Upper) -> Result<Value,
 
 impl Entry for Upper {
     ghost use Rattle.std.specs.Prelude.{true};
+    ghost use Rattle.cert_written.specs.Bare.{bare_upper};
     ghost use Rattle.cert_text.specs.Evidence.{is_upper, upper_data, upper_in};
 
-    ghost shaped = { λ _ d. is_upper d };
+    ghost shaped = { λ setting d. is_upper setting.sparse d };
 
-    ghost element_in = { λ _ d. upper_in d };
+    ghost element_in = { λ setting d. upper_in setting.sparse d };
 
     ghost element_data = { λ _ _ upper. upper_data upper };
+
+    ghost bare = { bare_upper };
 
     ghost writable = { λ _ _ _. true };
 

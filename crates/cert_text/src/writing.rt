@@ -1,14 +1,15 @@
 //! Writing a certificate.
 
-ghost use Rattle.std.specs.Prelude.{◌≡◌, ◌&&◌, [], IfOk, IsTrue, Some, codes, nat_lt, true};
+ghost use Rattle.std.specs.Prelude.{◌≡◌, ◌&&◌, [], IfOk, IsTrue, Some, codes, map, nat_lt, true};
 ghost use Rattle.std.specs.List.{list_all};
 ghost use Rattle.serde_json.specs.Data.{member, no_members, object, put};
 ghost use Rattle.serde_json.specs.View.{members_view, view};
 ghost use Rattle.serde_json.specs.Written.{compact_text};
-ghost use Rattle.cert_types.specs.Shaped.{has_item};
+ghost use Rattle.cert_written.specs.Bare.{bare_cert, bare_step, bare_trace, bare_upper};
+ghost use Rattle.cert_written.specs.Shaped.{has_item};
 ghost use Rattle.cert_text.specs.Keys.{index_data};
 ghost use Rattle.cert_text.specs.Lists.{is_list, list_data, list_in};
-ghost use Rattle.cert_text.specs.Traces.{is_trace, listing, trace_data, trace_in};
+ghost use Rattle.cert_text.specs.Traces.{is_trace, relisting, trace_data, trace_in};
 ghost use Rattle.cert_text.specs.Naming.{is_listed, named_traces, step_traces, with_traces};
 ghost use Rattle.cert_text.specs.StepForms.{is_step, step_data, step_in};
 ghost use Rattle.cert_text.specs.Evidence.{is_upper, upper_data, upper_in};
@@ -20,8 +21,7 @@ use crate::entry::write_list;
 use crate::members::with;
 use crate::naming::number_all;
 use crate::numbering::Numbering;
-use cert_types::{Cert, Step, Upper};
-use flow_systems::Trace;
+use cert_written::{Cert, Step, Trace, Upper};
 use serde_json::{Map, Value};
 use std::alloc::{AllocError, Global};
 
@@ -51,14 +51,14 @@ fn last_members(
 ) -> Result<Map<String, Value>, AllocError>
     requires { IsTrue (list_all (λ s. nat_lt 0 count && has_item s && list_all (is_listed names.now) (step_traces s)) steps.now) }
     ensures members { IfOk result (λ m. members_view m.entries ≡ last_data count names.now steps.now traces.now uppers.now) }
-    ensures steps_shape { IfOk result (λ _. is_list (is_step (listing count names.now)) (list_data (step_data count names.now) steps.now)
+    ensures steps_shape { IfOk result (λ _. is_list (is_step (relisting count names.now)) (list_data (step_data count names.now) steps.now)
         ≡ true) }
-    ensures steps_back { IfOk result (λ _. list_in (step_in (listing count names.now)) (list_data (step_data count names.now) steps.now)
-        ≡ Some steps.now) }
-    ensures traces_shape { IfOk result (λ _. is_list is_trace (list_data trace_data traces.now) ≡ true) }
-    ensures traces_back { IfOk result (λ _. list_in trace_in (list_data trace_data traces.now) ≡ Some traces.now) }
-    ensures uppers_shape { IfOk result (λ _. is_list is_upper (list_data upper_data uppers.now) ≡ true) }
-    ensures uppers_back { IfOk result (λ _. list_in upper_in (list_data upper_data uppers.now) ≡ Some uppers.now) }
+    ensures steps_back { IfOk result (λ _. list_in (step_in (relisting count names.now)) (list_data (step_data count names.now) steps.now)
+        ≡ Some (map bare_step steps.now)) }
+    ensures traces_shape { IfOk result (λ _. is_list (is_trace true) (list_data trace_data traces.now) ≡ true) }
+    ensures traces_back { IfOk result (λ _. list_in (trace_in true) (list_data trace_data traces.now) ≡ Some (map bare_trace traces.now)) }
+    ensures uppers_shape { IfOk result (λ _. is_list (is_upper true) (list_data upper_data uppers.now) ≡ true) }
+    ensures uppers_back { IfOk result (λ _. list_in (upper_in true) (list_data upper_data uppers.now) ≡ Some (map bare_upper uppers.now)) }
 {
     let steps = write_list(alloc, count, names, steps)?;
     let traces = write_list(alloc, count, names, traces)?;
@@ -73,11 +73,11 @@ fn cert_object(
     rows: Value,
     last: Map<String, Value>,
 ) -> Result<Value, AllocError>
-    ensures { IfOk result (λ v. view v ≡ object (put (codes "bounds") (view bounds) (put (codes "format") (index_data 2)
+    ensures { IfOk result (λ v. view v ≡ object (put (codes "bounds") (view bounds) (put (codes "format") (index_data 3)
         (put (codes "rows") (view rows) (members_view last.entries))))) }
 {
     let members = with(alloc, last, "rows", rows)?;
-    let members = with(alloc, members, "format", Value::from(2u32))?;
+    let members = with(alloc, members, "format", Value::from(3u32))?;
     let members = with(alloc, members, "bounds", bounds)?;
     Ok(Value::Object(members))
 }
@@ -122,17 +122,17 @@ fn cert_value(alloc: Global, cert: &Cert) -> Result<Value, AllocError>
     named_value(alloc, cert, &names)
 }
 
-/// The certificate in format 2: JSON with no space, the keys of each object in the order of their bytes. Each trace is
-/// written once, in the order in which the items name them first.
+/// The certificate in format 3: JSON with no space, the keys of each object in the order of their bytes. Zeros of lists of
+/// fractions aren't written. Each trace is written once, in the order in which the items name them first.
 ///
 /// The certificate has a row, whole points of bounds, and an item in each step; or it has neither rows nor bounds nor
 /// steps, and then its bounds are written as an empty list. The format is written out in `docs/FORMATS.md`. What is
-/// written reads back as the certificate where its traces hold at most `MOST_VALUES` values, and else is refused as
-/// `Expanded`.
+/// written reads back as the certificate without the zeros of its lists where its traces then hold at most `MOST_VALUES`
+/// values, and else is refused as `Expanded`.
 pub fn write(alloc: Global, cert: &Cert) -> Result<Vec<u8>, AllocError>
     requires { IsWritable cert.now }
     ensures text { IfOk result (λ bytes. bytes.items ≡ compact_text (cert_data cert.now)) }
-    ensures reads_back { IfOk result (λ bytes. IsWithin cert.now → SpellsCert bytes.items cert.now) }
+    ensures reads_back { IfOk result (λ bytes. IsWithin cert.now → SpellsCert bytes.items (bare_cert cert.now)) }
     ensures expands { IfOk result (λ bytes. IsBeyond cert.now → SpellsTooMany bytes.items) }
 {
     let value = cert_value(alloc, cert)?;

@@ -1,11 +1,11 @@
-//! Changes of the text of a certificate in either format, and what they read as.
+//! Changes of the text of a certificate in each format, and what they read as.
 
 use crate::certificates::RAY;
 use cert_text::read;
 use std::alloc::{AllocError, Global};
 use std::test::Fail;
 
-// What stands in the certificate with a ray in both formats, what is put in its place, and what that reads as: a certificate,
+// What stands in the certificate with a ray in formats 1 and 2, what is put in its place, and what that reads as: a certificate,
 // or the fault. Read are the greatest index, an escape, and a bound that is `-inf`.
 const CHANGES: &str = r#""edge":0 -> "edge":4294967295 => read
 "kind":"ray" -> "kind":"r\u0061y" => read
@@ -61,7 +61,8 @@ const FIRST_CHANGES: &str =
 "format":1 -> "format":18446744073709551616 => Shape(Format)
 "format":1 -> "format":-9223372036854775809 => Shape(Format)
 "format":1 -> "format":2 => Shape(Format)
-"format":1 -> "format":3 => Version
+"format":1 -> "format":3 => Shape(Format)
+"format":1 -> "format":4 => Version
 "format":1 -> "format":0 => Version
 "format":1 -> "format":-1 => Version
 "format":1 -> "format":18446744073709551615 => Version
@@ -72,7 +73,8 @@ const FIRST_CHANGES: &str =
 // The same in format 2 alone. Read are a key that stands twice, a trace that is listed twice, and one that is named twice.
 const SECOND_CHANGES: &str = r#""format":2 -> "format":2.0 => Shape(Format)
 "format":2 -> "format":1 => Shape(Format)
-"format":2 -> "format":3 => Version
+"format":2 -> "format":3 => Shape(Rows)
+"format":2 -> "format":4 => Version
 "format":2 -> "format":-2 => Version
 "format":2 -> "format":3,"format":2 => read
 "format":2, ->  => Shape(Top)
@@ -95,6 +97,40 @@ const SECOND_CHANGES: &str = r#""format":2 -> "format":2.0 => Shape(Format)
 "low":1 -> "low":18446744073709551615 => Shape(Steps)
 "low":1 -> "low":{"free":["0"],"start":["0"]} => Shape(Steps)
 "low":1, ->  => Shape(Steps)"#;
+
+// The same in format 3 alone. Read are rows without coefficients, the greatest place, and fractions at other places.
+const THIRD_CHANGES: &str = r#""format":3 -> "format":3.0 => Shape(Format)
+"format":3 -> "format":1 => Shape(Format)
+"format":3 -> "format":2 => Shape(Rows)
+"format":3 -> "format":4 => Version
+"traces":[ -> "trace":[ => Shape(Top)
+[[[0,"1"]],[[0,"-1"]]] -> [[],[]] => read
+[[[0,"1"]], -> [[[4294967295,"1"]], => read
+[[[0,"1"]], -> [[[4294967296,"1"]], => Shape(Rows)
+[[[0,"1"]], -> [[[-1,"1"]], => Shape(Rows)
+[[[0,"1"]], -> [[[0.0,"1"]], => Shape(Rows)
+[[[0,"1"]], -> [[["0","1"]], => Shape(Rows)
+[[[0,"1"]], -> [[[0,1]], => Shape(Rows)
+[[[0,"1"]], -> [[[0]], => Shape(Rows)
+[[[0,"1"]], -> [[[0,"1",1]], => Shape(Rows)
+[[[0,"1"]], -> [[{}], => Shape(Rows)
+[[[0,"1"]], -> [["1"], => Shape(Rows)
+[[[0,"1"]], -> [[[0,"0"]], => Shape(Rows)
+[[[0,"1"]], -> [[[0,"1"],[0,"2"]], => Shape(Rows)
+[[[0,"1"]], -> [[[1,"1"],[0,"2"]], => Shape(Rows)
+[[[0,"1"]], -> [[[0,"-0"]], => Number(Rows)
+[[[0,"1"]], -> [[[0,"1/2"]], => Number(Rows)
+["7","+inf"] -> [[0,"7"]] => Shape(Bounds)
+"free":[[0,"7"]] -> "free":[[3,"7"],[5,"-1/2"]] => read
+"free":[[0,"7"]] -> "free":["7"] => Shape(Traces)
+"free":[[0,"7"]] -> "free":[[0,"0"]] => Shape(Traces)
+"free":[[0,"7"]] -> "free":[[5,"7"],[3,"8"]] => Shape(Traces)
+"free":[[0,"7"]] -> "free":[[0,"14/2"]] => Number(Traces)
+"low":1 -> "low":3 => Shape(Steps)
+"guards":[[0,"1"]] -> "guards":["1"] => Shape(Uppers)
+"guards":[[0,"1"]] -> "guards":[[0,"0"]] => Shape(Uppers)
+"guards":[[0,"1"]] -> "guards":[[1,"1"],[1,"1"]] => Shape(Uppers)
+"guards":[[0,"1"]] -> "guards":[[0,"1/1"]] => Number(Uppers)"#;
 
 // What a text reads as, in words.
 fn answer(alloc: Global, text: &[u8]) -> Result<String, Fail> {
@@ -127,6 +163,9 @@ fn changes_are_read_or_refused(rt: HostRuntime) -> Result<(), Fail> {
     }
     for line in SECOND_CHANGES.lines() {
         assert!(rt; is_right(alloc, second, line)?, "{line}");
+    }
+    for line in THIRD_CHANGES.lines() {
+        assert!(rt; is_right(alloc, RAY[2], line)?, "{line}");
     }
     assert!(rt; is_right(alloc, first, ",\"format\" ->  ,\n\"format\" => read")?);
     Ok(())
@@ -189,6 +228,36 @@ fn traces_expand_to_the_limit(rt: HostRuntime) -> Result<(), Fail> {
         (2048, 0, "Expanded"),
     ] {
         let text = expanding(alloc, long, short)?;
+        assert_eq!(rt; answer(alloc, text.as_bytes())?.as_str(), wanted);
+    }
+    Ok(())
+}
+
+// A certificate in format 3 whose items name a trace of 2,048 pairs so many times and once more.
+fn expanding_pairs(alloc: Global, long: usize) -> Result<String, Fail> {
+    let mut text = String::from_str(
+        alloc,
+        r#"{"bounds":[],"format":3,"rows":[[[0,"1"]]],"steps":[{"items":["#,
+    )?;
+    push_often(
+        &mut text,
+        r#"{"edge":0,"low":0,"to":"0","unknown":[0,0]},"#,
+        long,
+    )?;
+    text.push_str(r#"{"edge":0,"low":0,"to":"0","unknown":[0,0]}],"kind":"plain"}],"#)?;
+    text.push_str(r#""traces":[{"free":[[0,"1"]],"start":["#)?;
+    for place in 0..2046 {
+        text.push_str(format!(in alloc; "[{place},\"1\"],")?.as_str())?;
+    }
+    text.push_str(r#"[4294967295,"1"]]}],"uppers":[]}"#)?;
+    Ok(text)
+}
+
+#[test]
+fn pairs_expand_to_the_limit(rt: HostRuntime) -> Result<(), Fail> {
+    let alloc = rt.alloc();
+    for (long, wanted) in [(2047, "read"), (2048, "Expanded")] {
+        let text = expanding_pairs(alloc, long)?;
         assert_eq!(rt; answer(alloc, text.as_bytes())?.as_str(), wanted);
     }
     Ok(())

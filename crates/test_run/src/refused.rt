@@ -4,6 +4,7 @@ mod bytes;
 pub(crate) mod certificates;
 mod counts;
 mod faults;
+mod lengths;
 pub(crate) mod refusals;
 mod texts;
 mod words;

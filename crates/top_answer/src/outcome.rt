@@ -13,7 +13,7 @@ ghost use Rattle.top_answer.specs.Commands.{IsWithin, command_of, text_of_proof}
 ghost use Rattle.top_answer.specs.Outcomes.{HasOutcome, HasVerdicts, Says};
 ghost use Rattle.top_status.specs.CheckMessages.{rows_of};
 ghost use Rattle.top_texts.specs.CheckTexts.{ending_of};
-ghost use Rattle.top_texts.specs.Checks.{HasRowCount, IsSpelt};
+ghost use Rattle.top_texts.specs.Checks.{HasRowCount, IsSpelt, fitted_to};
 ghost use Rattle.top_texts.specs.Exact.{exact};
 ghost use Rattle.top_texts.specs.Outcomes.{IsHalted, IsOutputOf};
 ghost use Rattle.top_texts.specs.Texts.{IsSolvedSystem, Program as ProgramText};
@@ -153,7 +153,7 @@ fn accepted(alloc: Global, given: Given, format: Format) -> Outcome
     requires points { given.flow.points ≡ points_of_program given.program.body }
     requires edges { given.flow.edges ≡ edges_of_program given.program.body }
     ensures says { (source : ProgramText) (bytes : List ℕ)
-        → IsSpelt source bytes given.program.names given.program.body given.cert
+        → IsSpelt source bytes given.program.names given.program.body (fitted_to given.program.names given.program.body given.cert)
         → Says (command_of exact (Check source bytes format)) result.status result.bytes.items }
     ensures rows { result.rows ≡ rows_of (length given.cert.rows) result.status }
 {

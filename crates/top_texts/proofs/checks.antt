@@ -1,3 +1,4 @@
 pub mod Accepted
 pub mod Refused
 pub mod CheckOnce
+pub mod Fitting

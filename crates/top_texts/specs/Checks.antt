@@ -14,6 +14,8 @@ use Rattle.theory_validity.specs.Certificates.{Certificate, ValidCertificate, bo
 use Rattle.theory_validity.specs.Faults.{Fault, certificate_fault}
 use Rattle.cert_types.specs.Certificates.{certificate_of}
 use Rattle.cert_types.specs.declared.cert.Cert.{Cert}
+use Rattle.cert_written.specs.declared.cert.Cert.{Cert as WrittenCert}
+use Rattle.cert_fitted.specs.Fitted.{cert_for, rows_for}
 use Rattle.cert_text.specs.Certificates.{Spells, SpellsCert, SpellsTooMany, cert_in}
 use Rattle.serde_json.specs.Data.{Data}
 use Rattle.cert_text.specs.declared.fault.FormFault.{FormFault}
@@ -37,10 +39,20 @@ IsFormFault bytes Version = (d : Data) × Spells bytes d × (cert_in d ≡ Err V
 IsFormFault bytes Expanded = SpellsTooMany bytes
 IsFormFault bytes NoMemory = ⊥
 
+-- the certificate for which a written one stands with a program: each list has the length that the program and the rows ask for
+abbrev pub fitted_to : List (List ℕ) → Statements → WrittenCert → Cert
+fitted_to names body written = cert_for (equations_of_program (length names) body (rows_for (length names) written.rows)) written
+
+-- the bytes spell a written certificate that stands for this one with a program
+pub record SpellsFor (names : List (List ℕ)) (body : Statements) (bytes : List ℕ) (cert : Cert) : Type 0 where
+  pub written : WrittenCert
+  pub spells : SpellsCert bytes written
+  pub fitted : cert ≡ fitted_to names body written
+
 -- the program has a core within the limits, and the bytes spell this certificate
 pub record IsSpelt (program : Program) (bytes : List ℕ) (names : List (List ℕ)) (body : Statements) (cert : Cert) : Type 0 where
   pub analysed : IsAnalysed program names body
-  pub spells : SpellsCert bytes cert
+  pub spells : SpellsFor names body bytes cert
 
 -- and the certificate's rows are a template over the program's variables, with no more unknowns than a system may have
 pub record IsSystemWith (program : Program) (bytes : List ℕ) (names : List (List ℕ)) (body : Statements) (cert : Cert) : Type 0 where
@@ -126,6 +138,6 @@ pub record IsAcceptedWith (program : Program) (bytes : List ℕ) (names : List (
 
 -- the bytes spell a certificate with so many rows
 pub record HasRowCount (bytes : List ℕ) (count : ℕ) : Type 0 where
-  pub cert : Cert
+  pub cert : WrittenCert
   pub spells : SpellsCert bytes cert
   pub count_is : count ≡ length cert.rows

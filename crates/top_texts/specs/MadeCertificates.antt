@@ -8,6 +8,7 @@ use Rattle.flow_systems.specs.Solutions.{equations_of_program}
 use Rattle.flow_systems.specs.View.{vector_of}
 use Rattle.theory_validity.specs.Certificates.{ValidCertificate}
 use Rattle.cert_text.specs.Certificates.{IsBeyond, IsWithin, SpellsTooMany, cert_data}
+use Rattle.cert_fitted.specs.Dense.{dense_cert}
 use Rattle.solve_rounds.specs.declared.solution.Solved.{Solved}
 use Rattle.solve_rounds.specs.Solutions.{IsSolved, cert_with}
 use Rattle.ask_words.specs.declared.request.Domain.{Domain}
@@ -30,10 +31,10 @@ pub record IsCertificateOf (program : Program) (rows : Domain (List ℕ)) (polic
   pub system_for : IsSystemFor names body template system
   pub solved : Solved
   pub is_solved : IsSolved system (rule_of policy) limit solved
-  pub written : bytes ≡ compact_text (cert_data (cert_with system solved))
+  pub written : bytes ≡ compact_text (cert_data (dense_cert (cert_with system solved)))
   pub valid : ValidCertificate (system_with names body (cert_with system solved)) (theirs (cert_with system solved))
   pub narrow : NoneIsWide (system_with names body (cert_with system solved)) (theirs (cert_with system solved))
-  pub accepted : IsWithin (cert_with system solved) → IsValidFor program bytes names body (cert_with system solved)
-  pub expands : IsBeyond (cert_with system solved) → SpellsTooMany bytes
+  pub accepted : IsWithin (dense_cert (cert_with system solved)) → IsValidFor program bytes names body (cert_with system solved)
+  pub expands : IsBeyond (dense_cert (cert_with system solved)) → SpellsTooMany bytes
   pub least : Least (equations_of_program (length names) body template) (vector_of (length template) solved.bounds)
   pub by_c : HoldsInSource program names (equations_of_program (length names) body template) (vector_of (length template) solved.bounds)

@@ -14,6 +14,8 @@ use Rattle.theory_validity.specs.Certificates.{Certificate as TheoryCertificate,
 use Rattle.cert_types.specs.declared.cert.Cert.{Cert}
 use Rattle.serde_json.specs.Written.{compact_text}
 use Rattle.cert_text.specs.Certificates.{IsBeyond, IsWithin, SpellsCert, SpellsTooMany, cert_data}
+use Rattle.cert_written.specs.Bare.{bare_cert}
+use Rattle.cert_fitted.specs.Dense.{dense_cert}
 use Rattle.solve_rounds.specs.declared.solution.Solved.{Solved}
 use Rattle.solve_rounds.specs.Solutions.{IsSolved, cert_with, made_certificate}
 use Rattle.ask_claims.specs.declared.claim.Claim.{Claim}
@@ -109,9 +111,9 @@ pub record IsRoundsCertificate (system : System) (policy : Policy) (limit : ℕ)
   pub solved : Solved
   pub is_solved : IsSolved system (rule_of policy) limit solved
   pub template : IsTrue (is_template system.template)
-  pub written : bytes ≡ compact_text (cert_data (cert_with system solved))
-  pub spells : IsWithin (cert_with system solved) → SpellsCert bytes (cert_with system solved)
-  pub expands : IsBeyond (cert_with system solved) → SpellsTooMany bytes
+  pub written : bytes ≡ compact_text (cert_data (dense_cert (cert_with system solved)))
+  pub spells : IsWithin (dense_cert (cert_with system solved)) → SpellsCert bytes (bare_cert (dense_cert (cert_with system solved)))
+  pub expands : IsBeyond (dense_cert (cert_with system solved)) → SpellsTooMany bytes
   pub valid : ValidCertificate (equations_of system) (made_certificate system solved)
   pub narrow : NoneIsWide (equations_of system) (made_certificate system solved)
   pub least : Least (equations_of system) (vector_of (length system.template) solved.bounds)

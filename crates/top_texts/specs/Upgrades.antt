@@ -1,7 +1,7 @@
 -- What is written for the bytes of a certificate, in whichever of the formats they are.
 use Rattle.std.specs.Prelude.{◌≡◌, ℕ, List}
 use Rattle.serde_json.specs.Written.{compact_text}
-use Rattle.cert_types.specs.declared.cert.Cert.{Cert}
+use Rattle.cert_written.specs.declared.cert.Cert.{Cert}
 use Rattle.cert_text.specs.Certificates.{SpellsCert, cert_data}
 
 -- the bytes spell a certificate, and this is the text that is written of it

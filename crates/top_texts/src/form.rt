@@ -7,7 +7,7 @@ ghost use Rattle.top_texts.specs.Outcomes.{IsMisspelt};
 
 use crate::refusal::Refusal;
 use cert_text::{FormFault, read};
-use cert_types::Cert;
+use cert_written::Cert;
 use std::alloc::Global;
 use top_status::CertCause;
 

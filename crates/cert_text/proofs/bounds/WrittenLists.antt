@@ -1,10 +1,10 @@
 -- Lists of elements that are written one after another.
-use Rattle.std.proofs.Common.{◌≡◌, ◌+◌, ◌<◌, ◌++◌, ◌&&◌, ℕ, Bool, true, false, List, [], ◌∷◌, length, get_or, take, Option, Some, None}
+use Rattle.std.proofs.Common.{◌≡◌, ◌+◌, ◌<◌, ◌++◌, ◌&&◌, ℕ, Bool, true, false, List, [], ◌∷◌, length, get_or, map, take, Option, Some, None}
 use Rattle.std.proofs.Common.{option_map, option_and_then, refl, sym, ap, ap₂, ◌∙◌}
 use Rattle.std.specs.Prelude.{nat_lt}
 use Rattle.std.specs.List.{list_all}
 use Rattle.std.proofs.lemmas.Bool.{lt-ltb}
-use Rattle.std.proofs.lemmas.List.{take_more}
+use Rattle.std.proofs.lemmas.List.{map-append, take_more}
 use Rattle.serde_json.specs.Data.{Data, Items, item, no_items}
 use Rattle.serde_json.specs.View.{items_view, view}
 use Rattle.serde_json.specs.declared.value.Value.{Value}
@@ -68,9 +68,16 @@ module _ {A : Type 0} (write : A → Data) where
     items_in-snoc (item e ds) d = ap (front (read e)) (items_in-snoc ds d) ∙ regroup (read e) (items_in read ds) (read d)
 
     -- a list of written elements that are read back is so with one more that is read back
-    pub back_more : (xs : List A) (x : A) → items_in read (items_data write xs) ≡ Some xs → read (write x) ≡ Some x
-        → items_in read (items_data write (xs ++ x ∷ [])) ≡ Some (xs ++ x ∷ [])
-    back_more xs x e f = ap (items_in read) (items_data-push xs x) ∙ items_in-snoc (items_data write xs) (write x) ∙ ap₂ more e f
+    pub back_more : (bare : A → A) (xs : List A) (x : A) → items_in read (items_data write xs) ≡ Some (map bare xs)
+        → read (write x) ≡ Some (bare x) → items_in read (items_data write (xs ++ x ∷ [])) ≡ Some (map bare (xs ++ x ∷ []))
+    back_more bare xs x e f =
+        ap (items_in read) (items_data-push xs x) ∙ items_in-snoc (items_data write xs) (write x) ∙ ap₂ more e f
+        ∙ ap Some (sym (map-append bare xs (x ∷ [])))
+
+-- each element as it is
+pub map_same : {A : Type 0} (xs : List A) → map (λ x. x) xs ≡ xs
+map_same [] = refl
+map_same (x ∷ xs) = ap (λ ys. x ∷ ys) (map_same xs)
 
 -- every element of a list can be written, where every element of its kind can
 pub all_true : {A : Type 0} (xs : List A) → list_all (λ _. true) xs ≡ true

@@ -13,13 +13,13 @@ use Rattle.base_fractions.specs.Extended.{ExtFits, ext_text}
 use Rattle.base_fractions.specs.declared.ext.Ext.{Ext}
 use Rattle.base_fractions.specs.declared.ext.Ext.TheVariants.{NegInf, Fin, PosInf}
 use Rattle.base_fractions.proofs.texts.Slashes.{some_same, whole_text}
-use Rattle.cert_types.specs.declared.cert.Cert.{Cert}
+use Rattle.cert_written.specs.Bare.{bare_cert}
+use Rattle.cert_written.specs.declared.cert.Cert.{Cert}
 use Rattle.cert_text.specs.declared.fault.FormFault.{FormFault}
 use Rattle.cert_text.specs.declared.fault.FormFault.TheVariants.{Expanded, NoMemory, NotJson, Number, Shape, Version}
 use Rattle.cert_text.specs.declared.limits.TheConstants.{MOST_VALUES}
-use Rattle.cert_text.specs.Naming.{named_traces, values_of}
 use Rattle.cert_text.specs.Numbers.{ext_of, frac_of, if_whole, whole_of}
-use Rattle.cert_text.specs.Certificates.{IsBeyond, IsWithin, Spells, SpellsCert, SpellsTooMany, cert_in, read_again}
+use Rattle.cert_text.specs.Certificates.{IsBeyond, IsWithin, Spells, SpellsCert, SpellsTooMany, cert_in, read_again, written_values}
 use Rattle.cert_text.specs.FormLaws.{BoundsByText, FractionsByText, OneReading, WholesByText}
 use Rattle.cert_text.proofs.numbers.FracTexts.{fin_back, frac_back, frac_text_of, whole_back}
 use Rattle.cert_text.proofs.rows.RowNumbers.{whole_small}
@@ -120,33 +120,34 @@ le_from m n e = grind (arith, e)
 
 module _ (c : Cert) where
   abbrev over : Bool
-  over = nat_lt MOST_VALUES (values_of (named_traces c.steps))
+  over = nat_lt MOST_VALUES (written_values c)
 
   -- bytes that a certificate is written as spell a value that is read as the certificate, or as one that expands too far
-  read_as : (bytes : List ℕ) → (IsWithin c → SpellsCert bytes c) → (IsBeyond c → SpellsTooMany bytes)
+  read_as : (bytes : List ℕ) → (IsWithin c → SpellsCert bytes (bare_cert c)) → (IsBeyond c → SpellsTooMany bytes)
       → (d : Data) × Spells bytes d × (cert_in d ≡ read_again c)
   read_as bytes w b = by over refl
     where
-      by : (o : Bool) → over ≡ o → (d : Data) × Spells bytes d × (cert_in d ≡ (if o then Err Expanded else Ok c))
-      by true h = b (lt_from MOST_VALUES (values_of (named_traces c.steps)) h)
-      by false h = let k = w (le_from MOST_VALUES (values_of (named_traces c.steps)) h) in (k.data_is, k.spells, k.reads)
+      by : (o : Bool) → over ≡ o → (d : Data) × Spells bytes d × (cert_in d ≡ (if o then Err Expanded else Ok (bare_cert c)))
+      by true h = b (lt_from MOST_VALUES (written_values c) h)
+      by false h = let k = w (le_from MOST_VALUES (written_values c) h) in (k.data_is, k.spells, k.reads)
 
   -- what a certificate was written as is read as the certificate, or as one that expands too far, unless memory is wanted
-  pub read_back : {written bytes : List ℕ} → bytes ≡ written → (IsWithin c → SpellsCert written c) → (IsBeyond c → SpellsTooMany written)
+  pub read_back : {written bytes : List ℕ} → bytes ≡ written → (IsWithin c → SpellsCert written (bare_cert c)) → (IsBeyond c
+      → SpellsTooMany written)
       → (r : Result Cert FormFault) → IfOk r (λ e. SpellsCert bytes e) → (IsErrOf r NotJson → (e : Data) → Spells bytes e → ⊥)
       → IfErr r (λ f. f ≢ NotJson → f ≢ NoMemory → (e : Data) × Spells bytes e × (cert_in e ≡ Err f))
       → (r ≡ read_again c) ⊎ (r ≡ Err NoMemory)
   read_back {bytes = bytes} same w b =
-      let k = read_as bytes (subst (λ (x : List ℕ). IsWithin c → SpellsCert x c) (sym same) w)
+      let k = read_as bytes (subst (λ (x : List ℕ). IsWithin c → SpellsCert x (bare_cert c)) (sym same) w)
       (subst (λ (x : List ℕ). IsBeyond c → SpellsTooMany x) (sym same) b) in
       one_answer bytes (read_again c) k.0 k.1 k.2
 
   -- a certificate that is read again is the same
-  pub again_same : (r : Result Cert FormFault) → (r ≡ read_again c) ⊎ (r ≡ Err NoMemory) → IfOk r (λ e. e ≡ c)
+  pub again_same : (r : Result Cert FormFault) → (r ≡ read_again c) ⊎ (r ≡ Err NoMemory) → IfOk r (λ e. e ≡ bare_cert c)
   again_same (Err f) h = tt
   again_same (Ok e) (inl h) = by over h
     where
-      by : (o : Bool) → Ok e ≡ (if o then Err Expanded else Ok c) → e ≡ c
+      by : (o : Bool) → Ok e ≡ (if o then Err Expanded else Ok (bare_cert c)) → e ≡ bare_cert c
       by true k = absurd cc
       by false k = cc
   again_same (Ok e) (inr h) = absurd cc
@@ -156,9 +157,9 @@ module _ (c : Cert) where
   again_within (Err f) h = tt
   again_within (Ok e) (inl h) = by over refl h
     where
-      by : (o : Bool) → over ≡ o → Ok e ≡ (if o then Err Expanded else Ok c) → IsWithin c
+      by : (o : Bool) → over ≡ o → Ok e ≡ (if o then Err Expanded else Ok (bare_cert c)) → IsWithin c
       by true p k = absurd cc
-      by false p k = le_from MOST_VALUES (values_of (named_traces c.steps)) p
+      by false p k = le_from MOST_VALUES (written_values c) p
   again_within (Ok e) (inr h) = absurd cc
 
   -- a certificate is refused when it is read again only for want of memory, or where it expands too far
@@ -167,7 +168,7 @@ module _ (c : Cert) where
   again_refused (Ok e) h = tt
   again_refused (Err f) (inl h) = by over refl h
     where
-      by : (o : Bool) → over ≡ o → Err f ≡ (if o then Err Expanded else Ok c) → (f ≡ NoMemory) ⊎ ((f ≡ Expanded) × IsBeyond c)
-      by true p k = inr (cc, lt_from MOST_VALUES (values_of (named_traces c.steps)) p)
+      by : (o : Bool) → over ≡ o → Err f ≡ (if o then Err Expanded else Ok (bare_cert c)) → (f ≡ NoMemory) ⊎ ((f ≡ Expanded) × IsBeyond c)
+      by true p k = inr (cc, lt_from MOST_VALUES (written_values c) p)
       by false p k = absurd cc
   again_refused (Err f) (inr h) = inl cc

@@ -5,7 +5,7 @@ use Rattle.std.specs.List.{flat_map}
 use Rattle.serde_json.specs.Data.{Data}
 use Rattle.serde_json.specs.View.{items_view, view}
 use Rattle.serde_json.specs.declared.value.Value.{Value}
-use Rattle.flow_systems.specs.declared.trace.Trace.{Trace}
+use Rattle.cert_written.specs.declared.trace.Trace.{Trace}
 use Rattle.base_fractions.proofs.texts.Slashes.{some_same}
 use Rattle.cert_text.specs.Lists.{items_in}
 use Rattle.cert_text.specs.Naming.{capped, values_of}

@@ -8,9 +8,9 @@ use Rattle.std.proofs.lemmas.List.{flat_map_more}
 use Rattle.std.proofs.lemmas.List.Folds.{list_all-append, list_any-append}
 use Rattle.std.proofs.lemmas.List.Sums.{fold-append}
 use Rattle.std.proofs.lemmas.Slice.Eq.{bytes_eq-Decides}
-use Rattle.cert_types.specs.Shaped.{has_item}
-use Rattle.cert_types.specs.declared.step.Step.{Step}
-use Rattle.flow_systems.specs.declared.trace.Trace.{Trace}
+use Rattle.cert_written.specs.Shaped.{has_item}
+use Rattle.cert_written.specs.declared.step.Step.{Step}
+use Rattle.cert_written.specs.declared.trace.Trace.{Trace}
 use Rattle.cert_text.specs.Naming.{is_listed, named_traces, same_text, step_traces, trace_text, with_trace, with_traces}
 use Rattle.cert_text.proofs.bounds.WrittenLists.{one_more}
 

@@ -9,7 +9,8 @@ use Rattle.std.specs.declared.vec.Vec.{Vec}
 use Rattle.std.proofs.lemmas.List.{map-append}
 use Rattle.std.proofs.lemmas.Slice.Eq.{bytes_eq-Decides}
 use Rattle.indexmap.specs.IndexSet.{insert_key}
-use Rattle.flow_systems.specs.declared.trace.Trace.{Trace}
+use Rattle.cert_written.specs.declared.trace.Trace.{Trace}
+use Rattle.cert_written.specs.Bare.{bare_trace}
 use Rattle.base_fractions.proofs.texts.Slashes.{some_same}
 use Rattle.cert_text.specs.Naming.{AreSpelt, is_listed, number_in, same_text, spelt_trace, texts_of, trace_text, with_trace}
 
@@ -47,24 +48,27 @@ module _ (text : List ℕ) (t : Trace) (keys : List (Vec ℕ Global)) (ts : List
 
 -- ---- a trace is found at its number
 
-spelt_same : (t u : Trace) → spelt_trace (trace_text t) ≡ Some t → spelt_trace (trace_text u) ≡ Some u → same_text t u ≡ true → u ≡ t
+spelt_same : (t u : Trace) → spelt_trace (trace_text t) ≡ Some (bare_trace t) → spelt_trace (trace_text u) ≡ Some (bare_trace u)
+    → same_text t u ≡ true → bare_trace u ≡ bare_trace t
 spelt_same t u e f s = some_same (sym f ∙ ap spelt_trace (sym ((bytes_eq-Decides (trace_text t) (trace_text u)).0 s)) ∙ e)
 
--- a listed trace is found at its number
-pub found_back : (ts : List Trace) (t : Trace) → spelt_trace (trace_text t) ≡ Some t → AreSpelt ts → is_listed ts t ≡ true
-    → slice_get ts (number_in ts t) ≡ Some t
+-- a listed trace is found at its number, without zeros
+pub found_back : (ts : List Trace) (t : Trace) → spelt_trace (trace_text t) ≡ Some (bare_trace t) → AreSpelt ts → is_listed ts t ≡ true
+    → slice_get (map bare_trace ts) (number_in ts t) ≡ Some (bare_trace t)
 found_back [] t e k h = absurd cc
 found_back (u ∷ ts) t e k h = by (same_text t u) refl h (λ g. found_back ts t e k.1 g)
   where
-    by : (b : Bool) → same_text t u ≡ b → (b || is_listed ts t) ≡ true → (is_listed ts t ≡ true → slice_get ts (number_in ts t) ≡ Some t)
-        → slice_get (u ∷ ts) (cond (not b) (1 + number_in ts t) 0) ≡ Some t
+    by : (b : Bool) → same_text t u ≡ b → (b || is_listed ts t) ≡ true → (is_listed ts t ≡ true
+        → slice_get (map bare_trace ts) (number_in ts t) ≡ Some (bare_trace t))
+        → slice_get (map bare_trace (u ∷ ts)) (cond (not b) (1 + number_in ts t) 0) ≡ Some (bare_trace t)
     by true s g more = ap Some (spelt_same t u e k.0 s)
-    by false s g more = let one : 1 + number_in ts t ≡ suc (number_in ts t) = omega arith in ap (slice_get (u ∷ ts)) one ∙ more g
+    by false s g more = let one : 1 + number_in ts t ≡ suc (number_in ts t) = omega arith in ap (slice_get (map bare_trace (u ∷ ts)))
+        one ∙ more g
 
 -- ---- one trace more
 
 -- the texts of traces still spell them with one more whose text spells it
-pub spelt_more : (ts : List Trace) (t : Trace) → AreSpelt ts → spelt_trace (trace_text t) ≡ Some t → AreSpelt (ts ++ t ∷ [])
+pub spelt_more : (ts : List Trace) (t : Trace) → AreSpelt ts → spelt_trace (trace_text t) ≡ Some (bare_trace t) → AreSpelt (ts ++ t ∷ [])
 spelt_more [] t k e = (e, tt)
 spelt_more (u ∷ ts) t k e = (k.0, spelt_more ts t k.1 e)
 

@@ -137,7 +137,8 @@ frac_ascii q f = IsAscii-append (signed_decimal q.num) _ (IsAscii-signed q.num (
 
 -- ---- whole numbers
 
-whole_fits : (z : ℤ) → IsTrue (is_number z) → Fits long_limit (whole z)
+-- a whole number within 2^63 - 1 fits
+pub whole_fits : (z : ℤ) → IsTrue (is_number z) → Fits long_limit (whole z)
 whole_fits z t =
     let n = ap nat_abs (num-whole z) in
     let d = den-whole z in

@@ -1,19 +1,20 @@
 -- The steps and the evidence where traces are listed: the steps are counted before they are read.
-use Rattle.std.proofs.Common.{◌≡◌, ◌<◌, ◌≤◌, ℕ, true, false, List, Option, Some, None, nat_lt, codes, Result, Ok, Err, refl, sym, ap}
+use Rattle.std.proofs.Common.{◌≡◌, ◌<◌, ◌≤◌, ℕ, Bool, true, false, List, Option, Some, None, nat_lt, codes, Result, Ok, Err, refl, sym, ap}
 use Rattle.std.proofs.Common.{◌∙◌, arith}
-use Rattle.std.specs.Prelude.{ℤ, length, map, option_map, if◌then◌else◌, ⊤}
+use Rattle.std.specs.Prelude.{length, map, option_map, if◌then◌else◌}
 use Rattle.std.proofs.lemmas.Bool.{lt-ltb}
 use Rattle.serde_json.specs.Data.{Data}
 use Rattle.serde_json.specs.Find.{get}
 use Rattle.base_numbers.specs.Extended.{Ext as Extended}
 use Rattle.base_fractions.specs.Extended.{extended}
 use Rattle.base_fractions.specs.declared.ext.Ext.{Ext}
-use Rattle.flow_systems.specs.declared.trace.Trace.{Trace}
-use Rattle.cert_types.specs.declared.cert.Cert.{Cert}
-use Rattle.cert_types.specs.declared.step.Step.{Step}
-use Rattle.cert_types.specs.declared.upper.Upper.{Upper}
+use Rattle.cert_written.specs.declared.trace.Trace.{Trace}
+use Rattle.cert_written.specs.declared.cert.Cert.{Cert}
+use Rattle.cert_written.specs.declared.entries.Entries.{Entries}
+use Rattle.cert_written.specs.declared.step.Step.{Step}
+use Rattle.cert_written.specs.declared.upper.Upper.{Upper}
 use Rattle.cert_text.specs.declared.fault.Field.{Field}
-use Rattle.cert_text.specs.declared.fault.Field.TheVariants.{Steps, Top}
+use Rattle.cert_text.specs.declared.fault.Field.TheVariants.{Steps}
 use Rattle.cert_text.specs.declared.fault.FormFault.{FormFault}
 use Rattle.cert_text.specs.declared.fault.FormFault.TheVariants.{Expanded, Number, Shape}
 use Rattle.cert_text.specs.declared.limits.TheConstants.{MOST_VALUES}
@@ -23,8 +24,8 @@ use Rattle.cert_text.specs.Lists.{is_list, list_in}
 use Rattle.cert_text.specs.StepForms.{is_step, step_in}
 use Rattle.cert_text.specs.Traces.{listing}
 use Rattle.cert_text.specs.BoundLines.{joined}
-use Rattle.cert_text.specs.Certificates.{and_then, bounds_in, cert_in, format_in, is_over, is_top, list_from, or_number, rest_in, rows_in}
-use Rattle.cert_text.specs.Certificates.{steps_in, top_in, traces_in, uppers_in}
+use Rattle.cert_text.specs.Certificates.{and_then, bounds_in, fields_in, is_over, list_from, or_number, rest_in, rows_in, step_setting}
+use Rattle.cert_text.specs.Certificates.{steps_in, traces_in, uppers_in}
 
 -- what follows a first part that is read
 pub then_ok : {A B : Type 0} (r : Result A FormFault) (x : A) (next : A → Result B FormFault) (y : Result B FormFault) → r ≡ Ok x
@@ -74,16 +75,13 @@ same_steps r xs ys e f = cc
 
 -- ---- the steps of a value
 
-listed_setting : (s : Setting) (traces : List Trace) → s.traces ≡ Some traces → listing s.rows traces ≡ s
-listed_setting s traces h = ap (λ (o : Option (List Trace)). let r : Setting = record { rows = s.rows; traces = o } in r) (sym h)
-
-module _ (s : Setting) (traces : List Trace) (d m : Data) (listed : s.traces ≡ Some traces) (there : Some m ≡ get (codes "steps") d)
+module _ (s : Setting) (traces : List Trace) (d m : Data) (listed : s ≡ listing s.rows traces) (there : Some m ≡ get (codes "steps") d)
     (shape : is_list (is_step s) m ≡ true)
     (n : Option ℕ) (count : n ≡ option_map (λ (steps : List Step). capped (values_of (named_traces steps)))
     (list_in (step_in (listing s.rows traces)) m)) where
   count_here : n ≡ option_map (λ (steps : List Step). capped (values_of (named_traces steps))) (list_in (step_in s) m)
   count_here = count ∙ ap (λ (r : Setting). option_map (λ (steps : List Step). capped (values_of (named_traces steps)))
-      (list_in (step_in r) m)) (listed_setting s traces listed)
+      (list_in (step_in r) m)) (sym listed)
 
   steps_here : or_number Steps (list_in (step_in s) m) ≡ steps_in s d
   steps_here =
@@ -99,63 +97,62 @@ module _ (s : Setting) (traces : List Trace) (d m : Data) (listed : s.traces ≡
   steps_missed h = number_missed Steps (list_in (step_in s) m) n count_here h ∙ ap counted steps_here
 
 -- steps that are refused
-rest_no_steps : (s : Setting) (d : Data) (f : FormFault) → steps_in s d ≡ Err f → rest_in s d ≡ Err f
-rest_no_steps s d f e =
-    ap (λ (r : Result (List Step) FormFault). and_then r (λ (steps : List Step). and_then (uppers_in d) (λ (uppers : List Upper).
+rest_no_steps : (sparse : Bool) (s : Setting) (d : Data) (f : FormFault) → steps_in s d ≡ Err f → rest_in sparse s d ≡ Err f
+rest_no_steps sparse s d f e =
+    ap (λ (r : Result (List Step) FormFault). and_then r (λ (steps : List Step). and_then (uppers_in sparse d) (λ (uppers : List Upper).
     if is_over s.traces (values_of (named_traces steps)) then Err Expanded else Ok (steps, uppers)))) e
 
 -- steps that are read, with what is read after them
-rest_after : (s : Setting) (d : Data) (steps : List Step) (r : Result (List Upper) FormFault) → steps_in s d ≡ Ok steps → uppers_in d ≡ r
-    → rest_in s d ≡ and_then r (λ (uppers : List Upper). if is_over s.traces (values_of (named_traces steps)) then Err Expanded else Ok
+rest_after : (sparse : Bool) (s : Setting) (d : Data) (steps : List Step) (r : Result (List Upper) FormFault) → steps_in s d ≡ Ok steps
+    → uppers_in sparse d ≡ r → rest_in sparse s d ≡ and_then r (λ (uppers : List Upper). if is_over s.traces (values_of (named_traces
+        steps)) then Err Expanded else Ok
     (steps, uppers))
-rest_after s d steps r e f =
-    ap (λ (r : Result (List Step) FormFault). and_then r (λ (steps : List Step). and_then (uppers_in d) (λ (uppers : List Upper).
+rest_after sparse s d steps r e f =
+    ap (λ (r : Result (List Step) FormFault). and_then r (λ (steps : List Step). and_then (uppers_in sparse d) (λ (uppers : List Upper).
     if is_over s.traces (values_of (named_traces steps)) then Err Expanded else Ok (steps, uppers)))) e
     ∙ ap (λ (r : Result (List Upper) FormFault). and_then r (λ (uppers : List Upper). if is_over s.traces (values_of (named_traces steps))
     then Err Expanded else Ok (steps, uppers))) f
 
-module _ (s : Setting) (traces : List Trace) (d : Data) (listed : s.traces ≡ Some traces) where
-  listed_no_steps : (f : FormFault) → Err f ≡ counted (steps_in s d) → rest_in s d ≡ Err f
-  listed_no_steps f e = rest_no_steps s d f (counted_err (steps_in s d) f e)
+module _ (sparse : Bool) (s : Setting) (traces : List Trace) (d : Data) (listed : s ≡ listing s.rows traces) where
+  listed_no_steps : (f : FormFault) → Err f ≡ counted (steps_in s d) → rest_in sparse s d ≡ Err f
+  listed_no_steps f e = rest_no_steps sparse s d f (counted_err (steps_in s d) f e)
 
   module _ (n : ℕ) (count : Ok n ≡ counted (steps_in s d)) where
-    listed_no_uppers : (f : FormFault) → uppers_in d ≡ Err f → rest_in s d ≡ Err f
-    listed_no_uppers f e = let k = counted_ok (steps_in s d) n count in rest_after s d k.0 (Err f) k.1 e
+    listed_no_uppers : (f : FormFault) → uppers_in sparse d ≡ Err f → rest_in sparse s d ≡ Err f
+    listed_no_uppers f e = let k = counted_ok (steps_in s d) n count in rest_after sparse s d k.0 (Err f) k.1 e
 
-    listed_expanded : (uppers : List Upper) → uppers_in d ≡ Ok uppers → MOST_VALUES < n → rest_in s d ≡ Err Expanded
+    listed_expanded : (uppers : List Upper) → uppers_in sparse d ≡ Ok uppers → MOST_VALUES < n → rest_in sparse s d ≡ Err Expanded
     listed_expanded uppers e h =
         let k = counted_ok (steps_in s d) n count in
-        rest_after s d k.0 (Ok uppers) k.1 e
-        ∙ ap (λ b. if b then Err Expanded else Ok (k.0, uppers)) (ap (λ o. is_over o (values_of (named_traces k.0))) listed
+        rest_after sparse s d k.0 (Ok uppers) k.1 e
+        ∙ ap (λ b. if b then Err Expanded else Ok (k.0, uppers)) (ap (λ (r : Setting). is_over r.traces (values_of (named_traces
+            k.0))) listed
         ∙ over_capped n (values_of (named_traces k.0)) k.2 h)
 
-    listed_read : (steps : List Step) (uppers : List Upper) → steps_in s d ≡ Ok steps → uppers_in d ≡ Ok uppers → n ≤ MOST_VALUES
-        → rest_in s d ≡ Ok (steps, uppers)
+    listed_read : (steps : List Step) (uppers : List Upper) → steps_in s d ≡ Ok steps → uppers_in sparse d ≡ Ok uppers → n ≤ MOST_VALUES
+        → rest_in sparse s d ≡ Ok (steps, uppers)
     listed_read steps uppers f e h =
         let k = counted_ok (steps_in s d) n count in
-        rest_after s d k.0 (Ok uppers) k.1 e
-        ∙ ap (λ b. if b then Err Expanded else Ok (k.0, uppers)) (ap (λ o. is_over o (values_of (named_traces k.0))) listed
+        rest_after sparse s d k.0 (Ok uppers) k.1 e
+        ∙ ap (λ b. if b then Err Expanded else Ok (k.0, uppers)) (ap (λ (r : Setting). is_over r.traces (values_of (named_traces
+            k.0))) listed
         ∙ within_capped n (values_of (named_traces k.0)) k.2 h)
         ∙ ap (λ (xs : List Step). let r : Result (List Step × List Upper) FormFault = Ok (xs, uppers) in r)
         (same_steps (steps_in s d) k.0 steps k.1 f)
 
 -- ---- the whole
 
--- a certificate is read field by field, where the first fields are read
-module _ (d : Data) (u : ⊤) (rows : List (List ℤ)) (n : ℕ) (top : is_top d ≡ true) (format : format_in d ≡ Ok u)
-    (rows_read : rows_in d ≡ Ok rows) (long : length rows ≡ n) where
-  top_read : top_in d ≡ Ok tt
-  top_read = ap (λ b. if b then Ok tt else Err (Shape Top)) top
-
+-- a certificate is read field by field, where the first field is read
+module _ (sparse : Bool) (d : Data) (rows : List Entries) (n : ℕ) (rows_read : rows_in sparse d ≡ Ok rows) (long : length rows ≡ n) where
   from_rows : (y : Result Cert FormFault) → and_then (bounds_in (length rows) d)
-      (λ (lines : List (List Ext)). and_then (traces_in d) (λ (traces : Option (List Trace)).
-      and_then (rest_in (record { rows = length rows; traces = traces }) d) (λ (rest : List Step × List Upper).
+      (λ (lines : List (List Ext)). and_then (traces_in sparse d) (λ (traces : Option (List Trace)).
+      and_then (rest_in sparse (step_setting (length rows) traces) d) (λ (rest : List Step × List Upper).
       let c : Cert = record { rows = rows; bounds = map extended (joined lines); steps = rest.0; uppers = rest.1 } in Ok c))) ≡ y
-      → cert_in d ≡ y
-  from_rows y e = then_ok (top_in d) tt _ y top_read (then_ok (format_in d) u _ y format (then_ok (rows_in d) rows _ y rows_read e))
+      → fields_in sparse d ≡ y
+  from_rows y e = then_ok (rows_in sparse d) rows _ y rows_read e
 
   -- where the bounds are refused, the certificate is refused so
-  pub cert_no_lines : (f : FormFault) → bounds_in n d ≡ Err f → cert_in d ≡ Err f
+  pub cert_no_lines : (f : FormFault) → bounds_in n d ≡ Err f → fields_in sparse d ≡ Err f
   cert_no_lines f e = from_rows (Err f) (then_err (bounds_in (length rows) d) f _ (ap (λ k. bounds_in k d) long ∙ e))
 
   module _ (lines : List (List Ext)) (lines_read : bounds_in n d ≡ Ok lines) where
@@ -163,30 +160,31 @@ module _ (d : Data) (u : ⊤) (rows : List (List ℤ)) (n : ℕ) (top : is_top d
     lines_here = ap (λ k. bounds_in k d) long ∙ lines_read
 
     -- where the traces are refused, the certificate is refused so
-    pub cert_no_traces : (f : FormFault) → traces_in d ≡ Err f → cert_in d ≡ Err f
-    cert_no_traces f e = from_rows (Err f) (then_ok (bounds_in (length rows) d) lines _ (Err f) lines_here (then_err (traces_in d) f _ e))
+    pub cert_no_traces : (f : FormFault) → traces_in sparse d ≡ Err f → fields_in sparse d ≡ Err f
+    cert_no_traces f e =
+        from_rows (Err f) (then_ok (bounds_in (length rows) d) lines _ (Err f) lines_here (then_err (traces_in sparse d) f _ e))
 
-    module _ (traces : Option (List Trace)) (traces_read : traces_in d ≡ Ok traces) where
-      rest_here : (r : Result (List Step × List Upper) FormFault) → rest_in (record { rows = n; traces = traces }) d ≡ r
-          → rest_in (record { rows = length rows; traces = traces }) d ≡ r
-      rest_here r e = ap (λ k. rest_in (record { rows = k; traces = traces }) d) long ∙ e
+    module _ (traces : Option (List Trace)) (traces_read : traces_in sparse d ≡ Ok traces) where
+      rest_here : (r : Result (List Step × List Upper) FormFault) → rest_in sparse (step_setting n traces) d ≡ r
+          → rest_in sparse (step_setting (length rows) traces) d ≡ r
+      rest_here r e = ap (λ k. rest_in sparse (step_setting k traces) d) long ∙ e
 
       -- where the steps or the evidence are refused, the certificate is refused so
-      pub cert_no_rest : (f : FormFault) → rest_in (record { rows = n; traces = traces }) d ≡ Err f → cert_in d ≡ Err f
+      pub cert_no_rest : (f : FormFault) → rest_in sparse (step_setting n traces) d ≡ Err f → fields_in sparse d ≡ Err f
       cert_no_rest f e =
           from_rows (Err f) (then_ok (bounds_in (length rows) d) lines _ (Err f) lines_here
-          (then_ok (traces_in d) traces _ (Err f) traces_read
-          (then_err (rest_in (record { rows = length rows; traces = traces }) d) f _ (rest_here (Err f) e))))
+          (then_ok (traces_in sparse d) traces _ (Err f) traces_read
+          (then_err (rest_in sparse (step_setting (length rows) traces) d) f _ (rest_here (Err f) e))))
 
       -- where all fields are read, the certificate is that of these fields
-      pub cert_read : (steps : List Step) (uppers : List Upper) (r : List (List ℤ)) (b : List Extended) (s : List Step) (p : List Upper)
-          → rest_in (record { rows = n; traces = traces }) d ≡ Ok (steps, uppers)
+      pub cert_read : (steps : List Step) (uppers : List Upper) (r : List Entries) (b : List Extended) (s : List Step) (p : List Upper)
+          → rest_in sparse (step_setting n traces) d ≡ Ok (steps, uppers)
           → r ≡ rows → b ≡ map extended (joined lines) → s ≡ steps → p ≡ uppers
-          → cert_in d ≡ Ok (record { rows = r; bounds = b; steps = s; uppers = p })
+          → fields_in sparse d ≡ Ok (record { rows = r; bounds = b; steps = s; uppers = p })
       cert_read steps uppers r b s p e er eb es ep =
           from_rows (Ok (record { rows = r; bounds = b; steps = s; uppers = p }))
-          (then_ok (bounds_in (length rows) d) lines _ _ lines_here (then_ok (traces_in d) traces _ _ traces_read
-          (then_ok (rest_in (record { rows = length rows; traces = traces }) d) (steps, uppers) _ _ (rest_here (Ok (steps, uppers)) e)
+          (then_ok (bounds_in (length rows) d) lines _ _ lines_here (then_ok (traces_in sparse d) traces _ _ traces_read
+          (then_ok (rest_in sparse (step_setting (length rows) traces) d) (steps, uppers) _ _ (rest_here (Ok (steps, uppers)) e)
           made)))
         where
           made : (let c : Cert = record { rows = rows; bounds = map extended (joined lines); steps = steps; uppers = uppers } in

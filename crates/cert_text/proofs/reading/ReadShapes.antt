@@ -11,31 +11,33 @@ use Rattle.serde_json.specs.Events.{items_len}
 use Rattle.serde_json.specs.Find.{as_array, at, get}
 use Rattle.base_fractions.specs.Extended.{extended}
 use Rattle.base_fractions.specs.declared.ext.Ext.{Ext}
-use Rattle.lang_tree.specs.Numbers.{are_numbers}
-use Rattle.cert_types.specs.Shaped.{has_item, has_some}
-use Rattle.flow_systems.specs.declared.trace.Trace.{Trace}
-use Rattle.cert_types.specs.declared.cert.Cert.{Cert}
-use Rattle.cert_types.specs.declared.step.Step.{Step}
-use Rattle.cert_types.specs.declared.step.Step.TheVariants.{Plain, Jump, Ray}
-use Rattle.cert_types.specs.declared.upper.Upper.{Upper}
+use Rattle.cert_written.specs.Shaped.{are_whole, has_item, has_some}
+use Rattle.cert_written.specs.declared.trace.Trace.{Trace}
+use Rattle.cert_written.specs.declared.cert.Cert.{Cert}
+use Rattle.cert_written.specs.declared.entries.Entries.{Entries}
+use Rattle.cert_written.specs.declared.step.Step.{Step}
+use Rattle.cert_written.specs.declared.step.Step.TheVariants.{Plain, Jump, Ray}
+use Rattle.cert_written.specs.declared.upper.Upper.{Upper}
 use Rattle.cert_text.specs.declared.fault.Field.{Field}
 use Rattle.cert_text.specs.declared.fault.Field.TheVariants.{Rows, Bounds, Steps}
 use Rattle.cert_text.specs.declared.fault.FormFault.{FormFault}
 use Rattle.cert_text.specs.declared.fault.FormFault.TheVariants.{Expanded, Shape}
 use Rattle.cert_text.specs.declared.setting.Setting.{Setting}
 use Rattle.cert_text.specs.Lists.{all_items, is_list, items_in, items_pass, list_in}
-use Rattle.cert_text.specs.Numbers.{ext_in, is_text, whole_in}
+use Rattle.cert_text.specs.Numbers.{ext_in, is_text}
 use Rattle.cert_text.specs.Keys.{count_items, index_in, is_index, is_kind, is_unknown, item_count, member_count, numbered, passes}
 use Rattle.cert_text.specs.Keys.{passes_at, unknown_from}
-use Rattle.cert_text.specs.Traces.{are_texts, is_trace_by}
+use Rattle.cert_text.specs.Pairs.{are_entries}
+use Rattle.cert_text.specs.Traces.{is_trace_by}
 use Rattle.cert_text.specs.Naming.{named_traces, values_of}
 use Rattle.cert_text.specs.StepItems.{has_start, is_jump_item, is_plain_item, is_ray_item, jump_item_in, plain_item_in, ray_item_in}
 use Rattle.cert_text.specs.StepForms.{has_items, is_filled, is_step, items_at, step_in}
 use Rattle.cert_text.specs.BoundLines.{is_line, joined, line_in}
-use Rattle.cert_text.specs.Certificates.{IsWritable, and_then, bounds_in, cert_in, format_in, is_over, list_from, or_number, rest_in}
+use Rattle.cert_text.specs.Certificates.{IsWritable, and_then, bounds_in, cert_in, fields_in, format_in, is_over, is_sparse_form, list_from}
+use Rattle.cert_text.specs.Certificates.{or_number, rest_in, row_in, step_setting}
 use Rattle.cert_text.specs.Certificates.{rows_in, steps_in, top_in, traces_in, uppers_in}
 use Rattle.cert_text.proofs.bounds.LinesOf.{length_map}
-use Rattle.cert_text.proofs.rows.RowNumbers.{row_small}
+use Rattle.cert_text.proofs.rows.RowNumbers.{row_read}
 
 and_both : (a b : Bool) → (a && b) ≡ true → (a ≡ true) × (b ≡ true)
 and_both true b e = (refl, e)
@@ -213,12 +215,12 @@ no_unknown d = by (item_count d == 2)
 -- however traces are found
 module _ (traces : Option (List Trace)) where
   abbrev none : Setting
-  none = record { rows = 0; traces = traces }
+  none = step_setting 0 traces
 
   no_start : (d : Data) → has_start none d ≡ true → ⊥
   no_start d e =
       let a = passes_at is_index (codes "edge") d in
-      let b = passes_at (is_trace_by traces) (codes "low") d in
+      let b = passes_at (is_trace_by (is_some traces) traces) (codes "low") d in
       let c = passes_at (is_unknown 0) (codes "unknown") d in
       let k = passes_from (is_unknown 0) (get (codes "unknown") d) (and_both (a && b) c e).1 in
       false_not_true (sym (no_unknown k.0) ∙ k.2)
@@ -237,13 +239,13 @@ module _ (traces : Option (List Trace)) where
   no_jump : (d : Data) → is_jump_item none d ≡ true → ⊥
   no_jump d e =
       let start = member_count d == 5 && has_start none d in
-      let high = passes_at (is_trace_by traces) (codes "high") d in
+      let high = passes_at (is_trace_by (is_some traces) traces) (codes "high") d in
       start_of (member_count d == 5) d (and_both start high (and_both (start && high) (passes_at is_text (codes "to") d) e).0).0
 
   no_ray : (d : Data) → is_ray_item none d ≡ true → ⊥
   no_ray d e =
       let start = member_count d == 5 && has_start none d in
-      let direction = passes_at (is_trace_by traces) (codes "direction") d in
+      let direction = passes_at (is_trace_by (is_some traces) traces) (codes "direction") d in
       start_of (member_count d == 5) d (and_both start direction (and_both (start && direction) (passes_at is_text (codes "rate") d) e).0).0
 
 first_passes : (test : Data → Bool) (o : Option Items) → items_pass test o ≡ true → 0 < count_items o → (d : Data) × (test d ≡ true)
@@ -258,8 +260,8 @@ no_items_without kind test d none e =
     let x = first_passes test (as_array k.0) f.1 (ltb-true 0 (item_count k.0) f.0) in
     none x.0 x.1
 
-no_step : (traces : Option (List Trace)) (d : Data) (step : Step) → is_step (record { rows = 0; traces = traces }) d ≡ true
-    → step_in (record { rows = 0; traces = traces }) d ≡ Some step → false ≡ true
+no_step : (traces : Option (List Trace)) (d : Data) (step : Step) → is_step (step_setting 0 traces) d ≡ true
+    → step_in (step_setting 0 traces) d ≡ Some step → false ≡ true
 no_step traces d step e f =
     let s = none traces in
     step_cases s d (false ≡ true) (λ p. absurd (no_items_without (codes "plain") (is_plain_item s) d (no_plain traces) p))
@@ -276,30 +278,29 @@ nothing_long : {A : Type 0} (xs : List A) → length xs ≡ 0 → xs ≡ []
 nothing_long [] e = refl
 nothing_long (x ∷ xs) e = absurd (omega (arith, e))
 
--- the setting of this number of rows
-abbrev under : ℕ → Option (List Trace) → Setting
-under n traces = record { rows = n; traces = traces }
-
-parts_writable : (traces : Option (List Trace)) (rows : List (List ℤ)) (lines : List (List Ext)) (steps : List Step) (uppers : List Upper)
-    → IsRead are_texts (list_in whole_in) rows → IsRead (is_line (length rows)) line_in lines
-    → IsRead (is_step (under (length rows) traces)) (step_in (under (length rows) traces)) steps
+parts_writable : (sparse : Bool) (traces : Option (List Trace)) (rows : List Entries) (lines : List (List Ext)) (steps : List Step)
+    (uppers : List Upper)
+    → IsRead (are_entries sparse) (row_in sparse) rows → IsRead (is_line (length rows)) line_in lines
+    → IsRead (is_step (step_setting (length rows) traces)) (step_in (step_setting (length rows) traces)) steps
     → IsWritable (record { rows = rows; bounds = map extended (joined lines); steps = steps; uppers = uppers })
-parts_writable traces [] lines steps uppers r b s =
+parts_writable sparse traces [] lines steps uppers r b s =
     let long = joined_long 0 lines (each_holds (is_line 0) line_in (λ (line : List Ext). length line == 0) (line_long 0) lines b) in
     inr record {
       rows = refl;
       bounds = nothing_long (map extended (joined lines)) (omega (arith, length_map extended (joined lines), long));
-      steps = none_left steps (each_holds (is_step (under 0 traces)) (step_in (under 0 traces)) (λ _. false) (no_step traces) steps s);
+      steps = none_left steps (each_holds (is_step (step_setting 0 traces)) (step_in (step_setting 0 traces)) (λ _. false) (no_step
+          traces) steps s);
     }
-parts_writable traces (row ∷ rest) lines steps uppers r b s =
-    let rows : List (List ℤ) = row ∷ rest in
+parts_writable sparse traces (row ∷ rest) lines steps uppers r b s =
+    let rows : List Entries = row ∷ rest in
     let n = length rows in
     let long = joined_long n lines (each_holds (is_line n) line_in (λ (line : List Ext). length line == n) (line_long n) lines b) in
     inl record {
       row = omega arith;
-      numbers = each_holds are_texts (list_in whole_in) are_numbers (λ d x _ e. row_small d x e) rows r;
+      numbers = each_holds (are_entries sparse) (row_in sparse) are_whole (λ d x _ e. row_read sparse d x e) rows r;
       points = ap (λ m. m % n) (length_map extended (joined lines) ∙ long) ∙ mul-mod_left (length lines) n;
-      items = each_holds (is_step (under n traces)) (step_in (under n traces)) has_item (step_has_item (under n traces)) steps s;
+      items = each_holds (is_step (step_setting n traces)) (step_in (step_setting n traces)) has_item (step_has_item (step_setting n
+          traces)) steps s;
     }
 
 if_ok : {A : Type 0} (b : Bool) (x y : A) → (if b then Err Expanded else Ok x) ≡ Ok y → x ≡ y
@@ -307,27 +308,32 @@ if_ok true x y e = absurd cc
 if_ok false x y e = cc
 
 -- the steps that stand in the rest
-rest_steps : (s : Setting) (d : Data) (rest : List Step × List Upper) → rest_in s d ≡ Ok rest → steps_in s d ≡ Ok rest.0
-rest_steps s d rest e =
+rest_steps : (sparse : Bool) (s : Setting) (d : Data) (rest : List Step × List Upper) → rest_in sparse s d ≡ Ok rest
+    → steps_in s d ≡ Ok rest.0
+rest_steps sparse s d rest e =
     let k = then_from (steps_in s d) _ rest e in
-    let u = then_from (uppers_in d) _ rest k.2 in
+    let u = then_from (uppers_in sparse d) _ rest k.2 in
     let is = if_ok (is_over s.traces (values_of (named_traces k.0))) (k.0, u.0) rest u.2 in
     k.1 ∙ ap (λ (r : List Step × List Upper). let o : Result (List Step) FormFault = Ok r.0 in o) is
+
+fields_writable : (sparse : Bool) (d : Data) (c : Cert) → fields_in sparse d ≡ Ok c → IsWritable c
+fields_writable sparse d c e =
+    let r = then_from (rows_in sparse d) _ c e in
+    let b = then_from (bounds_in (length r.0) d) _ c r.2 in
+    let l = then_from (traces_in sparse d) _ c b.2 in
+    let s = then_from (rest_in sparse (step_setting (length r.0) l.0) d) _ c l.2 in
+    let made : (record { rows = r.0; bounds = map extended (joined b.0); steps = s.0.0; uppers = s.0.1 }) ≡ c = cc in
+    subst IsWritable made (parts_writable sparse l.0 r.0 b.0 s.0.0 s.0.1 (field_from Rows (are_entries sparse) (row_in sparse)
+    (get (codes "rows") d) r.0 r.1)
+    (field_from Bounds (is_line (length r.0)) line_in (get (codes "bounds") d) b.0 b.1)
+    (field_from Steps (is_step (step_setting (length r.0) l.0)) (step_in (step_setting (length r.0) l.0)) (get (codes "steps") d) s.0.0
+    (rest_steps sparse (step_setting (length r.0) l.0) d s.0 s.1)))
 
 read_writable : (d : Data) (c : Cert) → cert_in d ≡ Ok c → IsWritable c
 read_writable d c e =
     let t = then_from (top_in d) _ c e in
     let f = then_from (format_in d) _ c t.2 in
-    let r = then_from (rows_in d) _ c f.2 in
-    let b = then_from (bounds_in (length r.0) d) _ c r.2 in
-    let l = then_from (traces_in d) _ c b.2 in
-    let s = then_from (rest_in (under (length r.0) l.0) d) _ c l.2 in
-    let made : (record { rows = r.0; bounds = map extended (joined b.0); steps = s.0.0; uppers = s.0.1 }) ≡ c = cc in
-    subst IsWritable made (parts_writable l.0 r.0 b.0 s.0.0 s.0.1 (field_from Rows are_texts (list_in whole_in) (get (codes "rows") d) r.0
-    r.1)
-    (field_from Bounds (is_line (length r.0)) line_in (get (codes "bounds") d) b.0 b.1)
-    (field_from Steps (is_step (under (length r.0) l.0)) (step_in (under (length r.0) l.0)) (get (codes "steps") d) s.0.0
-    (rest_steps (under (length r.0) l.0) d s.0 s.1)))
+    fields_writable (is_sparse_form d) d c f.2
 
 -- a certificate that was read can be written
 pub answer_writable : (d : Data) (r : Result Cert FormFault) (Q : FormFault → Type 0) → MatchResult r (λ c. cert_in d ≡ Ok c) Q

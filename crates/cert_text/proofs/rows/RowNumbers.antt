@@ -1,15 +1,22 @@
--- The numbers of a row that is read are within 2^63 - 1.
-use Rattle.std.proofs.Common.{◌≡◌, ◌==◌, ℕ, ◌&&◌, Bool, true, false, List, [], ◌∷◌, Option, None, Some, ℤ, nat_abs, refl, subst, arith}
-use Rattle.std.specs.Prelude.{option_map, option_and_then, if◌then◌else◌}
+-- Rows that are read: whole numbers, within 2^63 - 1.
+use Rattle.std.proofs.Common.{◌≡◌, ◌∙◌, ◌==◌, ◌&&◌, ℕ, suc, Bool, true, false, List, [], ◌∷◌, Option, None, Some, ℤ, nat_abs}
+use Rattle.std.proofs.Common.{refl, ap, ap₂, subst, arith}
+use Rattle.std.specs.List.{list_all}
+use Rattle.std.specs.Prelude.{option_and_then, if◌then◌else◌}
 use Rattle.std.proofs.lemmas.Bool.{le-leb}
 use Rattle.std.proofs.lemmas.Int.{ints}
-use Rattle.serde_json.specs.Data.{Data, Items, item, no_items}
-use Rattle.serde_json.specs.Find.{as_array, as_str}
+use Rattle.serde_json.specs.Data.{Data}
 use Rattle.base_numbers.specs.Rational.{ℚ}
 use Rattle.base_fractions.specs.Fits.{Fits, long_limit}
-use Rattle.lang_tree.specs.Numbers.{are_numbers, is_number}
-use Rattle.cert_text.specs.Lists.{items_in, list_in}
-use Rattle.cert_text.specs.Numbers.{frac_of, if_whole, whole_in, whole_of}
+use Rattle.lang_tree.specs.Numbers.{is_number}
+use Rattle.cert_written.specs.declared.entries.Entries.{Entries}
+use Rattle.cert_written.specs.declared.entries.Entries.TheVariants.{Dense, Sparse}
+use Rattle.cert_written.specs.Bare.{bare_entries}
+use Rattle.cert_written.specs.Pairs.{is_nil, nonzero}
+use Rattle.cert_written.specs.Shaped.{are_whole, is_whole, is_whole_pair}
+use Rattle.cert_text.specs.Certificates.{if_row, row_in}
+use Rattle.cert_text.specs.Numbers.{frac_of, if_whole}
+use Rattle.cert_text.specs.Pairs.{entries_in}
 use Rattle.cert_text.proofs.numbers.FracTexts.{frac_text_of}
 
 num_small : (q : ℚ) → Fits long_limit q → is_number q.num ≡ true
@@ -24,31 +31,37 @@ pub whole_small : (text : List ℕ) (o : Option ℚ) (z : ℤ) → frac_of text 
 whole_small text None z f e = absurd cc
 whole_small text (Some q) z f e = subst (λ y. is_number y ≡ true) (if_num q (q.den == 1) z e) (num_small q (frac_text_of text q f).1)
 
-read_small : (o : Option (List ℕ)) (z : ℤ) → option_and_then whole_of o ≡ Some z → is_number z ≡ true
-read_small None z e = absurd cc
-read_small (Some text) z e = whole_small text (frac_of text) z refl e
-
-both_small : (o : Option ℤ) (rest : Option (List ℤ)) (zs : List ℤ) → ((z : ℤ) → o ≡ Some z → is_number z ≡ true)
-    → ((ys : List ℤ) → rest ≡ Some ys → are_numbers ys ≡ true)
-    → option_and_then (λ x. option_map (λ xs. x ∷ xs) rest) o ≡ Some zs → are_numbers zs ≡ true
-both_small None rest zs f g e = absurd cc
-both_small (Some z) None zs f g e = absurd cc
-both_small (Some z) (Some ys) zs f g e = subst (λ (xs : List ℤ). are_numbers xs ≡ true) (let k : z ∷ ys ≡ zs = cc in k)
-    (head (is_number z) (f z refl))
+row_from : (e r : Entries) → if_row e ≡ Some r → are_whole r ≡ true
+row_from e r h = by (are_whole e) refl h
   where
-    head : (b : Bool) → b ≡ true → (b && are_numbers ys) ≡ true
-    head true h = g ys refl
-    head false h = h
+    by : (b : Bool) → are_whole e ≡ b → (if b then Some e else None) ≡ Some r → are_whole r ≡ true
+    by true w k = subst (λ (x : Entries). are_whole x ≡ true) (let i : e ≡ r = cc in i) w
+    by false w k = absurd cc
 
-items_small : (ds : Items) (zs : List ℤ) → items_in whole_in ds ≡ Some zs → are_numbers zs ≡ true
-items_small no_items zs e = subst (λ (xs : List ℤ). are_numbers xs ≡ true) (let k : [] ≡ zs = cc in k) refl
-items_small (item d ds) zs e = both_small (whole_in d) (items_in whole_in ds) zs (λ z f. read_small (as_str d) z f)
-    (λ ys f. items_small ds ys f) e
+row_of : (o : Option Entries) (r : Entries) → option_and_then if_row o ≡ Some r → are_whole r ≡ true
+row_of None r h = absurd cc
+row_of (Some e) r h = row_from e r h
 
-some_items : (o : Option Items) (zs : List ℤ) → option_and_then (items_in whole_in) o ≡ Some zs → are_numbers zs ≡ true
-some_items None zs e = absurd cc
-some_items (Some ds) zs e = items_small ds zs e
+-- a row that is read has whole numbers alone
+pub row_read : (sparse : Bool) (d : Data) (r : Entries) → row_in sparse d ≡ Some r → are_whole r ≡ true
+row_read sparse d r h = row_of (entries_in sparse d) r h
 
--- a row that is read has numbers alone
-pub row_small : (d : Data) (zs : List ℤ) → list_in whole_in d ≡ Some zs → are_numbers zs ≡ true
-row_small d zs e = some_items (as_array d) zs e
+nonzero_whole : (place : ℕ) (qs : List ℚ) → list_all is_whole qs ≡ true → list_all is_whole_pair (nonzero place qs) ≡ true
+nonzero_whole place [] h = refl
+nonzero_whole place (q ∷ qs) h = by (is_whole q) (is_nil q) refl h (λ k. nonzero_whole (suc place) qs k)
+  where
+    by : (w n : Bool) → is_whole q ≡ w → (w && list_all is_whole qs) ≡ true
+        → (list_all is_whole qs ≡ true → list_all is_whole_pair (nonzero (suc place) qs) ≡ true)
+        → list_all is_whole_pair (if n then nonzero (suc place) qs else record { place = place; value = q } ∷ nonzero (suc place) qs) ≡ true
+    by false n w e k = absurd cc
+    by true true w e k = k e
+    by true false w e k = ap₂ (λ a b. a && b) w (k e)
+
+bare_whole : (e : Entries) → are_whole e ≡ true → are_whole (bare_entries e) ≡ true
+bare_whole (Dense qs) h = nonzero_whole 0 qs h
+bare_whole (Sparse ps) h = h
+
+-- a row of whole numbers is one without zeros
+pub row_bare : (e : Entries) (o : Option Entries) → are_whole e ≡ true → o ≡ Some (bare_entries e)
+    → option_and_then if_row o ≡ Some (bare_entries e)
+row_bare e o h f = ap (option_and_then if_row) f ∙ ap (λ b. if b then Some (bare_entries e) else None) (bare_whole e h)

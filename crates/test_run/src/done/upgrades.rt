@@ -2,7 +2,7 @@
 
 use crate::cases::{Case, Ending, ends, first_wrong, run_line, run_over};
 use crate::refused::certificates::{
-    JUMP_FROM_ITS_BOUND, JUMP_PROGRAM, LISTED_RAY, LOOP, LOOP_PROGRAM, LOOP_REPORT, RAY,
+    BARE_RAY, JUMP_FROM_ITS_BOUND, JUMP_PROGRAM, LISTED_RAY, LOOP, LOOP_PROGRAM, LOOP_REPORT, RAY,
     RAY_PROGRAM, RAY_REPORT, changed,
 };
 use std::alloc::{AllocError, Global};
@@ -39,6 +39,7 @@ impl Case for (&str, &str, Ending<'_>) {
 const UPGRADED: &[(&str, &str, Ending)] = &[
     (RAY_PROGRAM, RAY, Ending::Report(RAY_REPORT)),
     (RAY_PROGRAM, LISTED_RAY, Ending::Report(RAY_REPORT)),
+    (RAY_PROGRAM, BARE_RAY, Ending::Report(RAY_REPORT)),
     (LOOP_PROGRAM, LOOP, Ending::Report(LOOP_REPORT)),
     (
         JUMP_PROGRAM,
@@ -57,12 +58,12 @@ fn upgraded_certificates_are_checked_alike(rt: HostRuntime) {
     assert_eq!(rt; first_wrong(rt.alloc(), UPGRADED), None);
 }
 
-// What is put in whose place in the certificate with a ray, where the upgrade is that certificate in format 2.
+// What is put in whose place in the certificate with a ray, where the upgrade is that certificate in format 3.
 impl Case for (&str, &str) {
     fn is_right(&self, alloc: Global) -> bool {
         match changed(alloc, RAY, self.0, self.1) {
             Ok(bytes) => {
-                let written = Ending::Report(LISTED_RAY.as_bytes());
+                let written = Ending::Report(BARE_RAY.as_bytes());
                 ends(alloc, "upgrade f", b"", &bytes, written)
             }
             Err(_) => false,
@@ -72,6 +73,7 @@ impl Case for (&str, &str) {
 
 const WRITTEN: &[(&str, &str)] = &[
     ("~", "~"),
+    (r#""free":["7"],"start":["0"]"#, r#""free":["7","0"],"start":[]"#),
     ("\"format\":1,", "\n \"format\" : 1 ,\t"),
     ("{\"bounds\"", "{\"format\":1,\"bounds\""),
 ];
@@ -97,7 +99,7 @@ impl Case for (&str, &str, u8, &[u8]) {
 const REFUSED: &[(&str, &str, u8, &[u8])] = &[
     (
         "\"format\":1",
-        "\"format\":3",
+        "\"format\":4",
         1,
         b"certificate refused: format\n",
     ),

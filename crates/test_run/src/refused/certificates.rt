@@ -19,6 +19,10 @@ pub(crate) const RAY: &str =
 pub(crate) const LISTED_RAY: &str =
     r#"{"bounds":[["+inf","+inf"],["7","+inf"]],"format":2,"rows":[["1"],["-1"]],"steps":[{"items":[{"edge":0,"low":0,"to":"7","unknown":[1,0]}],"kind":"plain"},{"items":[{"direction":2,"edge":0,"low":1,"rate":"1","unknown":[1,1]}],"kind":"ray"}],"traces":[{"free":["7"],"start":["0"]},{"free":["0"],"start":["0"]},{"free":["-1"],"start":["0"]}],"uppers":[{"guards":["1"],"kind":"bound","rows":["0","0"]}]}"#;
 
+// The same in format 3.
+pub(crate) const BARE_RAY: &str =
+    r#"{"bounds":[["+inf","+inf"],["7","+inf"]],"format":3,"rows":[[[0,"1"]],[[0,"-1"]]],"steps":[{"items":[{"edge":0,"low":0,"to":"7","unknown":[1,0]}],"kind":"plain"},{"items":[{"direction":2,"edge":0,"low":1,"rate":"1","unknown":[1,1]}],"kind":"ray"}],"traces":[{"free":[[0,"7"]],"start":[]},{"free":[],"start":[]},{"free":[[0,"-1"]],"start":[]}],"uppers":[{"guards":[[0,"1"]],"kind":"bound","rows":[]}]}"#;
+
 pub(crate) const RAY_REPORT: &[u8] = b"variables x
 point 0: entry
   x <= +inf
@@ -115,6 +119,7 @@ impl Case for (&str, &str, &[u8]) {
 const VALID: &[(&str, &str, &[u8])] = &[
     (RAY_PROGRAM, RAY, RAY_REPORT),
     (RAY_PROGRAM, LISTED_RAY, RAY_REPORT),
+    (RAY_PROGRAM, BARE_RAY, RAY_REPORT),
     (LINE_PROGRAM, LINE, LINE_REPORT),
     (LOOP_PROGRAM, LOOP, LOOP_REPORT),
 ];
@@ -170,7 +175,14 @@ const CHANGED: &[(&str, &str, &str, &str, &str)] = &[
         "\"format\":1",
         "field format",
     ),
-    (RAY_PROGRAM, RAY, "\"format\":1", "\"format\":3", "format"),
+    (RAY_PROGRAM, RAY, "\"format\":1", "\"format\":4", "format"),
+    (
+        RAY_PROGRAM,
+        RAY,
+        "\"format\":1",
+        "\"format\":3",
+        "field format",
+    ),
     (
         RAY_PROGRAM,
         RAY,

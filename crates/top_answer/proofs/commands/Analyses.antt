@@ -5,9 +5,9 @@ use Rattle.std.specs.declared.alloc.Global.{Global}
 use Rattle.clap.specs.Words.{Row}
 use Rattle.flow_systems.specs.View.{vector_of}
 use Rattle.flow_systems.specs.declared.system.System.{System}
-use Rattle.cert_types.specs.declared.cert.Cert.{Cert}
-use Rattle.cert_text.specs.Certificates.{IsBeyond, IsWithin}
-use Rattle.cert_text.specs.Naming.{named_traces, values_of}
+use Rattle.cert_written.specs.declared.cert.Cert.{Cert as WrittenCert}
+use Rattle.cert_fitted.specs.Dense.{dense_cert}
+use Rattle.cert_text.specs.Certificates.{IsBeyond, IsWithin, written_values}
 use Rattle.cert_text.specs.declared.limits.TheConstants.{MOST_VALUES}
 use Rattle.solve_rounds.specs.Solutions.{cert_with}
 use Rattle.ask_files.specs.Files.{Request, analysis_with}
@@ -50,8 +50,8 @@ use Rattle.top_answer.proofs.requests.Numbers.{analysis_bounds, and_then_some, m
 -- ---- what is written
 
 -- traces that don't hold too many values hold few enough
-few : (cert : Cert) → (IsBeyond cert → ⊥) → IsWithin cert
-few cert n = ⊎_elim (λ h. h) (λ h. absurd (n h)) (le_or_lt (values_of (named_traces cert.steps)) MOST_VALUES)
+few : (cert : WrittenCert) → (IsBeyond cert → ⊥) → IsWithin cert
+few cert n = ⊎_elim (λ h. h) (λ h. absurd (n h)) (le_or_lt (written_values cert) MOST_VALUES)
   where
     le_or_lt : (m k : ℕ) → (m ≤ k) ⊎ (k < m)
     le_or_lt m k = grind arith
@@ -71,7 +71,8 @@ certificate program rows policy limit bytes c = record {
     rows_are = c.system_for.template_is;
     vector_is = bounds_are (system_with c.names c.body (cert_with c.system c.solved)) c.solved.bounds
         ∙ ap (λ t. vector_of (length t) c.solved.bounds) c.system_for.template_is;
-    valid = c.accepted (few (cert_with c.system c.solved) (λ many. kept (c.names, c.body, c.ready.system.analysed, c.expands many)));
+    valid = c.accepted (few (dense_cert (cert_with c.system c.solved))
+        (λ many. kept (c.names, c.body, c.ready.system.analysed, c.expands many)));
     narrow = c.narrow;
   };
   least = c.least;

@@ -17,7 +17,8 @@ use Rattle.cert_text.proofs.form_laws.Laws.{one_reading}
 use Rattle.ask_words.specs.declared.format.Format.{Format}
 use Rattle.ask_words.specs.declared.request.Domain.{Domain}
 use Rattle.ask_words.specs.declared.request.Policy.{Policy}
-use Rattle.top_texts.specs.Checks.{system_with}
+use Rattle.cert_written.specs.declared.cert.Cert.{Cert as WrittenCert}
+use Rattle.top_texts.specs.Checks.{fitted_to, system_with}
 use Rattle.top_texts.specs.Exact.{exact}
 use Rattle.top_written.specs.Formats.{report_in}
 use Rattle.top_texts.specs.LeastReports.{IsLeastReport, IsReportOf}
@@ -153,5 +154,9 @@ checked_once program certificate format one other a b =
     let q = b.accepted.valid.system.spelt in
     is_bounds_report program certificate format one a
     ∙ ap₂ (bounds_report format) (program_once program (a.names, a.body) (b.names, b.body) p.analysed.has_core q.analysed.has_core)
-    (one_reading certificate a.accepted.cert b.accepted.cert p.spells q.spells)
+    (p.spells.fitted
+    ∙ ap₂ (λ (d : List (List ℕ) × Statements) (w : WrittenCert). fitted_to d.0 d.1 w)
+    (program_once program (a.names, a.body) (b.names, b.body) p.analysed.has_core q.analysed.has_core)
+    (one_reading certificate p.spells.written q.spells.written p.spells.spells q.spells.spells)
+    ∙ sym q.spells.fitted)
     ∙ sym (is_bounds_report program certificate format other b)

@@ -19,6 +19,10 @@ use Rattle.cert_types.specs.declared.cert.Cert.{Cert}
 use Rattle.cert_types.specs.declared.step.Step.{Step}
 use Rattle.cert_types.specs.declared.step.Step.TheVariants.{Plain, Jump, Ray}
 use Rattle.cert_text.specs.Certificates.{IsBeyond, IsWithin, IsWritable, SpellsCert, SpellsTooMany, cert_data}
+use Rattle.cert_written.specs.Bare.{bare_cert}
+use Rattle.cert_written.specs.declared.cert.Cert.{Cert as WrittenCert}
+use Rattle.cert_fitted.specs.Dense.{dense_cert}
+use Rattle.cert_fitted.proofs.law.Shaped.{dense_shaped}
 use Rattle.cert_checker.specs.Items.{is_short}
 use Rattle.cert_checker.proofs.events.CheckTests.{stops_are_faults}
 use Rattle.solve_rounds.specs.declared.solution.Solved.{Solved}
@@ -77,8 +81,8 @@ module _ (system : System) (solved : Solved) (cert : Cert) (same : cert ≡ cert
       (short_steps (length system.flow.points * length system.template) solved.steps (unknowns_within system) h.short)
 
   -- the certificate can be written
-  pub made_writable : IsShaped (cert_with system solved) → IsWritable cert
-  made_writable h = subst IsWritable (sym same) (inl h)
+  pub made_writable : (written : WrittenCert) → written ≡ dense_cert cert → IsShaped (cert_with system solved) → IsWritable written
+  made_writable written is h = subst IsWritable (sym (is ∙ ap dense_cert same)) (inl (dense_shaped (cert_with system solved) h))
 
   -- ---- only a wide operation stops the check
 
@@ -116,16 +120,17 @@ module _ (system : System) (solved : Solved) (cert : Cert) (same : cert ≡ cert
     made_halts r h = halts r (subst (λ (c : Cert). IsUnaccepted (equations_of system) (theirs c) r) same h)
 
     -- a certificate of the rounds is spelled by its bytes, or has too many
-    pub made_certified : (bytes : List ℕ) → IsTrue (is_template system.template) → bytes ≡ compact_text (cert_data cert)
-        → (IsWithin cert → SpellsCert bytes cert) → (IsBeyond cert → SpellsTooMany bytes) → NoneIsWide (equations_of system) (theirs cert)
+    pub made_certified : (dense : WrittenCert) → dense ≡ dense_cert cert → (bytes : List ℕ) → IsTrue (is_template system.template)
+        → bytes ≡ compact_text (cert_data dense) → (IsWithin dense → SpellsCert bytes (bare_cert dense))
+        → (IsBeyond dense → SpellsTooMany bytes) → NoneIsWide (equations_of system) (theirs cert)
         → Least (equations_of system) (vector_of (length system.template) solved.bounds) → IsRoundsCertificate system policy limit bytes
-    made_certified bytes template written spells expands narrow least = record {
+    made_certified dense is bytes template written spells expands narrow least = record {
       solved = solved;
       is_solved = is;
       template = template;
-      written = written ∙ ap (λ (c : Cert). compact_text (cert_data c)) same;
-      spells = subst (λ (c : Cert). IsWithin c → SpellsCert bytes c) same spells;
-      expands = subst (λ (c : Cert). IsBeyond c → SpellsTooMany bytes) same expands;
+      written = written ∙ ap (λ (c : WrittenCert). compact_text (cert_data c)) (is ∙ ap dense_cert same);
+      spells = subst (λ (c : WrittenCert). IsWithin c → SpellsCert bytes (bare_cert c)) (is ∙ ap dense_cert same) spells;
+      expands = subst (λ (c : WrittenCert). IsBeyond c → SpellsTooMany bytes) (is ∙ ap dense_cert same) expands;
       valid = valid;
       narrow = subst (λ (c : Cert). NoneIsWide (equations_of system) (theirs c)) same narrow;
       least = least;

@@ -13,6 +13,8 @@ use Rattle.flow_systems.specs.SystemLimits.{is_over}
 use Rattle.flow_systems.specs.View.{equations_of, vector_of}
 use Rattle.flow_systems.proofs.Sizes.{both}
 use Rattle.theory_validity.specs.Certificates.{ValidCertificate}
+use Rattle.cert_written.specs.Bare.{bare_cert}
+use Rattle.cert_fitted.specs.Dense.{dense_cert}
 use Rattle.solve_rounds.specs.Solutions.{cert_with, made_certificate}
 use Rattle.ask_words.specs.declared.format.Format.{Format}
 use Rattle.ask_words.specs.declared.request.Domain.{Domain}
@@ -34,6 +36,7 @@ use Rattle.top_texts.specs.declared.refusal.Refusal.{Refusal}
 use Rattle.top_texts.specs.declared.refusal.Refusal.TheVariants as refusal
 use Rattle.top_status.specs.declared.status.Status.{Status}
 use Rattle.top_status.specs.declared.status.Status.TheVariants.{Done, Open, Certificate, Usage, Read, Text, Exceeded, Spent, Memory, Write}
+use Rattle.top_texts.proofs.checks.Fitting.{valid_fitted}
 use Rattle.top_texts.proofs.rounds.OneChain.{solved_ends}
 use Rattle.top_texts.proofs.by_c.InSource.{bounds_in_source}
 use Rattle.top_texts.proofs.texts.Once.{equations_are, rows_over}
@@ -215,7 +218,16 @@ certificate_put program rows system policy limit bytes is r =
       valid = subst (λ q. ValidCertificate q (made_certificate system r.solved)) same r.valid;
       accepted = λ few. record {
         system = record {
-          spelt = record { analysed = is.ready.system.analysed; spells = r.spells few };
+          spelt = record {
+            analysed = is.ready.system.analysed;
+            spells = record {
+              written = bare_cert (dense_cert (cert_with system r.solved));
+              spells = r.spells few;
+              fitted = valid_fitted is.names is.body (cert_with system r.solved) (subst
+                  (λ (names : List (List ℕ)). IsTrue (is_over (length names) system.template)) is.system_for.names_are over)
+                  (subst (λ q. ValidCertificate q (made_certificate system r.solved)) same r.valid);
+            };
+          };
           rows = sound (length is.names) system.template r.template (subst
               (λ (names : List (List ℕ)). IsTrue (is_over (length names) system.template)) is.system_for.names_are over);
           within = subst (λ t. unknowns is.body t ≤ MOST_UNKNOWNS) (sym is.system_for.template_is) is.ready.within;

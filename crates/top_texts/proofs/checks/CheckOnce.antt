@@ -22,7 +22,8 @@ use Rattle.cert_checker.specs.Events.{fault_answer, first_stop}
 use Rattle.cert_checker.specs.declared.fault.CheckFault.{CheckFault}
 use Rattle.cert_checker.specs.declared.fault.CheckFault.TheVariants as check
 use Rattle.cert_checker.proofs.events.CheckTests.{unstopped_is_valid}
-use Rattle.top_texts.specs.Checks.{IsCompositionSpot, IsFormFault, system_with, theirs}
+use Rattle.cert_written.specs.declared.cert.Cert.{Cert as WrittenCert}
+use Rattle.top_texts.specs.Checks.{IsCompositionSpot, IsFormFault, SpellsFor, fitted_to, system_with, theirs}
 use Rattle.top_texts.specs.Endings.{CheckEnd, UpgradeEnd}
 use Rattle.top_texts.specs.Texts.{IsAnalysed, IsRefusedProgram, Program, unknowns}
 use Rattle.top_texts.proofs.texts.Once.{analysed_unrefused, program_refused_once}
@@ -52,13 +53,13 @@ same_data bytes d e s t = some_same d e (sym s.value ∙ t.value)
     some_same : (d e : Data) → Some d ≡ Some e → d ≡ e
     some_same d e h = cc
 
-abbrev cert_answer : Result Cert FormFault → Result Cert FormFault
+abbrev cert_answer : Result WrittenCert FormFault → Result WrittenCert FormFault
 cert_answer a = a
 
 same_fault : (f g : FormFault) → cert_answer (Err f) ≡ cert_answer (Err g) → f ≡ g
 same_fault f g e = cc
 
-no_cert : (f : FormFault) (c : Cert) → cert_answer (Err f) ≡ cert_answer (Ok c) → ⊥
+no_cert : (f : FormFault) (c : WrittenCert) → cert_answer (Err f) ≡ cert_answer (Ok c) → ⊥
 no_cert f c e = cc
 
 form_fault_once : (bytes : List ℕ) (f g : FormFault) → IsFormFault bytes f → IsFormFault bytes g → f ≡ g
@@ -68,7 +69,7 @@ form_fault_once bytes f g h k =
     (form_view bytes g k))
     (form_view bytes f h)
 
-not_spelt : (bytes : List ℕ) (f : FormFault) (c : Cert) → IsFormFault bytes f → SpellsCert bytes c → ⊥
+not_spelt : (bytes : List ℕ) (f : FormFault) (c : WrittenCert) → IsFormFault bytes f → SpellsCert bytes c → ⊥
 not_spelt bytes f c h s =
     ⊎_elim (λ a. a.1 s.data_is s.spells) (λ a. no_cert f c (sym a.2 ∙ ap cert_in (same_data bytes a.0 s.data_is a.1 s.spells) ∙ s.reads))
     (form_view bytes f h)
@@ -156,21 +157,25 @@ spot_is : (spot : Spot) (edge : ℕ) → spot.round ≡ 0 → spot.site ≡ Comp
     → spot ≡ composition_spot (edge, operation_of (λ q. q) spot.wide)
 spot_is spot edge e h = ap₂ (λ r s. record { round = r; site = s; wide = spot.wide }) e h
 
+-- the ending of a written certificate
+abbrev written_ending : List (List ℕ) → Statements → WrittenCert → Status
+written_ending names body written = last_ending names body (fitted_to names body written)
+
 -- ---- the stages before
 
 -- the bytes spell no certificate, or one, from which this ending follows
-pub data CertEnds (bytes : List ℕ) (last : Cert → Status) (s : Status) : Type 0 where
+pub data CertEnds (bytes : List ℕ) (last : WrittenCert → Status) (s : Status) : Type 0 where
   unspelt : (f : FormFault) → IsFormFault bytes f → s ≡ Certificate (Form f) → CertEnds bytes last s
-  spelt : (cert : Cert) → SpellsCert bytes cert → s ≡ last cert → CertEnds bytes last s
+  spelt : (cert : WrittenCert) → SpellsCert bytes cert → s ≡ last cert → CertEnds bytes last s
 
 -- the program is refused, or its points and edges are within the limits
 pub data CheckEnds (t : Program) (bytes : List ℕ) (s : Status) : Type 0 where
   refused : (c : TextCause) → IsRefusedProgram t c → s ≡ Text c → CheckEnds t bytes s
-  program : (names : List (List ℕ)) (body : Statements) → IsAnalysed t names body → CertEnds bytes (last_ending names body) s
+  program : (names : List (List ℕ)) (body : Statements) → IsAnalysed t names body → CertEnds bytes (written_ending names body) s
       → CheckEnds t bytes s
 
 -- the bytes of a certificate have one ending, where what follows has one
-pub cert_ends_once : (bytes : List ℕ) (last : Cert → Status) (s u : Status) → CertEnds bytes last s → CertEnds bytes last u → s ≡ u
+pub cert_ends_once : (bytes : List ℕ) (last : WrittenCert → Status) (s u : Status) → CertEnds bytes last s → CertEnds bytes last u → s ≡ u
 cert_ends_once bytes last s u (unspelt f h e) (unspelt g k i) = e ∙ ap (λ x. Certificate (Form x)) (form_fault_once bytes f g h k) ∙ sym i
 cert_ends_once bytes last s u (unspelt f h e) (spelt c k i) = absurd (not_spelt bytes f c h k)
 cert_ends_once bytes last s u (spelt c h e) (unspelt f k i) = absurd (not_spelt bytes f c k h)
@@ -182,15 +187,16 @@ check_ends_once t bytes s u (refused c h e) (refused d k i) = e ∙ ap (λ x. Te
 check_ends_once t bytes s u (refused c h e) (program names body a i) = absurd (analysed_unrefused t names body c h a)
 check_ends_once t bytes s u (program names body a e) (refused c k i) = absurd (analysed_unrefused t names body c k a)
 check_ends_once t bytes s u (program names body a e) (program others other b i) =
-    cert_ends_once bytes (last_ending names body) s u e
-    (subst (λ (p : List (List ℕ) × Statements). CertEnds bytes (last_ending p.0 p.1) u)
+    cert_ends_once bytes (written_ending names body) s u e
+    (subst (λ (p : List (List ℕ) × Statements). CertEnds bytes (written_ending p.0 p.1) u)
     (program_once t (others, other) (names, body) b.has_core a.has_core) i)
 
 -- ---- an ending by its cause is one by stages
 
 spelt_ends : (t : Program) (bytes : List ℕ) (names : List (List ℕ)) (body : Statements) (cert : Cert) (s : Status) → IsAnalysed t names body
-    → SpellsCert bytes cert → s ≡ last_ending names body cert → CheckEnds t bytes s
-spelt_ends t bytes names body cert s a c e = program names body a (spelt cert c e)
+    → SpellsFor names body bytes cert → s ≡ last_ending names body cert → CheckEnds t bytes s
+spelt_ends t bytes names body cert s a c e =
+    program names body a (spelt c.written c.spells (e ∙ ap (last_ending names body) c.fitted))
 
 wide_spot : (names : List (List ℕ)) (body : Statements) (cert : Cert) (spot : Spot) → faults_of (length names) cert.rows ≡ []
     → unknowns body cert.rows ≤ MOST_UNKNOWNS

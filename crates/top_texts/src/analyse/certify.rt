@@ -12,6 +12,7 @@ use crate::check::accept::accept;
 use crate::refusal::Refusal;
 use ask_words::Policy;
 use base_watch::Watch;
+use cert_fitted::dense_cert;
 use cert_text::write;
 use cert_types::{Cert, Rows};
 use flow_systems::System;
@@ -72,5 +73,6 @@ pub fn certificate_of<W: Watch>(
     let solved = solve(alloc, system, policy, limit, watch)?;
     let cert = cert_of(alloc, system, solved)?;
     accept(alloc, system, &cert)?;
-    Ok(write(alloc, &cert)?)
+    let written = dense_cert(alloc, &cert)?;
+    Ok(write(alloc, &written)?)
 }

@@ -12,7 +12,8 @@ ghost use Rattle.solve_composition.specs.Operations.{wide_composition};
 ghost use Rattle.cert_checker.specs.CheckEvents.{check_events};
 ghost use Rattle.cert_checker.specs.Events.{first_stop};
 ghost use Rattle.cert_checker.specs.Items.{is_short};
-ghost use Rattle.top_texts.specs.Checks.{IsSpelt, NoneIsWide, theirs};
+ghost use Rattle.cert_fitted.specs.Fitted.{cert_for};
+ghost use Rattle.top_texts.specs.Checks.{IsSpelt, NoneIsWide, fitted_to, theirs};
 ghost use Rattle.top_texts.specs.Outcomes.{GetsNoReport, IsUnaccepted};
 ghost use Rattle.top_texts.specs.Reports.{IsReportBy};
 ghost use Rattle.top_texts.specs.Texts.{Program as ProgramText};
@@ -21,7 +22,9 @@ use super::certificate::{is_countable, system_of};
 use crate::refusal::Refusal;
 use ask_words::Format;
 use cert_checker::{CheckFault, Scratch, check};
-use cert_types::Cert;
+use cert_fitted::{fitted_cert, fitted_rows};
+use cert_types::{Cert, Rows};
+use cert_written as written;
 use flow_edges::Flow;
 use flow_systems::{Footer, System};
 use lang_tree::Program;
@@ -72,7 +75,30 @@ pub(crate) fn accept(alloc: Global, system: &System, cert: &Cert) -> Result<(), 
     }
 }
 
-/// The whole report in a format of the bounds of a certificate, where it is valid for a program.
+// The certificate for which a written one stands in a system with these rows, if it is valid.
+fn accepted(
+    alloc: Global,
+    system: &System,
+    rows: Rows,
+    cert: &written::Cert,
+) -> Result<Cert, Refusal>
+    requires { rows ≡ system.now.template }
+    ensures cert { IfOk result (λ made. made ≡ cert_for (equations_of system.now) cert.now) }
+    ensures valid { IfOk result (λ made. ValidCertificate (equations_of system.now) (theirs made)) }
+    ensures narrow { IfOk result (λ made. NoneIsWide (equations_of system.now) (theirs made)) }
+    ensures least { IfOk result (λ made. Least (equations_of system.now) (bounds_vector (equations_of system.now) made.bounds)) }
+    ensures err { IfErr result (λ refusal. IsUnaccepted (equations_of system.now) (theirs (cert_for (equations_of system.now) cert.now))
+        refusal) }
+{
+    let fitted = fitted_cert(alloc, system, rows, cert)?;
+    if !is_countable(&fitted) {
+        return Err(Refusal::NoMemory);
+    }
+    accept(alloc, system, &fitted)?;
+    Ok(fitted)
+}
+
+/// The whole report in a format of the bounds of a certificate as a text has it, where it is valid for a program.
 ///
 /// # Errors
 ///
@@ -82,21 +108,23 @@ pub fn report_by(
     alloc: Global,
     program: &Program,
     flow: Flow,
-    cert: &Cert,
+    cert: &written::Cert,
     format: Format,
 ) -> Result<Vec<u8>, Refusal>
     requires names { flow.names ≡ program.now.names }
     requires points { flow.points ≡ points_of_program program.now.body }
     requires edges { flow.edges ≡ edges_of_program program.now.body }
     ensures ok { IfOk result (λ bytes. (source : ProgramText) (given : List ℕ)
-        → IsSpelt source given program.now.names program.now.body cert.now
+        → IsSpelt source given program.now.names program.now.body (fitted_to program.now.names program.now.body cert.now)
         → IsReportBy source given format bytes.items) }
-    ensures err { IfErr result (λ refusal. GetsNoReport program.now.names program.now.body cert.now refusal) }
+    ensures err { IfErr result (λ refusal. GetsNoReport program.now.names program.now.body
+        (fitted_to program.now.names program.now.body cert.now) refusal) }
 {
-    if !is_countable(cert) {
+    let rows = fitted_rows(alloc, program.names.as_slice().len(), cert.rows.as_slice())?;
+    if rows.as_slice().len() > 4294967295 {
         return Err(Refusal::NoMemory);
     }
-    let system = system_of(alloc, program, flow, cert)?;
-    accept(alloc, &system, cert)?;
-    Ok(written_report(alloc, &system, &cert.bounds, Footer::Accepted, format)?)
+    let system = system_of(alloc, program, flow, &rows)?;
+    let fitted = accepted(alloc, &system, rows, cert)?;
+    Ok(written_report(alloc, &system, &fitted.bounds, Footer::Accepted, format)?)
 }

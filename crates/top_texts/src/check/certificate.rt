@@ -14,14 +14,15 @@ ghost use Rattle.flow_templates.specs.declared.fault.RowFault.TheVariants.{NoMem
 ghost use Rattle.flow_systems.specs.SystemLimits.{is_over};
 ghost use Rattle.cert_types.specs.declared.cert.Cert.{Cert as CertValue};
 ghost use Rattle.cert_checker.specs.Items.{is_short, item_count};
-ghost use Rattle.top_texts.specs.Checks.{IsSpelt};
+ghost use Rattle.top_texts.specs.Checks.{IsSpelt, fitted_to};
 ghost use Rattle.top_texts.specs.Outcomes.{FitsProgram, IsNoSystem, IsUnspelt};
 
 use crate::form::cert_of;
 use crate::program::{flow_of, program_of};
 use crate::refusal::Refusal;
 use ask_words::Source;
-use cert_types::{Cert, Step};
+use cert_types::{Cert, Rows, Step};
+use cert_written as written;
 use flow_edges::Flow;
 use flow_systems::{System, SystemFault};
 use flow_templates::{RowFault, Template, from_rows};
@@ -29,15 +30,15 @@ use lang_tree::Program;
 use std::alloc::Global;
 use top_status::CertCause;
 
-/// The core of a program with its points and edges, and a certificate.
+/// The core of a program with its points and edges, and a certificate as a text has it.
 #[derive(Drop)]
 pub struct Given {
     pub program: Program,
     pub flow: Flow,
-    pub cert: Cert,
+    pub cert: written::Cert,
 }
 
-/// The core of a program, and the certificate that the bytes spell.
+/// The core of a program, and the certificate that the bytes spell, as they have it.
 ///
 /// # Errors
 ///
@@ -45,7 +46,7 @@ pub struct Given {
 pub fn read_given(alloc: Global, source: Source<&[u8]>, bytes: &[u8]) -> Result<Given, Refusal>
     requires { length source.text.now ≤ MOST_TEXT_BYTES }
     ensures spelt { IfOk result (λ given. IsSpelt (source_text source.entry) bytes.now given.program.names given.program.body
-        given.cert) }
+        (fitted_to given.program.names given.program.body given.cert)) }
     ensures names { IfOk result (λ given. given.flow.names ≡ given.program.names) }
     ensures points { IfOk result (λ given. given.flow.points ≡ points_of_program given.program.body) }
     ensures edges { IfOk result (λ given. given.flow.edges ≡ edges_of_program given.program.body) }
@@ -80,16 +81,13 @@ fn are_short(steps: &[Step]) -> bool
     steps.iter().all(|step| is_short(step))
 }
 
-// Whether the rows, the steps and the items of each step can be numbered by 32 bits. It is so of every certificate that a
-// file within its limit spells.
+// Whether the steps and the items of each step can be numbered by 32 bits. It is so of every certificate that a file within
+// its limit spells.
 pub(crate) fn is_countable(cert: &Cert) -> bool
-    ensures rows { IsTrue result → length cert.now.rows < 2 ^ 32 }
     ensures steps { IsTrue result → length cert.now.steps < 2 ^ 32 }
     ensures items { IsTrue result → IsTrue (list_all is_short cert.now.steps) }
 {
-    cert.rows.as_slice().len() < 4294967296
-        && cert.steps.as_slice().len() < 4294967296
-        && are_short(cert.steps.as_slice())
+    cert.steps.as_slice().len() < 4294967296 && are_short(cert.steps.as_slice())
 }
 
 // The refusal of a certificate's rows that have this fault.
@@ -104,16 +102,17 @@ fn row_refusal(fault: RowFault) -> Refusal
     }
 }
 
-// The template of the certificate's rows, over the variables of a program.
-fn template_of(alloc: Global, program: &Program, cert: &Cert) -> Result<Template, Refusal>
-    requires { length cert.now.rows < 2 ^ 32 }
-    ensures rows { IfOk result (λ template. template ≡ cert.now.rows) }
-    ensures sound { IfOk result (λ _. faults_of (length program.now.names) cert.now.rows ≡ []) }
+// The template of a certificate's rows, over the variables of a program.
+fn template_of(alloc: Global, program: &Program, rows: &Rows) -> Result<Template, Refusal>
+    requires { length rows.now < 2 ^ 32 }
+    ensures rows { IfOk result (λ template. template ≡ rows.now) }
+    ensures sound { IfOk result (λ _. faults_of (length program.now.names) rows.now ≡ []) }
     ensures over { IfOk result (λ template. IsTrue (is_over (length program.now.names) template)) }
-    ensures err { IfErr result (λ refusal. IsNoSystem program.now.names program.now.body cert.now refusal) }
+    ensures err { IfErr result (λ refusal. (cert : CertValue) → cert.rows ≡ rows.now
+        → IsNoSystem program.now.names program.now.body cert refusal) }
 {
     let vars = program.names.as_slice().len() as u32;
-    match from_rows(alloc, cert.rows.as_slice(), vars) {
+    match from_rows(alloc, rows.as_slice(), vars) {
         Ok(template) => Ok(template),
         Err(fault) => Err(row_refusal(fault)),
     }
@@ -124,17 +123,19 @@ pub(crate) fn system_of(
     alloc: Global,
     program: &Program,
     flow: Flow,
-    cert: &Cert,
+    rows: &Rows,
 ) -> Result<System, Refusal>
-    requires rows { length cert.now.rows < 2 ^ 32 }
+    requires rows { length rows.now < 2 ^ 32 }
     requires names { flow.names ≡ program.now.names }
     requires points { flow.points ≡ points_of_program program.now.body }
     ensures flow { IfOk result (λ system. system.flow ≡ flow) }
-    ensures template { IfOk result (λ system. system.template ≡ cert.now.rows) }
-    ensures fits { IfOk result (λ _. FitsProgram program.now.names program.now.body cert.now) }
-    ensures err { IfErr result (λ refusal. IsNoSystem program.now.names program.now.body cert.now refusal) }
+    ensures template { IfOk result (λ system. system.template ≡ rows.now) }
+    ensures fits { IfOk result (λ _. (cert : CertValue) → cert.rows ≡ rows.now
+        → FitsProgram program.now.names program.now.body cert) }
+    ensures err { IfErr result (λ refusal. (cert : CertValue) → cert.rows ≡ rows.now
+        → IsNoSystem program.now.names program.now.body cert refusal) }
 {
-    let template = template_of(alloc, program, cert)?;
+    let template = template_of(alloc, program, rows)?;
     match System::new(flow, template) {
         Ok(system) => Ok(system),
         Err(SystemFault::Unknowns { count }) => {

@@ -1,7 +1,8 @@
-use Rattle.std.proofs.Common.{◌≡◌, ◌∙◌, Some, true, subst}
+use Rattle.std.proofs.Common.{◌≡◌, ◌∙◌, Some, true, ap, subst}
 use Rattle.std.proofs.lemmas.Result.{IfOk-weaker}
 use Rattle.cert_text.specs.Lists.{is_list, list_in}
 use Rattle.cert_text.specs.BoundLines.{is_line, line_in}
+use Rattle.cert_text.proofs.bounds.WrittenLists.{map_same}
 use Rattle.cert_text.proofs.bounds.LinesOf.{bounds_data_is, cut_even, cut_joined}
 use Rattle.cert_text.proofs.bounds.bounds_value.Goals as goal
 
@@ -29,7 +30,7 @@ returns-clause-back c =
     IfOk-weaker c.write_list.result _ _
     (λ _ h. (
       lines,
-      subst (λ d. list_in line_in d ≡ Some lines) is h,
+      subst (λ d. list_in line_in d ≡ Some lines) is (h ∙ ap Some (map_same lines)),
       cut_joined c.args.rows c.args.bounds.now c.as_slice.result.now lines
           c.as_slice.ensures cut c.requires,
     ))

@@ -1,9 +1,9 @@
 use Rattle.std.proofs.Common.{List, ap, sym, ◌∙◌}
 use Rattle.std.specs.List.{flat_map, list_all}
-use Rattle.cert_types.specs.declared.step.Item.{Item}
-use Rattle.cert_types.specs.declared.step.JumpItem.{JumpItem}
-use Rattle.cert_types.specs.declared.step.RayItem.{RayItem}
-use Rattle.cert_types.specs.declared.step.Step.{Step}
+use Rattle.cert_written.specs.declared.step.Item.{Item}
+use Rattle.cert_written.specs.declared.step.JumpItem.{JumpItem}
+use Rattle.cert_written.specs.declared.step.RayItem.{RayItem}
+use Rattle.cert_written.specs.declared.step.Step.{Step}
 use Rattle.cert_text.specs.Naming.{is_listed, jump_traces, plain_traces, ray_traces, step_traces}
 use Rattle.cert_text.proofs.naming.Listed.{each_listed}
 use Rattle.cert_text.proofs.step.step_value.Goals as goal

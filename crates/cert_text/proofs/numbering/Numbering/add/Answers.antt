@@ -1,6 +1,6 @@
 use Rattle.std.proofs.Common.{◌≡◌, ◌++◌, ◌∷◌, [], List, Result, Ok, Err, map, false, sym, ap, ◌∙◌, subst}
 use Rattle.std.specs.Prelude.{OnOk}
-use Rattle.flow_systems.specs.declared.trace.Trace.{Trace}
+use Rattle.cert_written.specs.declared.trace.Trace.{Trace}
 use Rattle.cert_text.specs.Naming.{AreSpelt, is_listed, trace_text, with_trace}
 use Rattle.cert_text.proofs.numbering.Texts.{any_listed, spelt_more, texts_more, with_listed, with_new}
 use Rattle.cert_text.proofs.numbering.Numbering.add.Goals as goal

@@ -1,5 +1,5 @@
 use Rattle.std.proofs.Common.{List, map, sym, ap, ◌∙◌, subst}
-use Rattle.flow_systems.specs.declared.trace.Trace.{Trace}
+use Rattle.cert_written.specs.declared.trace.Trace.{Trace}
 use Rattle.cert_text.specs.Naming.{AreSpelt, trace_text}
 use Rattle.cert_text.proofs.numbering.Texts.{any_listed, found_back, place_number}
 use Rattle.cert_text.proofs.numbering.Numbering.number.Goals as goal

@@ -1,4 +1,4 @@
-use Rattle.std.proofs.Common.{◌≡◌, length, rules, ap, subst₂, ◌∙◌}
+use Rattle.std.proofs.Common.{◌≡◌, length, rules, ap, subst₂, sym, ◌∙◌}
 use Rattle.std.specs.Prelude.{IsTrue, Some, slice_get}
 use Rattle.flow_templates.specs.RowFaults.{faults_of}
 use Rattle.flow_templates.specs.Rows.{is_template}
@@ -12,6 +12,6 @@ returns-in-Ok-clause-over c =
 
 pub returns-in-Err-clause-err : goal.returns-in-Err-clause-err
 returns-in-Err-clause-err c =
-    c.row_refusal.ensures c.args.program.now.names c.args.program.now.body c.args.cert.now
+    λ cert same. c.row_refusal.ensures c.args.program.now.names c.args.program.now.body cert
     (λ other. subst₂ (λ names rows. slice_get (faults_of (length names) rows) 0 ≡ Some c.in-Err.fault) c.as_slice.ensures
-    c.as_slice-2.ensures (c.in-Err.ensures.refused other))
+    (c.as_slice-2.ensures ∙ sym same) (c.in-Err.ensures.refused other))

@@ -1,0 +1,6 @@
+use Rattle.std.proofs.Common.{◌≡◌, map, take}
+use Rattle.cert_fitted.specs.Dense.{dense_jump_item}
+use Rattle.cert_fitted.proofs.dense.jump_items_of.Given as goal
+
+abbrev pub invariant-loop-item : goal.invariant-loop-item
+invariant-loop-item l = l.list.items ≡ map dense_jump_item (take l.item-index l.items)

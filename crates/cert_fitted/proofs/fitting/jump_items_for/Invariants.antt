@@ -1,0 +1,7 @@
+use Rattle.std.proofs.Common.{◌≡◌, map, take}
+use Rattle.flow_systems.specs.View.{equations_of}
+use Rattle.cert_fitted.specs.Fitted.{jump_item_for}
+use Rattle.cert_fitted.proofs.fitting.jump_items_for.Given as goal
+
+abbrev pub invariant-loop-item : goal.invariant-loop-item
+invariant-loop-item l = l.list.items ≡ map (jump_item_for (equations_of l.system)) (take l.item-index l.items)

@@ -1,0 +1,5 @@
+use Rattle.cert_fitted.proofs.law.Lists.{lists_back}
+use Rattle.cert_fitted.proofs.law.lists_come_back.Goals as goal
+
+pub returns : goal.returns
+returns c = lists_back

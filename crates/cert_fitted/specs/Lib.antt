@@ -1,0 +1,4 @@
+pub mod Needed
+pub mod Fitted
+pub mod Dense
+pub mod Laws

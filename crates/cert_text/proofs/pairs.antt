@@ -1,0 +1,2 @@
+pub mod PairTexts
+pub mod Ascending
