@@ -12,4 +12,4 @@ mod needed;
 
 pub use dense::dense_cert;
 pub use fitting::{fitted_cert, fitted_rows};
-pub use law::{lists_come_back, valid_come_back};
+pub use law::{lists_come_back, valid_come_back, valid_stay_the_same};

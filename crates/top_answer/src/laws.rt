@@ -7,6 +7,7 @@ ghost use Rattle.flow_systems.specs.Equations.{Least, Vector};
 ghost use Rattle.flow_systems.specs.Solutions.{equations_of_program};
 ghost use Rattle.flow_systems.specs.View.{equations_of};
 ghost use Rattle.theory_strategy.specs.PickCount.{pick_count};
+ghost use Rattle.cert_text.specs.declared.fault.FormFault.TheVariants.{Expanded};
 ghost use Rattle.ask_words.specs.Request.{request_of};
 ghost use Rattle.ask_words.specs.declared.format.Format.{Format};
 ghost use Rattle.ask_words.specs.declared.request.Analysis.{Analysis};
@@ -16,7 +17,7 @@ ghost use Rattle.ask_words.specs.declared.request.Purpose.TheVariants.{Certifica
 ghost use Rattle.ask_words.specs.declared.request.Request.TheVariants.{Analyse, Verify};
 ghost use Rattle.ask_files.specs.Files.{Request};
 ghost use Rattle.top_answer.specs.Answers.{Ends, IsOutput};
-ghost use Rattle.top_answer.specs.Commands.{command_of};
+ghost use Rattle.top_answer.specs.Commands.{IsChecked, command_of};
 ghost use Rattle.top_texts.specs.CheckTexts.{AreCheckVerdictsOf, IsJudged};
 ghost use Rattle.top_texts.specs.ClaimTexts.{AreVerdictsOf};
 ghost use Rattle.top_texts.specs.EquationTexts.{AreValuesOf};
@@ -56,6 +57,20 @@ pub fn output_is_one()
 pub fn upgrade_is_one()
     ensures { (bytes one other : List ℕ) → (⟦<Exact as Meaning>⟧.means).upgrades bytes one
         → (⟦<Exact as Meaning>⟧.means).upgrades bytes other → one ≡ other }
+{}
+
+/// A certificate that is accepted for a program is accepted as it is upgraded, with the same core, rows and vector of bounds, and has the
+/// same report, unless its traces then hold too many values to be read again.
+pub fn upgrades_are_accepted()
+    ensures accepted { (program : Program) (certificate written : List ℕ) (names : List (List ℕ)) (body : Statements)
+        (rows : List (List ℤ)) (vector : Vector) → (⟦<Exact as Meaning>⟧.means).upgrades certificate written
+        → ((⟦<Exact as Meaning>⟧.means).misspells written Expanded → ⊥)
+        → (⟦<Exact as Meaning>⟧.means).accepts program certificate names body rows vector
+        → (⟦<Exact as Meaning>⟧.means).accepts program written names body rows vector }
+    ensures report { (program : Program) (certificate written : List ℕ) (format : Format) (bytes : List ℕ)
+        → (⟦<Exact as Meaning>⟧.means).upgrades certificate written → ((⟦<Exact as Meaning>⟧.means).misspells written Expanded → ⊥)
+        → IsChecked ⟦<Exact as Meaning>⟧.means program certificate format bytes
+        → IsChecked ⟦<Exact as Meaning>⟧.means program written format bytes }
 {}
 
 /// A text of equations has one list of values in a format.

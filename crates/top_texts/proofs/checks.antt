@@ -1,4 +1,5 @@
 pub mod Accepted
 pub mod Refused
+pub mod Upgraded
 pub mod CheckOnce
 pub mod Fitting

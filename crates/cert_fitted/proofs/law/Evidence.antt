@@ -1,6 +1,6 @@
--- Valid evidence, written without zeros and filled up again.
+-- Valid evidence stands for the same one without zeros; so does a valid certificate.
 use Rattle.std.proofs.Common.{◌≡◌, ◌+◌, ◌-◌, ◌++◌, ℕ, suc, eqb, Bool, true, false, List, [], ◌∷◌, length, map, refl, sym, ap, ap₂, ◌∙◌}
-use Rattle.std.proofs.Common.{arith, cond, if◌then◌else◌}
+use Rattle.std.proofs.Common.{arith, cond, if◌then◌else◌, subst}
 use Rattle.std.specs.Prelude.{ℤ, flat_map}
 use Rattle.std.specs.List.{range_with_len}
 use Rattle.std.proofs.lemmas.List.{map-append}
@@ -18,16 +18,18 @@ use Rattle.cert_types.specs.Certificates.{certificate_of, evidence_of}
 use Rattle.cert_types.specs.declared.cert.Cert.{Cert}
 use Rattle.cert_types.specs.declared.step.Step.{Step}
 use Rattle.cert_types.specs.declared.upper.Upper.{Upper}
-use Rattle.cert_types.specs.declared.upper.Upper.TheVariants.{Unreached, Empty, Bound}
-use Rattle.cert_written.specs.Bare.{bare_cert, bare_entries, bare_upper}
+use Rattle.cert_types.specs.declared.upper.Upper.TheVariants as evidence
+use Rattle.cert_written.specs.Bare.{bare_entries, bare_upper}
 use Rattle.cert_written.specs.Entries.{entries_for}
-use Rattle.cert_written.specs.declared.entries.Entries.TheVariants.{Dense}
+use Rattle.cert_written.specs.declared.entries.Entries.{Entries}
+use Rattle.cert_written.specs.declared.upper.Upper.{Upper as WrittenUpper}
+use Rattle.cert_written.specs.declared.upper.Upper.TheVariants.{Unreached, Empty, Bound}
 use Rattle.cert_fitted.specs.Dense.{dense_cert, dense_upper}
-use Rattle.cert_fitted.specs.Fitted.{cert_for, upper_for, uppers_for}
-use Rattle.cert_fitted.specs.Laws.{ValidComeBack}
-use Rattle.cert_fitted.specs.Needed.{bound_of, guards_at, guards_into, guards_needed, is_top}
-use Rattle.cert_fitted.proofs.law.Lists.{list_back}
-use Rattle.cert_fitted.proofs.law.Steps.{steps_back}
+use Rattle.cert_fitted.specs.Fitted.{upper_for, uppers_for}
+use Rattle.cert_fitted.specs.Laws.{DenseComeBack, ValidComeBack, ValidStayTheSame}
+use Rattle.cert_fitted.specs.Needed.{bound_of, guards_at, guards_into, guards_needed}
+use Rattle.cert_fitted.proofs.law.Lists.{entries_same}
+use Rattle.cert_fitted.proofs.law.Steps.{steps_back, steps_same}
 
 -- ---- as many guards as composed ones
 
@@ -97,34 +99,73 @@ needed_guards system bounds =
 -- ---- evidence
 
 module _ (system : Equations) (z : Vector) where
-  multipliers_back : (edge : Edge) (rows guards : List ℚ) (make : List ℚ → List ℚ → Upper) → Multipliers system z edge rows guards
-      → make (entries_for (length system.template) (bare_entries (Dense rows))) (entries_for (guard_count edge.actions) (bare_entries
-          (Dense guards))) ≡ make rows guards
-  multipliers_back edge rows guards make m = ap₂ make (list_back (length system.template) rows m.row_count)
-      (list_back (guard_count edge.actions) guards (m.guard_count ∙ guards_same system.variables edge.actions))
+  abbrev rows_for_all : Entries → List ℚ
+  rows_for_all e = entries_for (length system.template) e
 
-  uppers_back : (ns : List Need) (us : List Upper) → AllPass system z ns (map evidence_of us)
-      → uppers_for (length system.template) (map guards_of ns) (map bare_upper (map dense_upper us)) ≡ us
-  uppers_back [] [] h = refl
-  uppers_back [] (u ∷ us) h = absurd h
-  uppers_back (n ∷ ns) [] h = refl
-  uppers_back (n ∷ ns) (Unreached row ∷ us) h = ap (λ (xs : List Upper). Unreached row ∷ xs) (uppers_back ns us h.1)
-  uppers_back (n ∷ ns) (Empty rows guards ∷ us) h = ap₂ (λ (x : Upper) xs. x ∷ xs)
-      (multipliers_back n.edge rows guards Empty h.0.multipliers) (uppers_back ns us h.1)
-  uppers_back (n ∷ ns) (Bound rows guards ∷ us) h = ap₂ (λ (x : Upper) xs. x ∷ xs)
-      (multipliers_back n.edge rows guards Bound h.0.multipliers) (uppers_back ns us h.1)
+  multipliers_same : (edge : Edge) (rows guards : Entries) (make : List ℚ → List ℚ → Upper)
+      → Multipliers system z edge (rows_for_all rows) (entries_for (guard_count edge.actions) guards)
+      → make (rows_for_all (bare_entries rows)) (entries_for (guard_count edge.actions) (bare_entries guards))
+      ≡ make (rows_for_all rows) (entries_for (guard_count edge.actions) guards)
+  multipliers_same edge rows guards make m = ap₂ make (entries_same (length system.template) rows m.row_count)
+      (entries_same (guard_count edge.actions) guards (m.guard_count ∙ guards_same system.variables edge.actions))
 
--- a valid certificate stands for itself
-pub valid_back : ValidComeBack
-valid_back system c same v =
-    let z = bounds_vector system c.bounds in
-    ap₂ (λ (s : List Step) (u : List Upper). let r : Cert = record {
-      rows = system.template;
-      bounds = c.bounds;
-      steps = s;
-      uppers = u;
-    } in r) (steps_back system (length system.template) _ c.steps v.steps)
-    (ap (λ ns. uppers_for (length system.template) ns (map bare_upper (map dense_upper c.uppers))) (sym (needed_guards system c.bounds))
-    ∙ uppers_back system z (needs system z) c.uppers v.uppers)
+  uppers_same : (ns : List Need) (us : List WrittenUpper)
+      → AllPass system z ns (map evidence_of (uppers_for (length system.template) (map guards_of ns) us))
+      → uppers_for (length system.template) (map guards_of ns) (map bare_upper us)
+      ≡ uppers_for (length system.template) (map guards_of ns) us
+  uppers_same [] [] h = refl
+  uppers_same [] (u ∷ us) h = absurd h
+  uppers_same (n ∷ ns) [] h = refl
+  uppers_same (n ∷ ns) (Unreached row ∷ us) h = ap (λ (xs : List Upper). evidence.Unreached row ∷ xs) (uppers_same ns us h.1)
+  uppers_same (n ∷ ns) (Empty rows guards ∷ us) h = ap₂ (λ (x : Upper) xs. x ∷ xs)
+      (multipliers_same n.edge rows guards evidence.Empty h.0.multipliers) (uppers_same ns us h.1)
+  uppers_same (n ∷ ns) (Bound rows guards ∷ us) h = ap₂ (λ (x : Upper) xs. x ∷ xs)
+      (multipliers_same n.edge rows guards evidence.Bound h.0.multipliers) (uppers_same ns us h.1)
+
+upper_back : (rows guards : ℕ) (u : Upper) → upper_for rows guards (dense_upper u) ≡ u
+upper_back rows guards (evidence.Unreached row) = refl
+upper_back rows guards (evidence.Empty r g) = refl
+upper_back rows guards (evidence.Bound r g) = refl
+
+-- evidence with all entries stands for itself
+uppers_back : (rows : ℕ) (counts : List ℕ) (us : List Upper) → uppers_for rows counts (map dense_upper us) ≡ us
+uppers_back rows counts [] = nothing counts
+  where
+    nothing : (counts : List ℕ) → uppers_for rows counts [] ≡ []
+    nothing [] = refl
+    nothing (count ∷ counts) = refl
+uppers_back rows [] (u ∷ us) = ap₂ (λ (x : Upper) xs. x ∷ xs) (upper_back rows 0 u) (uppers_back rows [] us)
+uppers_back rows (count ∷ counts) (u ∷ us) = ap₂ (λ (x : Upper) xs. x ∷ xs) (upper_back rows count u) (uppers_back rows counts us)
+
+-- ---- certificates
+
+abbrev made : Equations → List Ext → List Step → List Upper → Cert
+made system bounds steps uppers = record { rows = system.template; bounds = bounds; steps = steps; uppers = uppers }
+
+-- a valid certificate stands for the same one without zeros
+pub valid_same : ValidStayTheSame
+valid_same system written v =
+    let z = bounds_vector system written.bounds in
+    let counts = guards_needed system written.bounds in
+    ap₂ (λ (s : List Step) (u : List Upper). made system written.bounds s u)
+    (steps_same system (length system.template) _ written.steps v.steps)
+    (subst (λ (ns : List ℕ). uppers_for (length system.template) ns (map bare_upper written.uppers)
+        ≡ uppers_for (length system.template) ns written.uppers) (needed_guards system written.bounds)
+    (uppers_same system z (needs system z) written.uppers
+    (subst (λ (ns : List ℕ). AllPass system z (needs system z) (map evidence_of (uppers_for (length system.template) ns written.uppers)))
+    (sym (needed_guards system written.bounds)) v.uppers)))
+
+-- one with all entries stands for itself
+pub dense_back : DenseComeBack
+dense_back system c same =
+    ap₂ (λ (s : List Step) (u : List Upper). made system c.bounds s u) (steps_back system c.steps)
+    (uppers_back (length system.template) (guards_needed system c.bounds) c.uppers)
     ∙ ap (λ (rows : List (List ℤ)). let r : Cert = record { rows = rows; bounds = c.bounds; steps = c.steps; uppers = c.uppers } in r)
     (sym same)
+
+-- a valid certificate that is written without zeros stands for itself
+pub valid_back : ValidComeBack
+valid_back system c same v =
+    let back = dense_back system c same in
+    valid_same system (dense_cert c)
+    (subst (λ (x : Cert). ValidCertificate system (certificate_of (length system.template) x)) (sym back) v) ∙ back

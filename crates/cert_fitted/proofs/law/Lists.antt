@@ -1,19 +1,21 @@
 -- A list without its zeros, filled up again.
 use Rattle.std.proofs.Common.{◌≡◌, ◌==◌, ◌+◌, ◌<◌, ◌≤◌, ◌&&◌, ℕ, zero, suc, Bool, true, false, List, [], ◌∷◌, length, map, nat_abs}
-use Rattle.std.proofs.Common.{pos, negsuc, ℤ, refl, sym, ap, ap₂, ◌∙◌, arith, if◌then◌else◌}
+use Rattle.std.proofs.Common.{pos, negsuc, ℤ, refl, sym, ap, ap₂, ◌∙◌, arith, if◌then◌else◌, subst}
+use Rattle.std.specs.Prelude.{IsTrue}
 use Rattle.std.specs.List.{list_all, range_with_len}
 use Rattle.std.proofs.lemmas.Bool.{lt-ltb}
 use Rattle.base_numbers.specs.Rational.{ℚ, whole, zero_ℚ}
 use Rattle.base_numbers.proofs.rational.Parts.{num-whole}
 use Rattle.base_numbers.proofs.rational.Quotients.{zero_by_num}
+use Rattle.flow_systems.specs.SystemLimits.{is_over}
 use Rattle.cert_written.specs.Bare.{bare_entries}
 use Rattle.cert_written.specs.Entries.{entries_for}
-use Rattle.cert_written.specs.Pairs.{before, filled, is_below, is_nil, nonzero, other_length, value_at}
-use Rattle.cert_written.specs.declared.pairs.Pair.{Pair}
-use Rattle.cert_written.specs.declared.entries.Entries.TheVariants.{Dense}
+use Rattle.cert_written.specs.Pairs.{filled, is_below, is_nil, nonzero, other_length, value_at}
+use Rattle.cert_written.specs.declared.entries.Entries.{Entries}
+use Rattle.cert_written.specs.declared.entries.Entries.TheVariants.{Dense, Sparse}
 use Rattle.cert_fitted.specs.Dense.{dense_row}
 use Rattle.cert_fitted.specs.Fitted.{row_for, rows_for}
-use Rattle.cert_fitted.specs.Laws.{ListsComeBack}
+use Rattle.cert_fitted.specs.Laws.{ListsComeBack, RowsStayTheSame}
 
 abs_zero : (z : ℤ) → (nat_abs z == 0) ≡ true → z ≡ pos 0
 abs_zero (pos zero) h = refl
@@ -94,30 +96,46 @@ lists_back qs =
 pub list_back : (n : ℕ) (qs : List ℚ) → length qs ≡ n → entries_for n (bare_entries (Dense qs)) ≡ qs
 list_back n qs e = ap (λ k. entries_for k (bare_entries (Dense qs))) (sym e) ∙ lists_back qs
 
+-- a list stands for the same one without its zeros, where it has the length that is asked for
+pub entries_same : (n : ℕ) (e : Entries) → length (entries_for n e) ≡ n → entries_for n (bare_entries e) ≡ entries_for n e
+entries_same n (Dense qs) h = list_back n qs h
+entries_same n (Sparse ps) h = refl
+
 -- ---- rows of the template
+
+long_map : {A B : Type 0} (f : A → B) (xs : List A) → length (map f xs) ≡ length xs
+long_map f [] = refl
+long_map f (x ∷ xs) = ap suc (long_map f xs)
+
+abbrev numerator : ℚ → ℤ
+numerator q = q.num
+
+row_same : (n : ℕ) (e : Entries) → length (row_for n e) ≡ n → row_for n (bare_entries e) ≡ row_for n e
+row_same n e h = ap (map numerator) (entries_same n e (sym (long_map numerator (entries_for n e)) ∙ h))
+
+-- rows stand for the same ones without zeros, where each has the length that is asked for
+pub rows_same : RowsStayTheSame
+rows_same n [] h = refl
+rows_same n (e ∷ rows) h = by (length (row_for n e) == n) refl h (λ k. rows_same n rows k)
+  where
+    eqb_same : (m k : ℕ) → (m == k) ≡ true → m ≡ k
+    eqb_same m k e = grind (arith, e)
+
+    by : (b : Bool) → (length (row_for n e) == n) ≡ b → (b && is_over n (rows_for n rows)) ≡ true
+        → (IsTrue (is_over n (rows_for n rows)) → rows_for n (map bare_entries rows) ≡ rows_for n rows)
+        → rows_for n (map bare_entries (e ∷ rows)) ≡ rows_for n (e ∷ rows)
+    by false is k more = absurd cc
+    by true is k more = ap₂ (λ (x : List ℤ) (xs : List (List ℤ)). x ∷ xs) (row_same n e (eqb_same (length (row_for n e)) n is)) (more k)
 
 wholes_back : (row : List ℤ) → map (λ (q : ℚ). q.num) (map whole row) ≡ row
 wholes_back [] = refl
 wholes_back (z ∷ row) = ap₂ (λ x xs. x ∷ xs) (num-whole z) (wholes_back row)
 
-as_long : (row : List ℤ) → length (map whole row) ≡ length row
-as_long [] = refl
-as_long (z ∷ row) = ap suc (as_long row)
-
-row_back : (n : ℕ) (row : List ℤ) → length row ≡ n → row_for n (bare_entries (dense_row row)) ≡ row
-row_back n row e = ap (map (λ (q : ℚ). q.num)) (list_back n (map whole row) (as_long row ∙ e)) ∙ wholes_back row
+dense_rows : (n : ℕ) (rows : List (List ℤ)) → rows_for n (map dense_row rows) ≡ rows
+dense_rows n [] = refl
+dense_rows n (row ∷ rows) = ap₂ (λ (x : List ℤ) (xs : List (List ℤ)). x ∷ xs) (wholes_back row) (dense_rows n rows)
 
 -- rows of one length stand for themselves
-pub rows_back : (n : ℕ) (rows : List (List ℤ)) → list_all (λ (row : List ℤ). length row == n) rows ≡ true
-    → rows_for n (map bare_entries (map dense_row rows)) ≡ rows
-rows_back n [] h = refl
-rows_back n (row ∷ rows) h = by (length row == n) refl h (λ k. rows_back n rows k)
-  where
-    eqb_same : (m k : ℕ) → (m == k) ≡ true → m ≡ k
-    eqb_same m k e = grind (arith, e)
-
-    by : (b : Bool) → (length row == n) ≡ b → (b && list_all (λ (r : List ℤ). length r == n) rows) ≡ true
-        → (list_all (λ (r : List ℤ). length r == n) rows ≡ true → rows_for n (map bare_entries (map dense_row rows)) ≡ rows)
-        → rows_for n (map bare_entries (map dense_row (row ∷ rows))) ≡ row ∷ rows
-    by false e k more = absurd cc
-    by true e k more = ap₂ (λ x xs. x ∷ xs) (row_back n row (eqb_same (length row) n e)) (more k)
+pub rows_back : (n : ℕ) (rows : List (List ℤ)) → IsTrue (is_over n rows) → rows_for n (map bare_entries (map dense_row rows)) ≡ rows
+rows_back n rows h =
+    rows_same n (map dense_row rows) (subst (λ (rs : List (List ℤ)). IsTrue (is_over n rs)) (sym (dense_rows n rows)) h) ∙ dense_rows n rows

@@ -1,9 +1,9 @@
 -- A certificate that can be written can be written with all entries of its lists.
-use Rattle.std.proofs.Common.{◌≡◌, ◌∙◌, ◌%◌, ◌<◌, ◌&&◌, ◌==◌, ℕ, suc, Bool, true, false, List, [], ◌∷◌, length, map, refl, sym}
+use Rattle.std.proofs.Common.{◌≡◌, ◌∙◌, ◌%◌, ◌<◌, ◌&&◌, ◌==◌, suc, true, List, [], ◌∷◌, length, map, refl, sym}
 use Rattle.std.proofs.Common.{ap, ap₂, subst}
 use Rattle.std.specs.Prelude.{ℤ}
 use Rattle.std.specs.List.{list_all}
-use Rattle.base_numbers.specs.Rational.{ℚ, whole}
+use Rattle.base_numbers.specs.Rational.{whole}
 use Rattle.base_numbers.proofs.rational.Parts.{den-whole}
 use Rattle.cert_types.specs.Shaped.{IsShaped, has_item, has_some}
 use Rattle.cert_types.specs.declared.cert.Cert.{Cert}

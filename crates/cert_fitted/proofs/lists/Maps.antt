@@ -1,7 +1,6 @@
 -- What is made of a list, element by element.
 use Rattle.std.proofs.Common.{◌≡◌, ◌+◌, ◌<◌, ◌++◌, ℕ, ℤ, true, List, [], ◌∷◌, length, map, take, get_or, nat_abs, sym, ap, ap₂}
 use Rattle.std.proofs.Common.{◌∙◌, ◌&&◌, arith}
-use Rattle.std.specs.List.{list_all}
 use Rattle.std.proofs.lemmas.Bool.{le-leb}
 use Rattle.std.proofs.lemmas.Int.{ints}
 use Rattle.std.proofs.lemmas.List.Folds.{list_all-append}

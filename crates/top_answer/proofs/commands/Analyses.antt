@@ -1,14 +1,11 @@
 -- The analysis of a program, for its report or for its certificate.
-use Rattle.std.proofs.Common.{◌≡◌, ◌∙◌, ◌⊎◌, ◌≤◌, ◌<◌, arith, ⊎_elim, ℕ, List, [], length, refl, sym, ap, subst, subst₂}
+use Rattle.std.proofs.Common.{◌≡◌, ◌∙◌, ◌≤◌, ℕ, List, [], length, refl, sym, ap, subst, subst₂}
 use Rattle.std.specs.Prelude.{IfOk, IfErr, Option, Result, Some, Vec, option_map}
 use Rattle.std.specs.declared.alloc.Global.{Global}
 use Rattle.clap.specs.Words.{Row}
 use Rattle.flow_systems.specs.View.{vector_of}
 use Rattle.flow_systems.specs.declared.system.System.{System}
-use Rattle.cert_written.specs.declared.cert.Cert.{Cert as WrittenCert}
 use Rattle.cert_fitted.specs.Dense.{dense_cert}
-use Rattle.cert_text.specs.Certificates.{IsBeyond, IsWithin, written_values}
-use Rattle.cert_text.specs.declared.limits.TheConstants.{MOST_VALUES}
 use Rattle.solve_rounds.specs.Solutions.{cert_with}
 use Rattle.ask_files.specs.Files.{Request, analysis_with}
 use Rattle.ask_files.specs.declared.which.Which.TheVariants as which
@@ -37,6 +34,7 @@ use Rattle.top_texts.proofs.analyses.Analysed.{output_put}
 use Rattle.top_texts.proofs.analyses.Unanswered.{unsolved, unsystematic}
 use Rattle.top_texts.proofs.by_c.InSource.{bounds_in_source}
 use Rattle.top_texts.proofs.checks.Accepted.{bounds_are}
+use Rattle.top_texts.proofs.checks.Upgraded.{few}
 use Rattle.top_texts.proofs.questions.OneMeaning.{analysis_once}
 use Rattle.top_texts.proofs.rounds.OneChain.{solved_ends}
 use Rattle.top_texts.proofs.texts.Once.{rows_over}
@@ -48,13 +46,6 @@ use Rattle.top_answer.proofs.requests.Limits.{within}
 use Rattle.top_answer.proofs.requests.Numbers.{analysis_bounds, and_then_some, map_some}
 
 -- ---- what is written
-
--- traces that don't hold too many values hold few enough
-few : (cert : WrittenCert) → (IsBeyond cert → ⊥) → IsWithin cert
-few cert n = ⊎_elim (λ h. h) (λ h. absurd (n h)) (le_or_lt (written_values cert) MOST_VALUES)
-  where
-    le_or_lt : (m k : ℕ) → (m ≤ k) ⊎ (k < m)
-    le_or_lt m k = grind arith
 
 -- the certificate that the rounds make of texts is one by the exact meanings
 certificate : (program : Program) (rows : Domain (List ℕ)) (policy : Policy) (limit : ℕ) (bytes : List ℕ)

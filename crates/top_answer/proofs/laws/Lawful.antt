@@ -8,11 +8,15 @@ use Rattle.flow_systems.specs.Equations.{Least, Vector}
 use Rattle.flow_systems.specs.Solutions.{equations_of_program}
 use Rattle.theory_validity.specs.Certificates.{PointsInRange, bounds_vector}
 use Rattle.theory_validity.proofs.steps.CertificateLaw.{certificate_least}
-use Rattle.cert_text.specs.Certificates.{cert_data}
+use Rattle.cert_text.specs.Certificates.{SpellsTooMany, cert_data}
 use Rattle.cert_text.proofs.form_laws.Laws.{one_reading}
+use Rattle.ask_words.specs.declared.format.Format.{Format}
+use Rattle.top_answer.specs.Commands.{IsChecked}
 use Rattle.top_texts.specs.Checks.{IsAcceptedWith, system_with, theirs}
+use Rattle.top_texts.specs.Exact.{exact}
 use Rattle.top_texts.specs.Texts.{Program}
 use Rattle.top_texts.specs.Upgrades.{IsUpgradeOf}
+use Rattle.top_texts.proofs.checks.Upgraded.{upgraded_accepted}
 
 -- the edges of a program end at its points
 program_range : (variables : ℕ) (body : Statements) (rows : List (List ℤ)) → PointsInRange (equations_of_program variables body rows)
@@ -33,3 +37,16 @@ accepted_least program bytes names body rows vector a =
 pub one_upgrade : (bytes one other : List ℕ) → IsUpgradeOf bytes one → IsUpgradeOf bytes other → one ≡ other
 one_upgrade bytes one other h k = h.text ∙ ap (λ c. compact_text (cert_data c)) (one_reading bytes h.cert k.cert h.spells k.spells)
     ∙ sym k.text
+
+-- what is accepted has the same report as it is upgraded
+pub upgraded_report : (program : Program) (certificate written : List ℕ) (format : Format) (bytes : List ℕ)
+    → IsUpgradeOf certificate written → (SpellsTooMany written → ⊥)
+    → IsChecked exact program certificate format bytes → IsChecked exact program written format bytes
+upgraded_report program certificate written format bytes u short c = record {
+  names = c.names;
+  body = c.body;
+  rows = c.rows;
+  vector = c.vector;
+  accepted = upgraded_accepted program certificate written c.names c.body c.rows c.vector u short c.accepted;
+  least = c.least;
+}

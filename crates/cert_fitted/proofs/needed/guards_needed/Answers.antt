@@ -1,4 +1,4 @@
-use Rattle.std.proofs.Common.{◌≡◌, ◌∙◌, ◌+◌, ◌-◌, ◌≤◌, List, length, ap, arith}
+use Rattle.std.proofs.Common.{◌≡◌, ◌∙◌, ◌-◌, List, length, ap, arith}
 use Rattle.flow_systems.proofs.Sizes.{flow_sizes}
 use Rattle.flow_systems.specs.View.{equations_of}
 use Rattle.cert_fitted.specs.Needed.{guards_of_points}

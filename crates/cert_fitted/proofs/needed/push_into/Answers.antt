@@ -1,4 +1,4 @@
-use Rattle.std.proofs.Common.{◌∙◌, ◌++◌, ◌∷◌, [], ℕ, List, ap}
+use Rattle.std.proofs.Common.{◌∙◌, ◌++◌, ◌∷◌, [], ap}
 use Rattle.cert_fitted.proofs.needed.Counted.{into_no, into_yes}
 use Rattle.flow_systems.specs.Cells.{guard_count}
 use Rattle.cert_fitted.proofs.needed.push_into.Goals as goal
