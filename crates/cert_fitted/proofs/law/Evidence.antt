@@ -150,7 +150,7 @@ valid_same system written v =
     ap₂ (λ (s : List Step) (u : List Upper). made system written.bounds s u)
     (steps_same system (length system.template) _ written.steps v.steps)
     (subst (λ (ns : List ℕ). uppers_for (length system.template) ns (map bare_upper written.uppers)
-        ≡ uppers_for (length system.template) ns written.uppers) (needed_guards system written.bounds)
+    ≡ uppers_for (length system.template) ns written.uppers) (needed_guards system written.bounds)
     (uppers_same system z (needs system z) written.uppers
     (subst (λ (ns : List ℕ). AllPass system z (needs system z) (map evidence_of (uppers_for (length system.template) ns written.uppers)))
     (sym (needed_guards system written.bounds)) v.uppers)))

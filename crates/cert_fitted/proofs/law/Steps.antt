@@ -60,7 +60,7 @@ module _ (system : Equations) where
 
     jump_same : (items : List WrittenJumpItem)
         → ((i : TheoryItem) → In (map (jump_item rows) (map (jump_item_for system) items)) i
-            → Sized system i i.low × Sized system i i.second)
+        → Sized system i i.low × Sized system i i.second)
         → map (jump_item_for system) (map bare_jump_item items) ≡ map (jump_item_for system) items
     jump_same [] h = refl
     jump_same (i ∷ items) h =
@@ -73,7 +73,7 @@ module _ (system : Equations) where
 
     ray_same : (items : List WrittenRayItem)
         → ((i : TheoryItem) → In (map (ray_item rows) (map (ray_item_for system) items)) i
-            → Sized system i i.low × Sized system i i.second)
+        → Sized system i i.low × Sized system i i.second)
         → map (ray_item_for system) (map bare_ray_item items) ≡ map (ray_item_for system) items
     ray_same [] h = refl
     ray_same (i ∷ items) h =

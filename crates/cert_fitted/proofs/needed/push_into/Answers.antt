@@ -12,7 +12,7 @@ loop-edge-preserved c =
       | then-edge-point+in_ok-push w ↦ into_yes c.args.point c.args.edges.now c.loop-edge.edge-index edge c.loop-edge-test.true
           c.edge-item.is c.args.list.now.items done c.if-edge-point.list.items c.loop-edge.invariant w.if-edge-point.true
           (ap (λ v. v.items) w.list-is ∙ w.in_ok-push.ensures.items ∙ ap (λ n. done ++ n ∷ []) (w.guards.ensures
-              ∙ ap guard_count w.as_slice.ensures))
+          ∙ ap guard_count w.as_slice.ensures))
       | else-edge-point w ↦ into_no c.args.point c.args.edges.now c.loop-edge.edge-index edge c.loop-edge-test.true
           c.edge-item.is c.args.list.now.items done c.if-edge-point.list.items c.loop-edge.invariant w.if-edge-point.false
           (ap (λ v. v.items) w.list-is)
