@@ -124,13 +124,13 @@ module _ (system : System) (solved : Solved) (cert : Cert) (same : cert ≡ cert
         → bytes ≡ compact_text (cert_data dense) → (IsWithin dense → SpellsCert bytes (bare_cert dense))
         → (IsBeyond dense → SpellsTooMany bytes) → NoneIsWide (equations_of system) (theirs cert)
         → Least (equations_of system) (vector_of (length system.template) solved.bounds) → IsRoundsCertificate system policy limit bytes
-    made_certified dense is bytes template written spells expands narrow least = record {
+    made_certified dense made bytes template written spells expands narrow least = record {
       solved = solved;
       is_solved = is;
       template = template;
-      written = written ∙ ap (λ (c : WrittenCert). compact_text (cert_data c)) (is ∙ ap dense_cert same);
-      spells = subst (λ (c : WrittenCert). IsWithin c → SpellsCert bytes (bare_cert c)) (is ∙ ap dense_cert same) spells;
-      expands = subst (λ (c : WrittenCert). IsBeyond c → SpellsTooMany bytes) (is ∙ ap dense_cert same) expands;
+      written = written ∙ ap (λ (c : WrittenCert). compact_text (cert_data c)) (made ∙ ap dense_cert same);
+      spells = subst (λ (c : WrittenCert). IsWithin c → SpellsCert bytes (bare_cert c)) (made ∙ ap dense_cert same) spells;
+      expands = subst (λ (c : WrittenCert). IsBeyond c → SpellsTooMany bytes) (made ∙ ap dense_cert same) expands;
       valid = valid;
       narrow = subst (λ (c : Cert). NoneIsWide (equations_of system) (theirs c)) same narrow;
       least = least;
