@@ -1,11 +1,18 @@
 //! Certificates whose lists of fractions have another length than the program and the rows ask for.
 
 use crate::cases::first_wrong;
-use crate::refused::certificates::{BARE_RAY, LISTED_RAY, RAY_PROGRAM};
+use crate::refused::certificates::{BARE_RAY, LISTED_RAY, RAY, RAY_PROGRAM};
 
-// The program, the certificate, what stands in it, what is put in its place, and the cause. In format 2 a list is too short; in format 3 a
-// place is past the length, or is none.
+// The program, the certificate, what stands in it, what is put in its place, and the cause. In formats 1 and 2 a list is too short; in
+// format 3 a place is past the length, or is none. The first one is upgraded to a certificate that is accepted.
 const LENGTHS: &[(&str, &str, &str, &str, &str)] = &[
+    (
+        RAY_PROGRAM,
+        RAY,
+        r#"{"free":["7"],"start":["0"]}"#,
+        r#"{"free":["7","0"],"start":[]}"#,
+        "trace, step 0, item 0",
+    ),
     (
         RAY_PROGRAM,
         LISTED_RAY,
