@@ -13,6 +13,7 @@ ghost use Rattle.flow_templates.specs.RowFaults.{faults_of};
 ghost use Rattle.flow_templates.specs.declared.fault.RowFault.TheVariants.{NoMemory};
 ghost use Rattle.flow_systems.specs.SystemLimits.{is_over};
 ghost use Rattle.cert_types.specs.declared.cert.Cert.{Cert as CertValue};
+ghost use Rattle.cert_text.specs.Certificates.{SpellsCert};
 ghost use Rattle.cert_checker.specs.Items.{is_short, item_count};
 ghost use Rattle.top_texts.specs.Checks.{IsSpelt, fitted_to};
 ghost use Rattle.top_texts.specs.Outcomes.{FitsProgram, IsNoSystem, IsUnspelt};
@@ -47,6 +48,7 @@ pub fn read_given(alloc: Global, source: Source<&[u8]>, bytes: &[u8]) -> Result<
     requires { length source.text.now ≤ MOST_TEXT_BYTES }
     ensures spelt { IfOk result (λ given. IsSpelt (source_text source.entry) bytes.now given.program.names given.program.body
         (fitted_to given.program.names given.program.body given.cert)) }
+    ensures reads { IfOk result (λ given. SpellsCert bytes.now given.cert) }
     ensures names { IfOk result (λ given. given.flow.names ≡ given.program.names) }
     ensures points { IfOk result (λ given. given.flow.points ≡ points_of_program given.program.body) }
     ensures edges { IfOk result (λ given. given.flow.edges ≡ edges_of_program given.program.body) }
