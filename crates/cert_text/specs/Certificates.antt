@@ -109,7 +109,7 @@ bounds_in rows d = list_from Bounds (is_line rows) line_in (get (codes "bounds")
 abbrev pub traces_in : Bool → Data → Result (Option (List Trace)) FormFault
 traces_in sparse d =
     if has_traces d then and_then (list_from Traces (is_trace sparse) (trace_in sparse) (get (codes "traces") d)) (λ traces. Ok (Some
-        traces))
+    traces))
     else Ok None
 
 -- the steps

@@ -105,7 +105,7 @@ rest_no_steps sparse s d f e =
 -- steps that are read, with what is read after them
 rest_after : (sparse : Bool) (s : Setting) (d : Data) (steps : List Step) (r : Result (List Upper) FormFault) → steps_in s d ≡ Ok steps
     → uppers_in sparse d ≡ r → rest_in sparse s d ≡ and_then r (λ (uppers : List Upper). if is_over s.traces (values_of (named_traces
-        steps)) then Err Expanded else Ok
+    steps)) then Err Expanded else Ok
     (steps, uppers))
 rest_after sparse s d steps r e f =
     ap (λ (r : Result (List Step) FormFault). and_then r (λ (steps : List Step). and_then (uppers_in sparse d) (λ (uppers : List Upper).
@@ -126,7 +126,7 @@ module _ (sparse : Bool) (s : Setting) (traces : List Trace) (d : Data) (listed 
         let k = counted_ok (steps_in s d) n count in
         rest_after sparse s d k.0 (Ok uppers) k.1 e
         ∙ ap (λ b. if b then Err Expanded else Ok (k.0, uppers)) (ap (λ (r : Setting). is_over r.traces (values_of (named_traces
-            k.0))) listed
+        k.0))) listed
         ∙ over_capped n (values_of (named_traces k.0)) k.2 h)
 
     listed_read : (steps : List Step) (uppers : List Upper) → steps_in s d ≡ Ok steps → uppers_in sparse d ≡ Ok uppers → n ≤ MOST_VALUES
@@ -135,7 +135,7 @@ module _ (sparse : Bool) (s : Setting) (traces : List Trace) (d : Data) (listed 
         let k = counted_ok (steps_in s d) n count in
         rest_after sparse s d k.0 (Ok uppers) k.1 e
         ∙ ap (λ b. if b then Err Expanded else Ok (k.0, uppers)) (ap (λ (r : Setting). is_over r.traces (values_of (named_traces
-            k.0))) listed
+        k.0))) listed
         ∙ within_capped n (values_of (named_traces k.0)) k.2 h)
         ∙ ap (λ (xs : List Step). let r : Result (List Step × List Upper) FormFault = Ok (xs, uppers) in r)
         (same_steps (steps_in s d) k.0 steps k.1 f)

@@ -107,7 +107,7 @@ pub skipped : (qs : List ℚ) (i : ℕ) (q : ℚ) (ps : List Pair) → i < lengt
     → ps ≡ nonzero 0 (take i qs) → ps ≡ nonzero 0 (take (i + 1) qs)
 skipped qs i q ps lt is nil e =
     e ∙ sym (nothing (nonzero 0 (take i qs))) ∙ ap (λ b. nonzero 0 (take i qs) ++ cond b [] (record { place = i; value = q } ∷ []))
-        (sym nil)
+    (sym nil)
     ∙ sym (one_more qs i q lt is)
   where
     nothing : (xs : List Pair) → xs ++ [] ≡ xs

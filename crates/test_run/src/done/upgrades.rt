@@ -73,7 +73,10 @@ impl Case for (&str, &str) {
 
 const WRITTEN: &[(&str, &str)] = &[
     ("~", "~"),
-    (r#""free":["7"],"start":["0"]"#, r#""free":["7","0"],"start":[]"#),
+    (
+        r#""free":["7"],"start":["0"]"#,
+        r#""free":["7","0"],"start":[]"#,
+    ),
     ("\"format\":1,", "\n \"format\" : 1 ,\t"),
     ("{\"bounds\"", "{\"format\":1,\"bounds\""),
 ];

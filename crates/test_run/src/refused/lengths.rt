@@ -27,7 +27,13 @@ const LENGTHS: &[(&str, &str, &str, &str, &str)] = &[
         r#""rows":[]"#,
         "upper, point 1, row 0, edge 0",
     ),
-    (RAY_PROGRAM, BARE_RAY, "[[[0,\"1\"]],", "[[[1,\"1\"]],", "rows"),
+    (
+        RAY_PROGRAM,
+        BARE_RAY,
+        "[[[0,\"1\"]],",
+        "[[[1,\"1\"]],",
+        "rows",
+    ),
     (RAY_PROGRAM, BARE_RAY, "[[[0,\"1\"]],", "[[],", "rows"),
     (
         RAY_PROGRAM,

@@ -63,5 +63,8 @@ module _ (names : List (List ℕ)) (body : Statements) (written : WrittenCert) (
   pub refused_fitted : (r : Refusal) → FitsProgram names body whole
       → IsUnaccepted (equations_of s) (theirs (cert_for (equations_of s) written)) r → GetsNoReport names body whole r
   refused_fitted r fits h =
-      inr (fits, unaccepted_with names body whole s r n p e t
-      (subst (λ (x : Cert). IsUnaccepted (equations_of s) (theirs x) r) fitted_same h))
+      inr (
+        fits,
+        unaccepted_with names body whole s r n p e t
+            (subst (λ (x : Cert). IsUnaccepted (equations_of s) (theirs x) r) fitted_same h),
+      )

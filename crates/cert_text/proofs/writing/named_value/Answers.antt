@@ -60,20 +60,20 @@ returns-clause-back c =
     (subst (λ k. list_in line_in (bounds_data k bounds) ≡ Some back.0) n back.1)
     back.2
     (subst (λ (xs : List Entries). is_list (are_entries true) (list_data entries_data xs)
-        ≡ true) c.as_slice.ensures c.in_ok-rows.ensures.shape)
+    ≡ true) c.as_slice.ensures c.in_ok-rows.ensures.shape)
     (subst (λ (xs : List Entries). list_in (row_in true) (list_data entries_data xs) ≡ Some (map bare_entries xs)) c.as_slice.ensures
     c.in_ok-rows.ensures.back)
     (subst₃ (λ k (ts : List Trace) (xs : List Step). is_list (is_step (relisting k ts)) (list_data (step_data k ts) xs)
-        ≡ true) _ _ _ _ _ _ n
+    ≡ true) _ _ _ _ _ _ n
     names c.as_slice-2.ensures c.in_ok-last.ensures.steps_shape)
     (subst₃ (λ k (ts : List Trace) (xs : List Step). list_in (step_in (relisting k ts)) (list_data (step_data k ts) xs)
-        ≡ Some (map bare_step xs)) _ _ _ _ _ _
+    ≡ Some (map bare_step xs)) _ _ _ _ _ _
     n names c.as_slice-2.ensures c.in_ok-last.ensures.steps_back)
     (subst (λ (xs : List Trace). is_list (is_trace true) (list_data trace_data xs) ≡ true) traces c.in_ok-last.ensures.traces_shape)
     (subst (λ (xs : List Trace). list_in (trace_in true) (list_data trace_data xs)
-        ≡ Some (map bare_trace xs)) traces c.in_ok-last.ensures.traces_back)
+    ≡ Some (map bare_trace xs)) traces c.in_ok-last.ensures.traces_back)
     (subst (λ (xs : List Upper). is_list (is_upper true) (list_data upper_data xs)
-        ≡ true) c.as_slice-4.ensures c.in_ok-last.ensures.uppers_shape)
+    ≡ true) c.as_slice-4.ensures c.in_ok-last.ensures.uppers_shape)
     (subst (λ (xs : List Upper). list_in (upper_in true) (list_data upper_data xs) ≡ Some (map bare_upper xs)) c.as_slice-4.ensures
     c.in_ok-last.ensures.uppers_back))
     c.cert_object.ensures
