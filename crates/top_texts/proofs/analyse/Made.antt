@@ -22,7 +22,7 @@ use Rattle.cert_text.specs.Certificates.{IsBeyond, IsWithin, IsWritable, SpellsC
 use Rattle.cert_written.specs.Bare.{bare_cert}
 use Rattle.cert_written.specs.declared.cert.Cert.{Cert as WrittenCert}
 use Rattle.cert_fitted.specs.Dense.{dense_cert}
-use Rattle.cert_fitted.proofs.law.Shaped.{dense_shaped}
+use Rattle.cert_fitted.proofs.fitted_laws.Shaped.{dense_shaped}
 use Rattle.cert_checker.specs.Items.{is_short}
 use Rattle.cert_checker.proofs.events.CheckTests.{stops_are_faults}
 use Rattle.solve_rounds.specs.declared.solution.Solved.{Solved}

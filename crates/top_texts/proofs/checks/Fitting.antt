@@ -16,8 +16,8 @@ use Rattle.cert_written.specs.Bare.{bare_cert}
 use Rattle.cert_written.specs.declared.cert.Cert.{Cert as WrittenCert}
 use Rattle.cert_fitted.specs.Dense.{dense_cert}
 use Rattle.cert_fitted.specs.Fitted.{cert_for, rows_for}
-use Rattle.cert_fitted.proofs.law.Evidence.{valid_back}
-use Rattle.cert_fitted.proofs.law.Lists.{rows_back}
+use Rattle.cert_fitted.proofs.fitted_laws.Evidence.{valid_back}
+use Rattle.cert_fitted.proofs.fitted_laws.Lists.{rows_back}
 use Rattle.ask_words.specs.declared.format.Format.{Format}
 use Rattle.top_written.specs.Formats.{report_of_in}
 use Rattle.top_texts.specs.Checks.{IsSpelt, NoneIsWide, fitted_to, system_with, theirs}

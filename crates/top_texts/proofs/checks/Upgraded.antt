@@ -19,8 +19,8 @@ use Rattle.cert_text.specs.Certificates.{IsBeyond, IsWithin, SpellsTooMany, writ
 use Rattle.cert_text.specs.declared.limits.TheConstants.{MOST_VALUES}
 use Rattle.cert_text.proofs.form_laws.Laws.{one_reading}
 use Rattle.cert_fitted.specs.Fitted.{cert_for, rows_for}
-use Rattle.cert_fitted.proofs.law.Evidence.{valid_same}
-use Rattle.cert_fitted.proofs.law.Lists.{rows_same}
+use Rattle.cert_fitted.proofs.fitted_laws.Evidence.{valid_same}
+use Rattle.cert_fitted.proofs.fitted_laws.Lists.{rows_same}
 use Rattle.top_texts.specs.Checks.{IsAcceptedWith, fitted_to, system_with, theirs}
 use Rattle.top_texts.specs.Texts.{Program}
 use Rattle.top_texts.specs.Upgrades.{IsUpgradeOf}

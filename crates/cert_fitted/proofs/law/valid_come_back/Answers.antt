@@ -1,4 +1,4 @@
-use Rattle.cert_fitted.proofs.law.Evidence.{dense_back, valid_back}
+use Rattle.cert_fitted.proofs.fitted_laws.Evidence.{dense_back, valid_back}
 use Rattle.cert_fitted.proofs.law.valid_come_back.Goals as goal
 
 pub returns-clause-dense : goal.returns-clause-dense

@@ -1,5 +1,5 @@
-use Rattle.cert_fitted.proofs.law.Evidence.{valid_same}
-use Rattle.cert_fitted.proofs.law.Lists.{rows_same}
+use Rattle.cert_fitted.proofs.fitted_laws.Evidence.{valid_same}
+use Rattle.cert_fitted.proofs.fitted_laws.Lists.{rows_same}
 use Rattle.cert_fitted.proofs.law.valid_stay_the_same.Goals as goal
 
 pub returns-clause-rows : goal.returns-clause-rows

@@ -28,8 +28,8 @@ use Rattle.cert_fitted.specs.Dense.{dense_cert, dense_upper}
 use Rattle.cert_fitted.specs.Fitted.{upper_for, uppers_for}
 use Rattle.cert_fitted.specs.Laws.{DenseComeBack, ValidComeBack, ValidStayTheSame}
 use Rattle.cert_fitted.specs.Needed.{bound_of, guards_at, guards_into, guards_needed}
-use Rattle.cert_fitted.proofs.law.Lists.{entries_same}
-use Rattle.cert_fitted.proofs.law.Steps.{steps_back, steps_same}
+use Rattle.cert_fitted.proofs.fitted_laws.Lists.{entries_same}
+use Rattle.cert_fitted.proofs.fitted_laws.Steps.{steps_back, steps_same}
 
 -- ---- as many guards as composed ones
 

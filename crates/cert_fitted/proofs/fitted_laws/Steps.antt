@@ -27,7 +27,7 @@ use Rattle.cert_written.specs.Bare.{bare_item, bare_jump_item, bare_ray_item, ba
 use Rattle.cert_fitted.specs.Dense.{dense_item, dense_jump_item, dense_ray_item, dense_step}
 use Rattle.cert_fitted.specs.Fitted.{item_for, jump_item_for, ray_item_for, step_for, trace_for}
 use Rattle.cert_fitted.specs.Needed.{frees_at}
-use Rattle.cert_fitted.proofs.law.Lists.{entries_same}
+use Rattle.cert_fitted.proofs.fitted_laws.Lists.{entries_same}
 
 -- the two counts of free values are one
 same_frees : (actions : List Action) → free_count actions ≡ count_by is_havoc actions
