@@ -1,2 +1,3 @@
-pub mod Writing
-pub mod Closing
+pub mod Finding
+pub mod Stepping
+pub mod Leading

@@ -1,5 +1,6 @@
 pub mod Numbers
 pub mod Tables
+pub mod Searches
 pub mod Cuts
 pub mod PartLists
 pub mod Rows

@@ -1,5 +1,5 @@
 -- Tables of tests between the points at which unknowns stand: which point reaches which by their picked edges.
-use Rattle.std.specs.Prelude.{ℕ, ◌==◌, ◌||◌, Bool, false, cond, List, [], ◌∷◌, get_or, map}
+use Rattle.std.specs.Prelude.{ℕ, ◌==◌, ◌||◌, ◌&&◌, Bool, false, List, [], ◌∷◌, get_or, map}
 use Rattle.std.specs.List.{range_with_len}
 use Rattle.solve_joint.specs.declared.node.Node.{Node}
 
@@ -11,24 +11,14 @@ row_by points test = map test (range_with_len 0 points)
 abbrev pub table_by : ℕ → (ℕ → ℕ → Bool) → List (List Bool)
 table_by points test = map (λ p. row_by points (test p)) (range_with_len 0 points)
 
--- each test or that of another row at its place
-abbrev pub added : List Bool → List Bool → List Bool
-added [] other = []
-added (a ∷ row) [] = a ∷ row
-added (a ∷ row) (b ∷ other) = (a || b) ∷ added row other
+-- whether the unknowns of a list lead from a point to another: each leads from its point to its source
+abbrev pub leads : List Node → ℕ → ℕ → Bool
+leads [] p q = p == q
+leads (x ∷ xs) p q = leads xs p q || (leads xs p x.point && leads xs x.source q)
 
--- another row is added to one that has a test at the place
-abbrev pub joined : ℕ → List Bool → List Bool → List Bool
-joined place middle row = cond (get_or row place false) (added row middle) row
-
--- another row is added to each that has a test at the place
-abbrev pub stepped : ℕ → List Bool → List (List Bool) → List (List Bool)
-stepped place middle rows = map (joined place middle) rows
-
--- each point reaches itself; and what reaches an unknown's point reaches what its source does, for the unknowns of a list, the last first
+-- which of so many points the unknowns of a list lead to which
 abbrev pub closed : ℕ → List Node → List (List Bool)
-closed points [] = table_by points (λ p q. p == q)
-closed points (a ∷ nodes) = stepped a.point (get_or (closed points nodes) a.source []) (closed points nodes)
+closed points nodes = table_by points (leads nodes)
 
 -- the test of two points
 abbrev pub cell : List (List Bool) → ℕ → ℕ → Bool

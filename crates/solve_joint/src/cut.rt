@@ -115,7 +115,7 @@ pub fn parts(alloc: Global, system: &System, pick: &Pick, list: &[u32]) -> Resul
     ensures lowest_first { IfOk result (λ p. NumbersInOrder system.now pick.now list.now p) }
 {
     let nodes = nodes(alloc, system, pick, list)?;
-    let points = system.flow.points.as_slice().len();
+    let points = system.flow.points.as_slice().len() as u32;
     let rows = reaching(alloc, points, nodes.as_slice())?;
     let lists = cut(alloc, rows.as_slice(), nodes)?;
     Ok(Parts::new(lists))

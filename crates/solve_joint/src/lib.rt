@@ -6,6 +6,7 @@ mod block;
 mod cells;
 mod closure;
 mod cut;
+mod group;
 mod joined;
 mod joint_problem;
 mod joint_rows;

@@ -1,7 +1,7 @@
 //! Tables of tests between points.
 
-ghost use Rattle.std.specs.Prelude.{◌≡◌, ◌==◌, ◌||◌, false, IfOk, get_or};
-ghost use Rattle.solve_joint.specs.Tables.{row_by, table_by, added, joined, cell, gets_to};
+ghost use Rattle.std.specs.Prelude.{◌≡◌, ◌<◌, true, false, IfOk, length, get_or, replicate, slice_set};
+ghost use Rattle.solve_joint.specs.Tables.{cell, gets_to};
 
 use crate::node::Node;
 use std::alloc::{AllocError, Global};
@@ -33,74 +33,24 @@ impl Row {
         }
     }
 
-    /// The same tests once more.
-    pub fn again(&self) -> Result<Row, AllocError>
-        ensures { IfOk result (λ copy. copy ≡ self.now) }
+    /// So many tests, each false.
+    pub fn none(alloc: Global, count: usize) -> Result<Row, AllocError>
+        ensures { IfOk result (λ r. r ≡ replicate count false) }
     {
-        let cells = self.cells.clone()?;
+        let mut cells = Vec::with_capacity(alloc, count)?;
+        for _cell in 0..count {
+            cells.push(false)?;
+        }
         Ok(Row { cells })
     }
 
-    // Makes each test true where that of the other row is.
-    fn add(&mut self, other: &Row)
-        ensures { self.new ≡ added self.old other.now }
+    /// Makes the test at a place true.
+    pub fn set(&mut self, place: usize)
+        requires { place < length self.old }
+        ensures { self.new ≡ slice_set self.old place true }
     {
-        add_cells(self.cells.as_mut_slice(), other);
+        self.cells[place] = true;
     }
-
-    /// Adds the other row if the test at the place is true.
-    pub fn add_through(&mut self, place: usize, other: &Row)
-        ensures { self.new ≡ joined place other.now self.old }
-    {
-        if self.at(place) {
-            self.add(other);
-        }
-    }
-}
-
-// Whether one of two tests is true.
-fn either(a: bool, b: bool) -> bool
-    ensures { result ≡ a || b }
-{
-    a || b
-}
-
-// Makes each test true where that of the row is.
-fn add_cells(cells: &mut [bool], other: &Row)
-    ensures { cells.new ≡ added cells.old other.now }
-{
-    for i in 0..cells.len() {
-        cells[i] = either(cells[i], other.at(i));
-    }
-}
-
-// Whether two points are one.
-fn is_same(a: usize, b: usize) -> bool
-    ensures { result ≡ (a == b) }
-{
-    a == b
-}
-
-// The tests of one point, which reaches itself.
-fn first_row(alloc: Global, points: usize, point: usize) -> Result<Row, AllocError>
-    ensures { IfOk result (λ r. r ≡ row_by points (λ q. point == q)) }
-{
-    let mut cells = Vec::with_capacity(alloc, points)?;
-    for other in 0..points {
-        cells.push(is_same(point, other))?;
-    }
-    Ok(Row { cells })
-}
-
-/// The table in which each point reaches itself alone.
-pub fn first_table(alloc: Global, points: usize) -> Result<Vec<Row>, AllocError>
-    ensures { IfOk result (λ v. v.items ≡ table_by points (λ p q. p == q)) }
-{
-    let mut rows = Vec::with_capacity(alloc, points)?;
-    for point in 0..points {
-        rows.push(first_row(alloc, points, point)?)?;
-    }
-    Ok(rows)
 }
 
 // The test of two points; false where there are none.

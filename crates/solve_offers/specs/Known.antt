@@ -6,7 +6,7 @@ use Rattle.base_fractions.specs.declared.ext.Ext.{Ext}
 use Rattle.flow_systems.specs.declared.system.System.{System}
 use Rattle.solve_offers.specs.declared.found.Found.{Found}
 use Rattle.solve_offers.specs.declared.known.Known.{Known}
-use Rattle.solve_offers.specs.AtBounds.{vector_at, edge_at}
+use Rattle.solve_offers.specs.AtBounds.{vector_at}
 use Rattle.solve_offers.specs.Found.{IsFound}
 
 -- there is an entry for each edge and row
@@ -31,11 +31,6 @@ pub record AreKnown (system : System) (bounds : List Extended) (known : Known) :
 -- what a part knows the whole knows
 abbrev pub IsPartOf : Known → Known → Type 0
 IsPartOf part whole = (k : ℕ) (found : Found) → get_or part.values.items k None ≡ Some found → get_or whole.values.items k None ≡ Some found
-
--- nothing is known of those of the first n edges that start at a point
-abbrev pub NothingFrom : System → ℕ → ℕ → Known → Type 0
-NothingFrom system point n known = (edge row : ℕ) → edge < n → row < length system.template → (edge_at system edge).from ≡ point →
-    known_at system known edge row ≡ None
 
 -- two vectors have the same bounds at a point
 abbrev pub IsSameAt : System → List Extended → List Extended → ℕ → Type 0

@@ -6,3 +6,4 @@ pub mod Stops
 pub mod Policies
 pub mod Known
 pub mod Found
+pub mod Incoming

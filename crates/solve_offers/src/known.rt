@@ -1,7 +1,7 @@
 //! Transformers that stay known from round to round.
 
 ghost use Rattle.std.specs.Prelude.{◌≡◌, ◌↔◌, ◌+◌, ◌*◌, ◌<◌, ℕ, length, slice_set, IfOk, IsTrue, Some, None};
-ghost use Rattle.solve_offers.specs.Known.{AreKnown, HasEntries, IsPartOf, IsSameAt, NothingFrom, known_at, known_value};
+ghost use Rattle.solve_offers.specs.Known.{AreKnown, HasEntries, IsPartOf, IsSameAt, known_at, known_value};
 
 use crate::found::Found;
 use base_fractions::Ext;
@@ -98,20 +98,6 @@ fn forget_edge(system: &System, edge: u32, known: &mut Known)
     }
 }
 
-// Nothing is known of the edges that start at a point any more.
-fn forget_from(system: &System, point: u32, known: &mut Known)
-    requires entries { HasEntries system.now known.old }
-    ensures entries { HasEntries system.now known.new }
-    ensures gone { NothingFrom system.now point (length system.now.flow.edges) known.new }
-    ensures part { IsPartOf known.new known.old }
-{
-    for (number, edge) in system.flow.edges.as_slice().iter().enumerate() {
-        if edge.from == point {
-            forget_edge(system, number as u32, known);
-        }
-    }
-}
-
 /// Forgets the transformers of the edges whose source has other bounds after than before. What is known of the others stands.
 pub fn forget(system: &System, before: &Bounds, after: &Bounds, known: &mut Known)
     requires before { length before.now ≡ length system.now.flow.points * length system.now.template }
@@ -119,9 +105,9 @@ pub fn forget(system: &System, before: &Bounds, after: &Bounds, known: &mut Know
     requires known { AreKnown system.now before.now known.old }
     ensures { AreKnown system.now after.now known.new }
 {
-    for point in 0..system.flow.points.as_slice().len() as u32 {
-        if !is_same_at(system, before, after, point) {
-            forget_from(system, point, known);
+    for (number, edge) in system.flow.edges.as_slice().iter().enumerate() {
+        if !is_same_at(system, before, after, edge.from) {
+            forget_edge(system, number as u32, known);
         }
     }
 }

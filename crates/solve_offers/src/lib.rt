@@ -1,10 +1,12 @@
 //! Offers of edges to unknowns, the policies that choose from them, and the improvement of picks.
 #![tactic(auto)]
 
+mod asking;
 mod chooser;
 mod count;
 mod found;
 mod improvement;
+mod incoming;
 mod known;
 mod offer;
 mod offering;

@@ -1,5 +1,5 @@
 -- The table of a list's points tells which of its unknowns reach which.
-use Rattle.std.proofs.Common.{◌≡◌, ◌∙◌, inl, inr, ⊎_elim, ℕ, ◌/◌, ◌<◌, ◌&&◌, ◌||◌, ◌==◌, cond, Bool, true, false, List, [], ◌∷◌, length}
+use Rattle.std.proofs.Common.{◌≡◌, ◌∙◌, inl, inr, ⊎_elim, ℕ, ◌/◌, ◌<◌, ◌&&◌, ◌||◌, ◌==◌, Bool, true, false, List, [], ◌∷◌, length}
 use Rattle.std.proofs.Common.{get_or, map, Option, refl, ap, ap₂, sym, arith, zero-add}
 use Rattle.std.specs.List.{range_with_len}
 use Rattle.std.proofs.lemmas.Bool.{eqb-true}
@@ -15,63 +15,15 @@ use Rattle.theory_transformers.specs.Parts.{leans, same, reaches, together}
 use Rattle.theory_transformers.proofs.parts.Reaching.{same_itself, same_equal}
 use Rattle.solve_joint.specs.declared.node.Node.{Node}
 use Rattle.solve_joint.specs.Numbers.{listed_of, number_of, all_listed, source_of, nodes_of, ArePicked}
-use Rattle.solve_joint.specs.Tables.{row_by, table_by, added, joined, stepped, closed, cell, gets_to}
+use Rattle.solve_joint.specs.Tables.{row_by, leads, closed, gets_to}
 use Rattle.solve_joint.specs.Cuts.{are_one_part}
 use Rattle.solve_joint.proofs.numbers.NodeFacts.{number_back, shown, node_in, shown_all}
-
--- whether the unknowns of a list lead from a point to another
-abbrev pub leads : List Node → ℕ → ℕ → Bool
-leads [] p q = p == q
-leads (x ∷ xs) p q = leads xs p q || (leads xs p x.point && leads xs x.source q)
-
-map_equal : {X Z : Type 0} (f g : X → Z) (xs : List X) → ((x : X) → f x ≡ g x) → map f xs ≡ map g xs
-map_equal f g [] e = refl
-map_equal f g (x ∷ xs) e = ap₂ (λ y ys. y ∷ ys) (e x) (map_equal f g xs e)
-
-map_twice : {X Y Z : Type 0} (g : Y → Z) (f : X → Y) (xs : List X) → map g (map f xs) ≡ map (λ x. g (f x)) xs
-map_twice g f [] = refl
-map_twice g f (x ∷ xs) = ap (λ ys. g (f x) ∷ ys) (map_twice g f xs)
-
-added_map : (f g : ℕ → Bool) (ps : List ℕ) → added (map f ps) (map g ps) ≡ map (λ p. f p || g p) ps
-added_map f g [] = refl
-added_map f g (p ∷ ps) = ap (λ ys. (f p || g p) ∷ ys) (added_map f g ps)
-
-or_nothing : (a b : Bool) → a || (false && b) ≡ a
-or_nothing true b = refl
-or_nothing false b = refl
 
 -- ---- the table by which points lead where
 at_point : {X : Type 0} (f : ℕ → X) (points p : ℕ) (d : X) → p < points → get_or (map f (range_with_len 0 points)) p d ≡ f p
 at_point f points p d l =
     get_or-map f (range_with_len 0 points) p p d (let e = length-range_with_len 0 points in omega (arith, l, e))
     ∙ ap f (get_or-range_with_len 0 points p p l ∙ zero-add p)
-
-module _ (points : ℕ) (xs : List Node) (x : Node) (l : x.point < points) where
-  row_more : (p : ℕ) → joined x.point (row_by points (leads xs x.source)) (row_by points (leads xs p)) ≡ row_by points (leads (x ∷ xs) p)
-  row_more p =
-      ap (λ b. cond b (added (row_by points (leads xs p)) (row_by points (leads xs x.source))) (row_by points (leads xs p)))
-      (at_point (leads xs p) points x.point false l) ∙ by (leads xs p x.point)
-    where
-      by : (b : Bool) → cond b (added (row_by points (leads xs p)) (row_by points (leads xs x.source))) (row_by points (leads xs p))
-          ≡ map (λ q. leads xs p q || (b && leads xs x.source q)) (range_with_len 0 points)
-      by true = added_map (leads xs p) (leads xs x.source) (range_with_len 0 points)
-      by false = map_equal (leads xs p) (λ q. leads xs p q || (false && leads xs x.source q)) (range_with_len 0 points)
-          (λ q. sym (or_nothing (leads xs p q) (leads xs x.source q)))
-
-  table_more : x.source < points → stepped x.point (get_or (table_by points (leads xs)) x.source []) (table_by points (leads xs))
-      ≡ table_by points (leads (x ∷ xs))
-  table_more k =
-      ap (λ mid. stepped x.point mid (table_by points (leads xs))) (at_point (λ p. row_by points (leads xs p)) points x.source [] k)
-      ∙ map_twice (joined x.point (row_by points (leads xs x.source))) (λ p. row_by points (leads xs p)) (range_with_len 0 points)
-      ∙ map_equal (λ p. joined x.point (row_by points (leads xs x.source)) (row_by points (leads xs p)))
-      (λ p. row_by points (leads (x ∷ xs) p)) (range_with_len 0 points) row_more
-
-closed_is : (points : ℕ) (xs : List Node) → ((a : Node) → In xs a → (a.point < points) × (a.source < points))
-    → closed points xs ≡ table_by points (leads xs)
-closed_is points [] h = refl
-closed_is points (x ∷ xs) h =
-    let here = h x (inl refl) in
-    ap (λ t. stepped x.point (get_or t x.source []) t) (closed_is points xs (λ a m. h a (inr m))) ∙ table_more points xs x here.0 here.1
 
 -- ---- leading from source to point is reaching
 -- where one unknown is the one in the middle, going through it adds nothing
@@ -153,9 +105,7 @@ module _ (system : System) (pick : List (Option ℕ)) (list : List ℕ) (picked 
   gets_shown a b m n =
       let p = node_in system pick list picked a m in
       let q = node_in system pick list picked b n in
-      ap (λ t. a.unknown == b.unknown || cell t a.source b.point) (closed_is points nodes
-      (λ x i. let y = node_in system pick list picked x i in (y.point_within, y.source_within)))
-      ∙ ap (λ (r : List Bool). a.unknown == b.unknown || get_or r b.point false)
+      ap (λ (r : List Bool). a.unknown == b.unknown || get_or r b.point false)
       (at_point (λ s. row_by points (leads nodes s)) points a.source [] p.source_within)
       ∙ ap (λ t. a.unknown == b.unknown || t) (at_point (leads nodes a.source) points b.point false q.point_within)
       ∙ leads_reaches nodes (λ x i. i) a b m n

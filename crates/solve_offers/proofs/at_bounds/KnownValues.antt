@@ -15,8 +15,7 @@ use Rattle.solve_offers.specs.declared.found.Found.{Found}
 use Rattle.solve_offers.specs.declared.known.Known.{Known}
 use Rattle.solve_offers.specs.AtBounds.{vector_at, edge_at, row_at, IsTransformerAt}
 use Rattle.solve_offers.specs.Found.{IsFound}
-use Rattle.solve_offers.specs.Known.{AreKnown, HasEntries, IsPartOf, IsSameAt, NothingFrom, known_at, known_value}
-use Rattle.solve_offers.proofs.at_bounds.Ranges.{source_in_range}
+use Rattle.solve_offers.specs.Known.{AreKnown, HasEntries, IsPartOf, IsSameAt, known_at, known_value}
 use Rattle.solve_offers.proofs.known.UpperSources.{upper_by_source}
 
 no_value : (found : Found) → None ≡ Some found → ⊥
@@ -128,77 +127,53 @@ known_less system bounds old new place known e = record {
         gone : (k : ℕ) → k ≡ place → get_or (slice_set old.values.items place None) k None ≡ None
         gone k s = ap (λ n. get_or (slice_set old.values.items place None) n None) s ∙ none_set old.values.items place
 
--- where the whole knows nothing a part knows nothing
-stays_none : (part whole : Known) (k : ℕ) → IsPartOf part whole → get_or whole.values.items k None ≡ None
-    → get_or part.values.items k None ≡ None
-stays_none part whole k of none = by (get_or part.values.items k None) refl
-  where
-    by : (o : Option Found) → get_or part.values.items k None ≡ o → get_or part.values.items k None ≡ None
-    by None e = e
-    by (Some value) e = absurd (no_value value (sym none ∙ of k value e))
-
-module _ (system : System) (point number : ℕ) (mid : Known) (nothing : NothingFrom system point number mid) where
-  -- one more edge is forgotten
-  pub nothing_more : (new : Known) → IsPartOf new mid → ((row : ℕ) → row < length system.template → known_at system new number row ≡ None)
-      → NothingFrom system point (number + 1) new
-  nothing_more new part gone edge row l r from =
-      ⊎_elim (λ e. subst (λ n. known_at system new n row ≡ None) (sym e.1) (gone row r))
-      (λ apart. stays_none new mid (edge * length system.template + row) part (nothing edge row (omega (arith, l, apart.1)) r from))
-      (eqb_tells edge number)
-
-  -- one more edge starts elsewhere
-  pub nothing_apart : ((edge_at system number).from ≡ point → ⊥) → NothingFrom system point (number + 1) mid
-  nothing_apart elsewhere edge row l r from =
-      ⊎_elim (λ e. absurd (elsewhere (subst (λ n. (edge_at system n).from ≡ point) e.1 from)))
-      (λ apart. nothing edge row (omega (arith, l, apart.1)) r from) (eqb_tells edge number)
-
--- what is known after some points: it was known, and those of these points from which a known edge starts keep their bounds
-pub record StillKnown (system : System) (before after : List Extended) (old new : Known) (points : ℕ) : Type 0 where
+-- what is known after some edges: it was known, and of these edges those that are known start where the bounds stay
+pub record StillKnown (system : System) (before after : List Extended) (old new : Known) (edges : ℕ) : Type 0 where
   -- there is one entry for each edge and row
   pub entries : HasEntries system new
   -- each value that is known is that of its edge and row
   pub stand : (edge row : ℕ) (value : Found) → edge < length system.flow.edges → row < length system.template
       → known_at system new edge row ≡ Some value →
-      (known_at system old edge row ≡ Some value) × ((edge_at system edge).from < points
-      → IsSameAt system before after (edge_at system edge).from)
+      (known_at system old edge row ≡ Some value) × (edge < edges → IsSameAt system before after (edge_at system edge).from)
 
 module _ (system : System) (before after : List Extended) (old : Known) where
-  -- before the first point
+  -- before the first edge
   pub still_none : AreKnown system before old → StillKnown system before after old old 0
   still_none known = record { entries = known.entries; stand = λ edge row value p q k. (k, λ l. absurd (omega (arith, l))) }
 
-  -- a point with the same bounds
-  pub still_same : (new : Known) (point : ℕ) → StillKnown system before after old new point → IsSameAt system before after point
-      → StillKnown system before after old new (point + 1)
-  still_same new point still same = record {
+  -- an edge that starts where the bounds stay
+  pub still_same : (new : Known) (number : ℕ) → StillKnown system before after old new number
+      → IsSameAt system before after (edge_at system number).from → StillKnown system before after old new (number + 1)
+  still_same new number still same = record {
     entries = still.entries;
     stand = λ edge row value p q k. (
       (still.stand edge row value p q k).0,
-      λ l. ⊎_elim (λ e. subst (λ n. IsSameAt system before after n) (sym e.1) same)
-          (λ apart. (still.stand edge row value p q k).1 (omega (arith, l, apart.1))) (eqb_tells (edge_at system edge).from point),
+      λ l. ⊎_elim (λ e. subst (λ n. IsSameAt system before after (edge_at system n).from) (sym e.1) same)
+          (λ apart. (still.stand edge row value p q k).1 (omega (arith, l, apart.1))) (eqb_tells edge number),
     );
   }
 
-  -- a point whose edges are forgotten
-  pub still_less : (mid new : Known) (point : ℕ) → StillKnown system before after old mid point → HasEntries system new →
-      NothingFrom system point (length system.flow.edges) new → IsPartOf new mid → StillKnown system before after old new (point + 1)
-  still_less mid new point still entries gone part = record {
+  -- an edge that is forgotten
+  pub still_less : (mid new : Known) (number : ℕ) → StillKnown system before after old mid number → HasEntries system new →
+      ((row : ℕ) → row < length system.template → known_at system new number row ≡ None) → IsPartOf new mid
+      → StillKnown system before after old new (number + 1)
+  still_less mid new number still entries gone part = record {
     entries = entries;
     stand = λ edge row value p q k.
         let s = still.stand edge row value p q (part (edge * length system.template + row) value k) in (
           s.0,
-          λ l. ⊎_elim (λ e. absurd (no_value value (sym (gone edge row p q e.1) ∙ k))) (λ apart. s.1 (omega (arith, l, apart.1)))
-              (eqb_tells (edge_at system edge).from point),
+          λ l. ⊎_elim
+              (λ e. absurd (no_value value (sym (gone row q) ∙ ap (λ n. known_at system new n row) (sym e.1) ∙ k)))
+              (λ apart. s.1 (omega (arith, l, apart.1))) (eqb_tells edge number),
         );
   }
 
-  -- after all points it is known at the new bounds
-  pub still_all : (new : Known) (points : ℕ) → length system.flow.points ≤ points → AreKnown system before old
-      → StillKnown system before after old new points → AreKnown system after new
-  still_all new points all known still = record {
+  -- after all edges it is known at the new bounds
+  pub still_all : (new : Known) (edges : ℕ) → length system.flow.edges ≤ edges → AreKnown system before old
+      → StillKnown system before after old new edges → AreKnown system after new
+  still_all new edges all known still = record {
     entries = still.entries;
     stand = λ edge row value p q k.
         let s = still.stand edge row value p q k in
-        let l = source_in_range system edge p in
-        found_by_source system before after edge row value (s.1 (omega (arith, l, all))) (known.stand edge row value p q s.0);
+        found_by_source system before after edge row value (s.1 (omega (arith, p, all))) (known.stand edge row value p q s.0);
   }

@@ -54,3 +54,7 @@ pub edge_here : (system : System) (edges : List Edge) (i : ℕ) (edge : Edge) �
     → edge ≡ get_or edges i edge → edge_at system i ≡ edge
 edge_here system edges i edge same l is = ap (λ es. get_or es i (record { from = 0; to = 0; actions = [] })) (sym same)
     ∙ get_or_default edges i (record { from = 0; to = 0; actions = [] }) edge l ∙ sym is
+
+-- and ends at one
+pub end_in_range : (system : System) (edge : ℕ) → edge < length system.flow.edges → (edge_at system edge).to < length system.flow.points
+end_in_range system edge l = (ends_pass system (edge_at system edge) (Contains-get_or system.flow.edges edge _ l)).1

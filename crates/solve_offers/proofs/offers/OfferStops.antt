@@ -1,14 +1,12 @@
 -- Stops of offers.
-use Rattle.std.proofs.Common.{◌≡◌, ℕ, ◌<◌, List, length, get_or, sym, subst}
+use Rattle.std.proofs.Common.{◌≡◌, ℕ, ◌<◌, List, length, sym, subst}
 use Rattle.base_numbers.specs.Extended.{Ext as Extended, pos_inf, ◌<ᴱ◌}
-use Rattle.flow_edges.specs.declared.edge.Edge.{Edge}
 use Rattle.flow_systems.specs.declared.fault.Fault.{Fault}
 use Rattle.flow_systems.specs.declared.fault.Fault.TheVariants.{Wide, NoMemory}
 use Rattle.flow_systems.specs.declared.spot.Spot.{Spot}
 use Rattle.flow_systems.specs.declared.system.System.{System}
 use Rattle.solve_offers.specs.AtBounds.{vector_at, edge_at}
 use Rattle.solve_offers.specs.Stops.{IsSolvedStop, IsOfferStop}
-use Rattle.solve_offers.proofs.at_bounds.Ranges.{edge_here}
 
 module _ (system : System) (bounds : List Extended) (row round : ℕ) (is_row : row < length system.template) where
   -- a stop at an edge that leads to a bound below +∞ is one of an offer
@@ -19,10 +17,8 @@ module _ (system : System) (bounds : List Extended) (row round : ℕ) (is_row : 
   offer_stop edge is_edge limited NoMemory s = tt
 
   -- so is one at an edge into a point with such a bound
-  pub stop_into : (point : ℕ) → vector_at system bounds point row <ᴱ pos_inf → (edges : List Edge) (i : ℕ) (edge : Edge) →
-      edges ≡ system.flow.edges → i < length edges → edge ≡ get_or edges i edge → edge.to ≡ point →
-      (stop : Fault Spot) → IsSolvedStop system bounds i row round stop → IsOfferStop system bounds round stop
-  stop_into point limited edges i edge same l is to =
-      offer_stop i (subst (λ es. i < length es) same l)
-      (subst (λ e. vector_at system bounds e.to row <ᴱ pos_inf) (sym (edge_here system edges i edge same l is))
-      (subst (λ p. vector_at system bounds p row <ᴱ pos_inf) (sym to) limited))
+  pub stop_into : (point : ℕ) → vector_at system bounds point row <ᴱ pos_inf → (edge : ℕ) → edge < length system.flow.edges →
+      (edge_at system edge).to ≡ point → (stop : Fault Spot) → IsSolvedStop system bounds edge row round stop
+      → IsOfferStop system bounds round stop
+  stop_into point limited edge is_edge to =
+      offer_stop edge is_edge (subst (λ p. vector_at system bounds p row <ᴱ pos_inf) (sym to) limited)

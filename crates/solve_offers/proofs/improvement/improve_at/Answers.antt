@@ -12,8 +12,8 @@ use Rattle.solve_offers.proofs.improvement.improve_at.Goals as goal
 
 pub returns-in-None-clause-becomes : goal.returns-in-None-clause-becomes
 returns-in-None-clause-becomes g c =
-    let system = c.args.at.now.system.now in
-    let bounds = c.args.at.now.bounds.now in
+    let system = c.args.asking.now.at.system.now in
+    let bounds = c.args.asking.now.at.bounds.now in
     let u = c.args.unknown in
     let rows = length system.template in
     unknown_at_top (equations_of system) (vector_at system bounds) _ u (get_or c.args.pick.now u None) (get_or c.set.new.self u None)
@@ -25,8 +25,8 @@ returns-in-None-clause-becomes g c =
 
 pub returns-then-some_exceeds-clause-becomes : goal.returns-then-some_exceeds-clause-becomes
 returns-then-some_exceeds-clause-becomes g c =
-    let system = c.args.at.now.system.now in
-    let bounds = c.args.at.now.bounds.now in
+    let system = c.args.asking.now.at.system.now in
+    let bounds = c.args.asking.now.at.bounds.now in
     let u = c.args.unknown in
     let offer = c.in-Some.offer in
     let position = c.choose-position.result in
@@ -43,8 +43,8 @@ returns-then-some_exceeds-clause-becomes g c =
 
 pub returns-clause-becomes : goal.returns-clause-becomes
 returns-clause-becomes g c =
-    let system = c.args.at.now.system.now in
-    let bounds = c.args.at.now.bounds.now in
+    let system = c.args.asking.now.at.system.now in
+    let bounds = c.args.asking.now.at.bounds.now in
     let u = c.args.unknown in
     let offer = c.in-Some.offer in
     unknown_kept (equations_of system) (vector_at system bounds) _ u (get_or c.args.pick.now u None)

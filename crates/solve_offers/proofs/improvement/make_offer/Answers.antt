@@ -1,60 +1,78 @@
-use Rattle.std.proofs.Common.{◌∙◌, ◌∷◌, [], ◌++◌, map, take, ap, sym, subst}
-use Rattle.base_fractions.specs.Extended.{extended}
-use Rattle.solve_offers.specs.Known.{AreKnown}
+use Rattle.std.proofs.Common.{◌∙◌, ◌+◌, ◌*◌, [], ◌∷◌, ◌++◌, length, map, get_or, refl, sym, ap, arith}
+use Rattle.std.proofs.lemmas.List.{take_more}
+use Rattle.std.proofs.lemmas.List.FromFn.{length-map-range_with_len}
 use Rattle.std.proofs.lemmas.Result.{err_from_is_err_and}
+use Rattle.base_fractions.specs.Extended.{extended}
+use Rattle.base_numbers.specs.Extended.{neg_inf}
+use Rattle.solve_offers.specs.Improvement.{numbers_into}
 use Rattle.solve_offers.proofs.offers.OfferStops.{stop_into}
-use Rattle.solve_offers.proofs.improvement.OfferLists.{numbers_none, edges_none, numbers_yes, numbers_no, row_value, value_here, values_yes}
-use Rattle.solve_offers.proofs.improvement.OfferLists.{values_no, same_count}
+use Rattle.solve_offers.proofs.improvement.OfferLists.{number_within, number_to, values_more, values_all, numbers_all, same_count}
 use Rattle.solve_offers.proofs.improvement.make_offer.Goals as goal
-use Rattle.solve_offers.proofs.improvement.make_offer.Goals.{then-edge-point+in_ok-value+in_ok-push+in_ok-push-2, else-edge-point}
 
-pub loop-number-init : goal.loop-number-init
-loop-number-init c = record {
-  numbers = c.new-edges.ensures.items ∙ sym (numbers_none c.args.point 0);
-  values = ap (map extended) c.new-values.ensures.items
-      ∙ sym (ap (map (row_value c.args.at.now.system.now c.args.at.now.bounds.now c.args.row)) (edges_none c.args.point));
-  known = c.requires.known;
-}
+pub ending_at-number-items-requires : goal.ending_at-number-items-requires
+ending_at-number-items-requires c =
+    let system = c.args.asking.now.at.system.now in
+    let size = ap (λ ls. length ls) c.args.asking.now.listed
+    ∙ length-map-range_with_len (λ p. numbers_into p 0 system.flow.edges) 0 (length system.flow.points) in
+    let within = c.requires.point in
+    omega (arith, within, size)
+
+pub offered_value-requires-clause-edge : goal.offered_value-requires-clause-edge
+offered_value-requires-clause-edge c =
+    number_within c.args.asking.now.at.system.now c.args.point c.requires.point c.ending_at-number-items.result.now
+    (c.ending_at-number-items.ensures ∙ ap (λ ls. get_or ls c.args.point []) c.args.asking.now.listed)
+    c.loop-number.number-index c.loop-number-test.true
 
 pub loop-number-preserved : goal.loop-number-preserved
 loop-number-preserved c =
-    let system = c.args.at.now.system.now in
-    let bounds = c.args.at.now.bounds.now in
-    let p = c.args.point in
-    let es = c.as_slice-edge-items.result.now in
-    let i = c.loop-number.number in
-    let edge = c.edge-item.result in
+    let system = c.args.asking.now.at.system.now in
+    let bounds = c.args.asking.now.at.bounds.now in
+    let numbers = c.ending_at-number-items.result.now in
+    let i = c.loop-number.number-index in
     let l = c.loop-number-test.true in
-    elim c.if-edge-point.branch [
-      | then-edge-point+in_ok-value+in_ok-push+in_ok-push-2 w ↦ record {
-        numbers = ap (λ v. v.items) w.edges-is ∙ w.in_ok-push.ensures.items ∙ ap (λ ns. ns ++ i ∷ []) c.loop-number.invariant.numbers
-            ∙ sym (numbers_yes p es i edge l c.edge-item.is w.if-edge-point.true);
-        values = ap (λ v. map extended v.items) w.values-is ∙ ap (map extended) w.in_ok-push-2.ensures.items
-            ∙ values_yes system bounds c.args.row p es i edge l c.edge-item.is w.if-edge-point.true c.loop-number.values.items _
-            c.loop-number.invariant.values
-            (value_here system bounds c.args.row es i edge _ c.as_slice-edge-items.ensures l c.edge-item.is w.in_ok-value.ensures.value);
-        known = subst (AreKnown system bounds) (sym w.known-is) w.in_ok-value.ensures.known;
-      }
-      | else-edge-point w ↦ record {
-        numbers = ap (λ v. v.items) w.edges-is ∙ c.loop-number.invariant.numbers
-            ∙ sym (numbers_no p es i edge l c.edge-item.is w.if-edge-point.false);
-        values = ap (λ v. map extended v.items) w.values-is ∙ c.loop-number.invariant.values
-            ∙ values_no system bounds c.args.row p es i edge l c.edge-item.is w.if-edge-point.false;
-        known = subst (AreKnown system bounds) (sym w.known-is) c.loop-number.invariant.known;
-      }
-    ]
-
-pub invariant_of-result : goal.invariant_of-result
-invariant_of-result c = record {
-  beside = same_count c.args.point (take c.loop-number.number c.as_slice-edge-items.result.now)
-      (row_value c.args.at.now.system.now c.args.at.now.bounds.now c.args.row) c.new.result c.new-2.result
-      (c.new.ensures ∙ c.loop-number.invariant.numbers) (c.new-2.ensures ∙ c.loop-number.invariant.values);
-}
+    record {
+      numbers = c.in_ok-push.ensures.items ∙ ap (λ ns. ns ++ get_or numbers i 0 ∷ []) c.loop-number.invariant.numbers
+          ∙ sym (take_more numbers i 0 l);
+      values = ap (map extended) c.in_ok-push-2.ensures.items
+          ∙ values_more system c.args.point c.requires.point numbers
+          (c.ending_at-number-items.ensures ∙ ap (λ ls. get_or ls c.args.point []) c.args.asking.now.listed)
+          bounds c.args.row i (get_or numbers i 0) c.loop-number.values.items _ l refl c.loop-number.invariant.values
+          c.in_ok-value.ensures.value;
+      known = c.in_ok-value.ensures.known;
+    }
 
 pub returns-in_err-value-clause-offer : goal.returns-in_err-value-clause-offer
 returns-in_err-value-clause-offer c =
     let q = err_from_is_err_and c.from_residual.result c.from_residual.ensures.1 in
+    let system = c.args.asking.now.at.system.now in
+    let numbers = c.ending_at-number-items.result.now in
+    let i = c.loop-number.number-index in
+    let l = c.loop-number-test.true in
+    let are = c.ending_at-number-items.ensures ∙ ap (λ ls. get_or ls c.args.point []) c.args.asking.now.listed in
     rw (q.1, q.2)
-    (stop_into c.args.at.now.system.now c.args.at.now.bounds.now c.args.row c.args.at.now.round c.requires.row c.args.point
-    c.requires.limited c.as_slice-edge-items.result.now c.loop-number.number c.edge-item.result c.as_slice-edge-items.ensures
-    c.loop-number-test.true c.edge-item.is c.if-edge-point.true c.in_err-value.field-0.0 c.in_err-value.ensures.value)
+    (stop_into system c.args.asking.now.at.bounds.now c.args.row c.args.asking.now.at.round c.requires.row c.args.point
+    c.requires.limited (get_or numbers i 0) (number_within system c.args.point c.requires.point numbers are i l)
+    (number_to system c.args.point c.requires.point numbers are i l) c.in_err-value.field-0.0 c.in_err-value.ensures.value)
+
+pub returns-clause-offer : goal.returns-clause-offer
+returns-clause-offer c =
+    let system = c.args.asking.now.at.system.now in
+    let bounds = c.args.asking.now.at.bounds.now in
+    let numbers = c.ending_at-number-items.result.now in
+    let i = c.loop-number.number-index in
+    let are = c.ending_at-number-items.ensures ∙ ap (λ ls. get_or ls c.args.point []) c.args.asking.now.listed in
+    record {
+      bound = c.at.ensures ∙ ap (λ n. get_or bounds (c.args.point * n + c.args.row) neg_inf) (ap (λ t. length t) c.as_slice.ensures.rows);
+      edges = c.new.ensures ∙ numbers_all system c.args.point c.requires.point numbers are bounds c.args.row i c.loop-number.edges.items
+          c.loop-number-test.false c.loop-number.invariant.numbers;
+      values = c.new-2.ensures ∙ values_all system c.args.point c.requires.point numbers are bounds c.args.row i c.loop-number.values.items
+          c.loop-number-test.false c.loop-number.invariant.values;
+    }
+
+pub invariant_of-result : goal.invariant_of-result
+invariant_of-result c = record {
+  beside = same_count c.args.asking.now.at.system.now c.args.point c.requires.point c.ending_at-number-items.result.now
+      (c.ending_at-number-items.ensures ∙ ap (λ ls. get_or ls c.args.point []) c.args.asking.now.listed)
+      c.args.asking.now.at.bounds.now c.args.row c.loop-number.number-index c.new.result c.new-2.result
+      (c.new.ensures ∙ c.loop-number.invariant.numbers) (c.new-2.ensures ∙ c.loop-number.invariant.values);
+}
