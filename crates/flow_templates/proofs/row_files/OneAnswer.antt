@@ -4,7 +4,7 @@ use Rattle.std.proofs.Common.{refl, ap, sym}
 use Rattle.std.proofs.Common.{subst, ◌∙◌, inl, inr}
 use Rattle.std.proofs.lemmas.Bool.{false≢true}
 use Rattle.flow_templates.specs.declared.fault.RowFault.{RowFault}
-use Rattle.flow_templates.specs.declared.fault.RowFault.TheVariants.{ZeroRow, Count, UnknownName, BadRow, Length, NoMemory}
+use Rattle.flow_templates.specs.declared.fault.RowFault.TheVariants.{ZeroRow, Count, Large, UnknownName, BadRow, Length, NoMemory}
 use Rattle.flow_templates.specs.Rows.{is_row}
 use Rattle.flow_templates.specs.RowFaults.{count_faults}
 use Rattle.flow_templates.specs.Grammar.{Amount}
@@ -149,6 +149,7 @@ pub gives_one : (names : List (List ℕ)) (text : List ℕ) (result : Result (Li
 gives_one names text (Ok template) h k answer a = one_answer names text answer (Ok template) a h
 gives_one names text (Err (ZeroRow at)) h k answer a = inr (one_answer names text answer (Err (ZeroRow at)) a (k (λ e. cc)))
 gives_one names text (Err (Count at)) h k answer a = inr (one_answer names text answer (Err (Count at)) a (k (λ e. cc)))
+gives_one names text (Err (Large count)) h k answer a = inr (one_answer names text answer (Err (Large count)) a (k (λ e. cc)))
 gives_one names text (Err (UnknownName at)) h k answer a = inr (one_answer names text answer (Err (UnknownName at)) a (k (λ e. cc)))
 gives_one names text (Err (BadRow at)) h k answer a = inr (one_answer names text answer (Err (BadRow at)) a (k (λ e. cc)))
 gives_one names text (Err (Length at)) h k answer a = inr (one_answer names text answer (Err (Length at)) a (k (λ e. cc)))
