@@ -43,6 +43,7 @@ no_fault names line n (ZeroRow at) (Some row) f r =
     false≢true (sym f.1.zero ∙ (ap (λ a. is_row (row_of names a)) (same_amounts line f.1.amounts r.amounts f.1.reads r.reads)
     ∙ (ap is_row (sym r.row_is) ∙ r.nonzero)))
 no_fault names line n (Count count) read f r = f
+no_fault names line n (Large count) read f r = f
 no_fault names line n (Length at) read f r = f
 no_fault names line n NoMemory read f r = f
 
@@ -62,9 +63,11 @@ fault_once names line n (ZeroRow a) (UnknownName b) h k =
     ∙ h.1.known)))
 fault_once names line n (ZeroRow a) (ZeroRow b) h k = ap ZeroRow (h.0 ∙ sym k.0)
 fault_once names line n (Count a) g h k = absurd h
+fault_once names line n (Large a) g h k = absurd h
 fault_once names line n (Length a) g h k = absurd h
 fault_once names line n NoMemory g h k = absurd h
 fault_once names line n f (Count b) h k = absurd k
+fault_once names line n f (Large b) h k = absurd k
 fault_once names line n f (Length b) h k = absurd k
 fault_once names line n f NoMemory h k = absurd k
 
