@@ -28,10 +28,11 @@ fn times(product: u32, factor: u32, count: usize) -> Option<u32>
     requires factor { factor ≤ MOST_EDGES + 1 }
     ensures { SomeIff result (product * factor ^ count ≤ MOST_IMPROVEMENTS) (product * factor ^ count) }
 {
+    let limit = MOST_IMPROVEMENTS as u64;
     let mut total = product as u64;
     'times: for _k in 0..count {
         total *= factor as u64;
-        if total > MOST_IMPROVEMENTS as u64 {
+        if total > limit {
             return None;
         }
     }
