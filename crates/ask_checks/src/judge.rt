@@ -6,6 +6,7 @@ ghost use Rattle.flow_edges.specs.FlowLimits.{is_action};
 ghost use Rattle.flow_systems.specs.View.{equations_of, vector_at, IsVectorOf};
 ghost use Rattle.ask_verdicts.specs.Breaking.{is_case};
 ghost use Rattle.ask_checks.specs.Verdicts.{NoneOn, SaysOpen, SaysOpenOn, FitsOn, FaultOn, CheckFits, IsCheckFault, IsCheckVerdict};
+ghost use Rattle.flow_edges.specs.declared.limits.TheConstants.{MOST_ACTIONS};
 ghost use Rattle.lang_tree.specs.declared.limits.TheConstants.{MOST_HIDDEN};
 
 use crate::outcome::CheckFault;
@@ -35,7 +36,7 @@ fn edge_verdict(
 ) -> Result<Verdict, VerdictFault>
     requires bounds { IsVectorOf system.now bounds.now }
     requires point { edge.now.from < length system.now.flow.points }
-    requires few { length edge.now.actions ≤ 256 }
+    requires few { length edge.now.actions ≤ MOST_ACTIONS }
     requires actions { IsTrue (list_all (is_action (length system.now.flow.names + MOST_HIDDEN)) edge.now.actions) }
     requires against { IsTrue (list_all (is_case (length system.now.flow.names + MOST_HIDDEN)) check.now.against) }
     ensures proved { IfOk result (λ v. (v ≡ Verdict.Proved) ↔

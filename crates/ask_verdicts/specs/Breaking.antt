@@ -7,6 +7,7 @@ use Rattle.lang_tree.specs.Limits.{is_form}
 use Rattle.flow_edges.specs.declared.edge.Action.{Action}
 use Rattle.flow_systems.specs.States.{RationalState, valueℚ, Traces}
 use Rattle.flow_systems.specs.Equations.{Equations, Vector, Fits}
+use Rattle.flow_edges.specs.declared.limits.TheConstants.{MOST_ACTIONS}
 
 -- all guards of a case have a value of at most 0 at a rational state
 abbrev pub PassesAll : List Form → RationalState → Type 0
@@ -36,6 +37,6 @@ NoneBreaks system z p before case = (x : RationalState) → Breaks system z p be
 abbrev pub NoneOpen : Equations → Vector → ℕ → List Action → List (List Form) → ℕ → Type 0
 NoneOpen system z p before cases n = (k : ℕ) → k < n → NoneBreaks system z p before (get_or cases k [])
 
--- at most 256 guards, each over n variables
+-- no more guards than an edge may have actions, each over n variables
 abbrev pub is_case : ℕ → List Form → Bool
-is_case n case = nat_le (length case) 256 && list_all (is_form n) case
+is_case n case = nat_le (length case) MOST_ACTIONS && list_all (is_form n) case

@@ -8,6 +8,7 @@ ghost use Rattle.flow_systems.specs.View.{equations_of, vector_at, IsVectorOf};
 ghost use Rattle.lp_simplex.specs.Operations.{capped};
 ghost use Rattle.ask_verdicts.specs.Breaking.{NoneBreaks, NoneOpen, is_case};
 ghost use Rattle.ask_verdicts.specs.Verdicts.{FitsFor, AllFit, IsBreaking, SaysOpen, IsFaultFor, IsFirstFault};
+ghost use Rattle.flow_edges.specs.declared.limits.TheConstants.{MOST_ACTIONS};
 ghost use Rattle.lang_tree.specs.declared.limits.TheConstants.{MOST_HIDDEN};
 
 use crate::outcome::{Verdict, VerdictFault};
@@ -39,7 +40,7 @@ fn breaking_state(
 ) -> Result<Option<Fracs>, PartFault>
     requires bounds { IsVectorOf system.now bounds.now }
     requires point { point < length system.now.flow.points }
-    requires few { length before.now ≤ 256 }
+    requires few { length before.now ≤ MOST_ACTIONS }
     requires actions { IsTrue (list_all (is_action (length system.now.flow.names + MOST_HIDDEN)) before.now) }
     requires case { IsTrue (is_case (length system.now.flow.names + MOST_HIDDEN) case.now) }
     ensures state { IfOk result (λ found. MatchOption found
@@ -73,7 +74,7 @@ pub fn verdict(
 ) -> Result<Verdict, VerdictFault>
     requires bounds { IsVectorOf system.now bounds.now }
     requires point { point < length system.now.flow.points }
-    requires few { length before.now ≤ 256 }
+    requires few { length before.now ≤ MOST_ACTIONS }
     requires actions { IsTrue (list_all (is_action (length system.now.flow.names + MOST_HIDDEN)) before.now) }
     requires against { IsTrue (list_all (is_case (length system.now.flow.names + MOST_HIDDEN)) against.now) }
     ensures proved { IfOk result (λ v. (v ≡ Verdict.Proved) ↔

@@ -57,7 +57,9 @@ fn system_over_zones(alloc: Global) -> anyhow::Result<System> {
     if flow.names.as_slice().len() != 8 {
         bail!("another number of variables");
     }
-    let template = zones(alloc, 8)?;
+    let Ok(template) = zones(alloc, 8) else {
+        bail!("no template of zones");
+    };
     match System::new(flow, template) {
         Ok(system) => Ok(system),
         Err(_) => bail!("too many unknowns"),

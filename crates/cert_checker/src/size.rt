@@ -2,6 +2,7 @@
 
 ghost use Rattle.std.specs.Prelude.{◌≡◌, ◌↔◌, ◌*◌, ◌<◌, ◌≤◌, ◌/◌, ◌%◌, ℕ, IsTrue, length};
 ghost use Rattle.base_fractions.specs.Extended.{extended};
+ghost use Rattle.flow_edges.specs.declared.limits.TheConstants.{MOST_EDGES};
 ghost use Rattle.flow_systems.specs.Equations.{Vector};
 ghost use Rattle.flow_systems.specs.View.{equations_of};
 ghost use Rattle.theory_validity.specs.Certificates.{into_needs, needs_at, needs, bounds_vector};
@@ -24,7 +25,7 @@ fn count_into(edges: &[Edge], point: u32) -> usize
 fn count_at(system: &System, unknown: u32, bound: Ext) -> usize
     ensures count { let rows = length system.now.template in
         result ≡ length (needs_at (equations_of system.now) (unknown / rows) (unknown % rows) (extended bound)) }
-    ensures few { result ≤ 256 }
+    ensures few { result ≤ MOST_EDGES }
 {
     let rows = system.template.as_slice().len() as u32;
     match bound {

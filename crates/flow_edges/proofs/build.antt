@@ -1,1 +1,2 @@
+pub mod ActionTotals
 pub mod EdgeLimits

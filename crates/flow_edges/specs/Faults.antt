@@ -1,6 +1,7 @@
 -- Why a program has no flow within the limits.
 use Rattle.std.specs.Prelude.{ℕ, ◌||◌, Bool, true, false, List, [], ◌∷◌, ◌++◌, Option, Some, None, length, nat_lt, option_map, position}
 use Rattle.std.specs.Prelude.{if◌then◌else◌}
+use Rattle.std.specs.List.{sum_by}
 use Rattle.lang_tree.specs.Tree.{Condition, Statement, Statements, set, havoc, assume, only_where, check, branch, loop, jump, label}
 use Rattle.lang_tree.specs.Tree.{nil, cons, Deed, sets, havocs, wheres, checks, LoopKind, while_loop, for_loop, do_loop}
 use Rattle.lang_tree.specs.Cases.{cases_of}
@@ -10,7 +11,7 @@ use Rattle.flow_edges.specs.declared.fault.FlowFault.{FlowFault}
 use Rattle.flow_edges.specs.declared.fault.FlowFault.TheVariants as fault
 use Rattle.flow_edges.specs.Edges.{edges_of_program}
 use Rattle.flow_edges.specs.Checks.{checks_in}
-use Rattle.flow_edges.specs.declared.limits.TheConstants.{MOST_POINTS, MOST_CHECKS}
+use Rattle.flow_edges.specs.declared.limits.TheConstants.{MOST_POINTS, MOST_EDGES, MOST_ACTIONS, MOST_ALL_ACTIONS, MOST_CHECKS}
 
 -- a condition has more than 64 cases for this truth
 abbrev pub is_wide : Bool → Condition → Bool
@@ -59,19 +60,35 @@ abbrev pub first_of : List ℕ → Option ℕ
 first_of [] = None
 first_of (n ∷ ns) = Some n
 
--- an edge with more than 256 actions
+-- an edge with more actions than so many
+abbrev pub is_longer : ℕ → Edge → Bool
+is_longer most e = nat_lt most (length e.actions)
+
+-- an edge with more actions than it may have
 abbrev pub is_long : Edge → Bool
-is_long e = nat_lt 256 (length e.actions)
+is_long e = is_longer MOST_ACTIONS e
 
 -- the first edge that is too long
 abbrev pub long_fault : List Edge → Option FlowFault
 long_fault edges = option_map (λ e. fault.Actions e) (position is_long edges)
 
--- what is seen by counting: the first line with a condition of more than 64 cases, or else too many points, or else more than 256 edges
+-- how many actions an edge has
+abbrev pub action_count : Edge → ℕ
+action_count e = length e.actions
+
+-- edges with more actions together than all edges may have
+abbrev pub has_many_actions : List Edge → Bool
+has_many_actions edges = nat_lt MOST_ALL_ACTIONS (sum_by action_count edges)
+
+-- too many actions of all edges together
+abbrev pub actions_fault : List Edge → Option FlowFault
+actions_fault edges = if has_many_actions edges then Some fault.AllActions else None
+
+-- what is seen by counting: the first line with a condition of more than 64 cases, or else too many points, or else too many edges
 abbrev pub counted_after : List ℕ → Statements → Option FlowFault
 counted_after [] body =
     if nat_lt MOST_POINTS (point_count body) then Some (fault.Points (point_count body))
-    else (if nat_lt 256 (length (edges_of_program body)) then Some fault.Edges else None)
+    else (if nat_lt MOST_EDGES (length (edges_of_program body)) then Some fault.Edges else None)
 counted_after (line ∷ lines) body = Some (fault.Cases line)
 
 -- what is seen by counting of a program
@@ -87,6 +104,8 @@ fault_or (Some f) other = Some f
 abbrev pub checks_fault : Statements → Option FlowFault
 checks_fault body = if nat_lt MOST_CHECKS (length (checks_in body)) then Some (fault.Checks (length (checks_in body))) else None
 
--- the first fault of a program: what is seen by counting, or else the first edge that is too long, or else too many checks
+-- the first fault of a program: what is seen by counting, or else the first edge that is too long, or else too many actions of all edges, or
+-- else too many checks
 abbrev pub fault_of_program : Statements → Option FlowFault
-fault_of_program body = fault_or (counted_fault body) (fault_or (long_fault (edges_of_program body)) (checks_fault body))
+fault_of_program body = fault_or (counted_fault body) (fault_or (long_fault (edges_of_program body))
+    (fault_or (actions_fault (edges_of_program body)) (checks_fault body)))

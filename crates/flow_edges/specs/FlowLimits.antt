@@ -8,7 +8,7 @@ use Rattle.flow_edges.specs.declared.edge.Edge.{Edge}
 use Rattle.flow_edges.specs.declared.point.Place.{Place}
 use Rattle.flow_edges.specs.declared.point.Place.TheVariants.{Entry, Loop, Label, Join, Assume, Exit}
 use Rattle.flow_edges.specs.declared.point.Point.{Point}
-use Rattle.flow_edges.specs.declared.limits.TheConstants.{MOST_POINTS}
+use Rattle.flow_edges.specs.declared.limits.TheConstants.{MOST_POINTS, MOST_EDGES, MOST_ACTIONS}
 use Rattle.lang_tree.specs.declared.limits.TheConstants.{MOST_VARIABLES, MOST_HIDDEN}
 
 -- the entry
@@ -45,10 +45,10 @@ is_action n (Assign var form) = nat_lt var n && is_form n form
 is_action n (Havoc var) = nat_lt var n
 is_action n (Check about) = true
 
--- it goes from a point to another than the entry, with at most 256 actions
+-- it goes from a point to another than the entry, with no more actions than it may have
 abbrev pub is_edge : ℕ → ℕ → Edge → Bool
 is_edge n points e = nat_lt e.from points && (nat_lt 0 e.to && (nat_lt e.to points
-    && (nat_le (length e.actions) 256 && list_all (is_action n) e.actions)))
+    && (nat_le (length e.actions) MOST_ACTIONS && list_all (is_action n) e.actions)))
 
 -- at least one name and two points, and no more of them and of edges than there may be; actions are over the variables of these names and
 -- the hidden ones behind them
@@ -57,4 +57,4 @@ is_flow names points edges =
     (nat_le 1 (length names) && nat_le (length names) MOST_VARIABLES)
     && ((nat_le 2 (length points) && nat_le (length points) MOST_POINTS)
     && ((begins_with_entry points && list_all has_line points)
-    && (nat_le (length edges) 256 && list_all (is_edge (length names + MOST_HIDDEN) (length points)) edges)))
+    && (nat_le (length edges) MOST_EDGES && list_all (is_edge (length names + MOST_HIDDEN) (length points)) edges)))

@@ -8,6 +8,7 @@ use Rattle.lang_tree.specs.PointNumbers.{splits, points_of, points_in, join_of, 
 use Rattle.flow_edges.specs.declared.edge.Action.{Action}
 use Rattle.flow_edges.specs.declared.edge.Action.TheVariants.{Assign, Havoc, Check}
 use Rattle.flow_edges.specs.declared.edge.Edge.{Edge}
+use Rattle.flow_edges.specs.declared.limits.TheConstants.{KEPT}
 use Rattle.flow_edges.specs.declared.onward.JumpEdges.{JumpEdges}
 use Rattle.flow_edges.specs.Steps.{guards}
 use Rattle.flow_edges.specs.Edges.{Way, arrived, by_case, deeds_ways, Jumps, no_jumps, end_ways, loop_jumps, head_ways, ways_in, complete}
@@ -18,9 +19,9 @@ pub record Begun : Type 0 where
   pub from : ℕ
   pub actions : List Action
 
--- of an edge's actions the first 257 are kept: with more than 256 it is refused
+-- of an edge's actions those up to one more than it may have are kept: with more than it may have it is refused
 abbrev pub kept : List Action → List Action
-kept actions = take 257 actions
+kept actions = take KEPT actions
 
 -- an edge that is begun at a point
 abbrev pub begun_at : ℕ → Begun
@@ -104,12 +105,12 @@ edges_in_loop (loop kind c body line) n next returned = edges_in_node (loop kind
 edges_in_loop (jump kind line) n next returned = []
 edges_in_loop (label name line) n next returned = []
 
--- the edges of a program, each with the first 257 of its actions
+-- the edges of a program, each with the actions that are kept of it
 abbrev pub kept_edges : Statements → List Edge
 kept_edges body =
     let exit = arrived (exit_of body) in
     reached (begun_at 0) (ways_in body 1 (no_jumps exit) exit) ++ edges_in_nodes body 1 (no_jumps exit) exit
 
--- an edge with the first 257 of its actions
+-- an edge with the actions that are kept of it
 abbrev pub kept_edge : Edge → Edge
 kept_edge e = record e { actions = kept e.actions }

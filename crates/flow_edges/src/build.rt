@@ -4,7 +4,7 @@ ghost use Rattle.std.specs.Prelude.{◌≡◌, ◌<◌, ◌^◌, ◌⊎◌, IfOk
 ghost use Rattle.lang_tree.specs.PointNumbers.{point_count};
 ghost use Rattle.flow_edges.specs.Edges.{edges_of_program};
 ghost use Rattle.flow_edges.specs.Points.{points_of_program};
-ghost use Rattle.flow_edges.specs.Faults.{counted_fault, fault_of_program, is_long};
+ghost use Rattle.flow_edges.specs.Faults.{counted_fault, fault_of_program, has_many_actions, is_long};
 
 use crate::checked::check_count;
 use crate::count::points_in;
@@ -12,18 +12,12 @@ use crate::edge::{Edge, Edges};
 use crate::edge_count::edge_count;
 use crate::fault::FlowFault;
 use crate::graph::Flow;
-use crate::limits::{MOST_CHECKS, MOST_POINTS};
+use crate::limits::{MOST_ACTIONS, MOST_ALL_ACTIONS, MOST_CHECKS, MOST_EDGES, MOST_POINTS};
 use crate::places::points_of_program;
 use crate::point_edges::edges_of;
 use crate::wide::wide_line;
 use lang_tree::{Block, Program};
 use std::alloc::Global;
-
-/// The greatest number of edges.
-const MOST_EDGES: u32 = 256;
-
-/// The greatest number of actions of an edge.
-const MOST_ACTIONS: usize = 256;
 
 /// The points and the edges of the program: exactly its paths, one edge for each way of choosing, in order of their
 /// points and, for one point, in order of the choices.
@@ -47,6 +41,9 @@ pub fn flow(alloc: Global, program: &Program) -> Result<Flow, FlowFault>
     let edges = edges_of(alloc, &program.body, exit)?;
     if let Some(edge) = long_edge(&edges) {
         return Err(FlowFault::Actions { edge });
+    }
+    if are_too_many(&edges) {
+        return Err(FlowFault::AllActions);
     }
     let count = check_count(program.body.as_slice());
     if count > MOST_CHECKS {
@@ -101,4 +98,19 @@ fn is_long(edge: &Edge) -> bool
     ensures { result ≡ is_long edge.now }
 {
     edge.actions.as_slice().len() > MOST_ACTIONS
+}
+
+/// Whether the edges have too many actions together.
+fn are_too_many(edges: &[Edge]) -> bool
+    ensures { result ≡ has_many_actions edges.now }
+{
+    let mut left = MOST_ALL_ACTIONS;
+    for edge in edges {
+        let count = edge.actions.as_slice().len();
+        if count > left {
+            return true;
+        }
+        left -= count;
+    }
+    false
 }

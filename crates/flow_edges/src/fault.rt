@@ -12,10 +12,12 @@ pub enum FlowFault {
     Cases { line: u32 },
     /// There are this many points, which is more than `MOST_POINTS`.
     Points { count: u32 },
-    /// There are more than 256 edges.
+    /// There are more than `MOST_EDGES` edges.
     Edges,
-    /// The edge with this number, from 0, has more than 256 actions; of several such edges it is the lowest.
+    /// The edge with this number, from 0, has more than `MOST_ACTIONS` actions; of several such edges it is the lowest.
     Actions { edge: u32 },
+    /// All edges together have more than `MOST_ALL_ACTIONS` actions.
+    AllActions,
     /// There are this many checks, which is more than `MOST_CHECKS`.
     Checks { count: u32 },
     NoMemory,

@@ -37,6 +37,6 @@ pub use law::{
     checks_are_on_edges, conditions_have_room, edges_are_in_range, edges_are_paths,
     points_are_numbered, steps_are_recorded, ways_are_steps, work_behind_points,
 };
-pub use limits::{MOST_CHECKS, MOST_POINTS};
+pub use limits::{KEPT, MOST_ACTIONS, MOST_ALL_ACTIONS, MOST_CHECKS, MOST_EDGES, MOST_POINTS};
 pub use listing::cases;
 pub use point::{Place, Point, Points};

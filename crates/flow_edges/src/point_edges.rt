@@ -19,7 +19,7 @@ use crate::trail::Trail;
 use lang_tree::{Block, Cond, Deed, Stmt};
 use std::alloc::{AllocError, Global};
 
-/// The edges of the program in order, each with at most 257 of its actions. `exit` is the number of the last point.
+/// The edges of the program in order, each with at most `KEPT` of its actions. `exit` is the number of the last point.
 pub(crate) fn edges_of(alloc: Global, body: &Block, exit: u32) -> Result<Vec<Edge>, AllocError>
     requires room { IsTrue (have_rooms body.now) }
     requires last { exit ≡ exit_of body.now }

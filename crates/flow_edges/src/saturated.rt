@@ -2,8 +2,10 @@
 
 ghost use Rattle.std.specs.Prelude.{◌≡◌, ◌+◌, ◌*◌, ◌≤◌, min};
 
+use crate::limits::MOST_EDGES;
+
 /// Where counting stops: one more than a program may have edges, and more than a condition may have cases.
-pub(crate) const ENOUGH: u32 = 257;
+pub(crate) const ENOUGH: u32 = MOST_EDGES + 1;
 
 /// The sum.
 pub(crate) fn sum(a: u32, b: u32) -> u32

@@ -6,11 +6,9 @@ ghost use Rattle.flow_edges.specs.Trails.{begun_at, followed, kept};
 
 use crate::case::Case;
 use crate::edge::{Action, Actions, Edge};
+use crate::limits::KEPT;
 use std::alloc::{AllocError, Global};
 use std::marker::Model;
-
-/// How many actions of an edge are kept: an edge with more than 256 is refused, so what comes later doesn't matter.
-const KEPT: usize = 257;
 
 /// An edge as far as it has been walked: the point where it starts, and its first actions.
 #[derive(Drop)]
@@ -22,12 +20,13 @@ pub(crate) struct Trail {
 impl Model for Trail {
     ghost use Rattle.std.specs.Prelude.{◌≤◌, length};
     ghost use Rattle.flow_edges.specs.Trails.{Begun};
+    ghost use Rattle.flow_edges.specs.declared.limits.TheConstants.{KEPT};
 
     ghost Value = { Begun };
 
     ghost view = { λ t. record { from = t.from; actions = t.actions.items } };
 
-    ghost invariant = { λ t. length t.actions.items ≤ 257 };
+    ghost invariant = { λ t. length t.actions.items ≤ KEPT };
 }
 
 impl Trail {
@@ -54,7 +53,7 @@ impl Trail {
     /// The same edge once more.
     pub(crate) fn again(&self, alloc: Global) -> Result<Trail, AllocError>
         ensures same { IfOk result (λ copy. copy ≡ self.now) }
-        ensures short { length self.now.actions ≤ 257 }
+        ensures short { length self.now.actions ≤ KEPT }
     {
         let actions = copies(alloc, &self.actions)?;
         Ok(Trail {

@@ -14,6 +14,7 @@ use Rattle.flow_edges.specs.FlowLimits.{is_action, is_edge}
 use Rattle.flow_systems.specs.declared.values.TheConstants.{MOST_VALUES}
 use Rattle.flow_systems.proofs.Sizes.{both, flow_sizes}
 use Rattle.flow_systems.proofs.trace_tests.Traced.{all_at}
+use Rattle.flow_edges.specs.declared.limits.TheConstants.{MOST_ACTIONS}
 
 form_grows : (m n : ℕ) (form : Form) → m ≤ n → IsTrue (is_form m form) → IsTrue (is_form n form)
 form_grows m n form l h =
@@ -42,8 +43,8 @@ actions_grow m n (a ∷ actions) l h =
 
 -- an edge of a flow has few actions, over its names and hidden variables
 pub record EdgeFits (n : ℕ) (actions : List Action) : Type 0 where
-  -- there are at most 256 actions
-  pub few : length actions ≤ 256
+  -- there are few actions
+  pub few : length actions ≤ MOST_ACTIONS
   -- each is over so many variables
   pub actions_fit : IsTrue (list_all (is_action n) actions)
 
@@ -58,8 +59,8 @@ edge_fits flow edges i edge same l e =
     let a = both (nat_lt edge.from m) _ this in
     let b = both (nat_lt 0 edge.to) _ a.1 in
     let c = both (nat_lt edge.to m) _ b.1 in
-    let d = both (nat_le (length edge.actions) 256) (list_all (is_action n) edge.actions) c.1 in
-    record { few = leb-true (length edge.actions) 256 d.0; actions_fit = d.1 }
+    let d = both (nat_le (length edge.actions) MOST_ACTIONS) (list_all (is_action n) edge.actions) c.1 in
+    record { few = leb-true (length edge.actions) MOST_ACTIONS d.0; actions_fit = d.1 }
 
 -- its actions are over few variables
 pub few_values : (flow : Flow) (actions : List Action) → IsTrue (list_all (is_action (length flow.names + MOST_HIDDEN)) actions)
@@ -72,11 +73,11 @@ edge_grows m n points edge l h =
     let a = both (nat_lt edge.from points) _ h in
     let b = both (nat_lt 0 edge.to) _ a.1 in
     let c = both (nat_lt edge.to points) _ b.1 in
-    let d = both (nat_le (length edge.actions) 256) (list_all (is_action m) edge.actions) c.1 in
+    let d = both (nat_le (length edge.actions) MOST_ACTIONS) (list_all (is_action m) edge.actions) c.1 in
     and_from (nat_lt edge.from points) _ a.0
     (and_from (nat_lt 0 edge.to) _ b.0
     (and_from (nat_lt edge.to points) _ c.0
-    (and_from (nat_le (length edge.actions) 256) (list_all (is_action n) edge.actions) d.0 (actions_grow m n edge.actions l d.1))))
+    (and_from (nat_le (length edge.actions) MOST_ACTIONS) (list_all (is_action n) edge.actions) d.0 (actions_grow m n edge.actions l d.1))))
 
 -- edges over some variables are edges over more
 pub edges_grow : (m n points : ℕ) (edges : List Edge) → m ≤ n → IsTrue (list_all (is_edge m points) edges)

@@ -7,7 +7,7 @@ use Rattle.flow_edges.specs.declared.graph.Flow.{Flow}
 use Rattle.flow_edges.specs.FlowLimits.{begins_with_entry, has_line, is_edge}
 use Rattle.flow_templates.specs.Rows.{is_template}
 use Rattle.flow_templates.specs.declared.limits.TheConstants.{MOST_ROWS}
-use Rattle.flow_edges.specs.declared.limits.TheConstants.{MOST_POINTS}
+use Rattle.flow_edges.specs.declared.limits.TheConstants.{MOST_POINTS, MOST_EDGES}
 use Rattle.lang_tree.specs.declared.limits.TheConstants.{MOST_VARIABLES, MOST_HIDDEN}
 
 -- two tests that hold together each hold
@@ -35,7 +35,7 @@ flow_sizes flow =
     let c = both (begins_with_entry flow.points && list_all has_line flow.points) _ b.1 in
     let n = both (nat_le 1 (length flow.names)) (nat_le (length flow.names) MOST_VARIABLES) a.0 in
     let p = both (nat_le 2 (length flow.points)) (nat_le (length flow.points) MOST_POINTS) b.0 in
-    let e = both (nat_le (length flow.edges) 256)
+    let e = both (nat_le (length flow.edges) MOST_EDGES)
     (list_all (is_edge (length flow.names + MOST_HIDDEN) (length flow.points)) flow.edges) c.1 in
     record {
       names = leb-true (length flow.names) MOST_VARIABLES n.1;

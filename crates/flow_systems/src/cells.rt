@@ -5,6 +5,7 @@ ghost use Rattle.std.specs.List.{count_by, list_any};
 ghost use Rattle.flow_systems.specs.FreeValues.{free_count};
 ghost use Rattle.flow_systems.specs.View.{equations_of};
 ghost use Rattle.flow_systems.specs.Cells.{is_havoc, guard_count, most, unknown_rows, unknown_columns, cells_of};
+ghost use Rattle.flow_edges.specs.declared.limits.TheConstants.{MOST_ACTIONS};
 ghost use Rattle.flow_templates.specs.declared.limits.TheConstants.{MOST_ROWS};
 ghost use Rattle.lang_tree.specs.declared.limits.TheConstants.{MOST_VARIABLES};
 
@@ -59,8 +60,8 @@ impl System {
     fn sizes(&self, point: u32) -> (u64, u64)
         ensures rows { result.0 ≡ length self.now.template * unknown_rows (equations_of self.now) point }
         ensures columns { result.1 ≡ length self.now.template * unknown_columns (equations_of self.now) point }
-        ensures few_rows { result.0 ≤ MOST_ROWS * (MOST_ROWS + 257) }
-        ensures few_columns { result.1 ≤ MOST_ROWS * (2 * MOST_VARIABLES + 513) }
+        ensures few_rows { result.0 ≤ length self.now.template * (MOST_ROWS + MOST_ACTIONS + 1) }
+        ensures few_columns { result.1 ≤ length self.now.template * (2 * MOST_VARIABLES + 2 * MOST_ACTIONS + 1) }
     {
         let rows = self.template.as_slice().len() as u64;
         let variables = self.flow.names.as_slice().len() as u64;

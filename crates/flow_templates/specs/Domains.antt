@@ -1,6 +1,9 @@
 -- The templates of intervals, zones and octagons over n variables.
-use Rattle.std.specs.Prelude.{ℕ, ℤ, pos, negsuc, ◌+ℤ◌, ◌==◌, nat_lt, if◌then◌else◌, List, [], ◌∷◌, ◌++◌, map}
+use Rattle.std.specs.Prelude.{ℕ, ℤ, pos, negsuc, ◌+ℤ◌, ◌==◌, nat_lt, nat_le, if◌then◌else◌, List, [], ◌∷◌, ◌++◌, length, map, Result, Ok, Err}
 use Rattle.std.specs.List.{range_with_len, flat_map}
+use Rattle.flow_templates.specs.declared.fault.RowFault.{RowFault}
+use Rattle.flow_templates.specs.declared.fault.RowFault.TheVariants.{Large}
+use Rattle.flow_templates.specs.declared.limits.TheConstants.{MOST_ROWS}
 
 -- the coefficient of variable k in c times variable i
 abbrev pub term : ℤ → ℕ → ℕ → ℤ
@@ -41,3 +44,7 @@ signed_sums n i j =
 -- intervals, and then the signed sums of each pair
 abbrev pub octagons_of : ℕ → List (List ℤ)
 octagons_of n = intervals_of n ++ flat_map (λ i. flat_map (signed_sums n i) (range_with_len 0 n)) (range_with_len 0 n)
+
+-- what a ready-made template of these rows is: the template, or that its rows are too many
+abbrev pub ready : List (List ℤ) → Result (List (List ℤ)) RowFault
+ready rows = if nat_le (length rows) MOST_ROWS then Ok rows else Err (Large (length rows))

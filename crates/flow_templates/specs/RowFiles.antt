@@ -4,7 +4,7 @@ use Rattle.std.specs.Prelude.{Some, None}
 use Rattle.std.specs.Prelude.{option_to_list, Result, Ok, Err}
 use Rattle.std.specs.List.{list_all, slice_split}
 use Rattle.flow_templates.specs.declared.fault.RowFault.{RowFault}
-use Rattle.flow_templates.specs.declared.fault.RowFault.TheVariants.{ZeroRow, Count, UnknownName, BadRow, Length, NoMemory}
+use Rattle.flow_templates.specs.declared.fault.RowFault.TheVariants.{ZeroRow, Count, Large, UnknownName, BadRow, Length, NoMemory}
 use Rattle.flow_templates.specs.Rows.{is_row}
 use Rattle.flow_templates.specs.RowFaults.{count_faults}
 use Rattle.flow_templates.specs.Grammar.{Amount, ReadsTerms}
@@ -69,6 +69,7 @@ FaultAt names line number (BadRow at) = (at ≡ number) × IsBad line
 FaultAt names line number (UnknownName at) = (at ≡ number) × IsUnknown names line
 FaultAt names line number (ZeroRow at) = (at ≡ number) × IsZero names line
 FaultAt names line number (Count count) = ⊥
+FaultAt names line number (Large count) = ⊥
 FaultAt names line number (Length at) = ⊥
 FaultAt names line number NoMemory = ⊥
 

@@ -1,12 +1,15 @@
 //! The templates that serve any program: intervals, zones and octagons.
 
-ghost use Rattle.std.specs.Prelude.{◌≡◌, ◌≢◌, ◌+◌, ◌-◌, ◌*◌, ◌<◌, ◌≤◌, ◌++◌, length, IfOk, OnOk, IsTrue};
+ghost use Rattle.std.specs.Prelude.{◌≡◌, ◌≢◌, ◌+◌, ◌-◌, ◌*◌, ◌<◌, ◌≤◌, ◌++◌, length, Ok, Err, IfOk, IfErr, OnOk, IsTrue};
 ghost use Rattle.std.specs.List.{range_with_len, flat_map};
 ghost use Rattle.lang_tree.specs.Numbers.{is_number};
 ghost use Rattle.flow_templates.specs.Rows.{width_of};
-ghost use Rattle.flow_templates.specs.Domains.{multiple, combination, intervals_of, difference, zones_of, signed_sums, octagons_of};
+ghost use Rattle.flow_templates.specs.Domains.{multiple, combination, intervals_of, difference, zones_of, signed_sums, octagons_of, ready};
+ghost use Rattle.flow_templates.specs.declared.fault.RowFault.TheVariants.{NoMemory};
 ghost use Rattle.lang_tree.specs.declared.limits.TheConstants.{MOST_VARIABLES};
 
+use crate::fault::RowFault;
+use crate::limits::MOST_ROWS;
 use crate::template::Template;
 use lang_tree::Coeffs;
 use std::alloc::{AllocError, Global};
@@ -139,7 +142,8 @@ fn octagon_rows(alloc: Global, vars: u32) -> Result<Vec<Coeffs>, AllocError>
     Ok(rows)
 }
 
-/// The template of intervals over 1 to `MOST_VARIABLES` variables: for each variable `x`, the rows `x` and `-x`.
+/// The template of intervals over 1 to `MOST_VARIABLES` variables: for each variable `x`, the rows `x` and `-x`, of which there are never
+/// more than `MOST_ROWS`.
 ///
 /// It fails for want of memory alone. `docs/FORMATS.md` has the order of the rows.
 pub fn intervals(alloc: Global, vars: u32) -> Result<Template, AllocError>
@@ -155,27 +159,39 @@ pub fn intervals(alloc: Global, vars: u32) -> Result<Template, AllocError>
 /// The template of zones over 1 to `MOST_VARIABLES` variables: the rows of intervals, and then for each ordered pair of different
 /// variables `x` and `y`, by `x` and then by `y`, the row `x - y`.
 ///
-/// It fails for want of memory alone. `docs/FORMATS.md` has the order of the rows.
-pub fn zones(alloc: Global, vars: u32) -> Result<Template, AllocError>
+/// It refuses more rows than `MOST_ROWS` by `Large`, before any is made. `docs/FORMATS.md` has the order of the rows.
+pub fn zones(alloc: Global, vars: u32) -> Result<Template, RowFault>
     requires some { 1 ≤ vars }
     requires few { vars ≤ MOST_VARIABLES }
+    ensures template { IfOk result (λ template. Ok template ≡ ready (zones_of vars)) }
     ensures rows { IfOk result (λ template. template ≡ zones_of vars) }
     ensures width { IfOk result (λ template. width_of template ≡ vars) }
     ensures count { IfOk result (λ template. length template ≡ 2 * vars + vars * (vars - 1)) }
+    ensures refused { IfErr result (λ fault. fault ≢ NoMemory → Err fault ≡ ready (zones_of vars)) }
 {
+    let count = 2 * vars + vars * (vars - 1);
+    if count > MOST_ROWS {
+        return Err(RowFault::Large { count });
+    }
     Ok(Template::new(zone_rows(alloc, vars)?))
 }
 
 /// The template of octagons over 1 to `MOST_VARIABLES` variables: the rows of intervals, and then for each pair of variables `x` and
 /// a later `y`, by `x` and then by `y`, the rows `x + y`, `x - y`, `-x + y` and `-x - y`.
 ///
-/// It fails for want of memory alone. `docs/FORMATS.md` has the order of the rows.
-pub fn octagons(alloc: Global, vars: u32) -> Result<Template, AllocError>
+/// It refuses more rows than `MOST_ROWS` by `Large`, before any is made. `docs/FORMATS.md` has the order of the rows.
+pub fn octagons(alloc: Global, vars: u32) -> Result<Template, RowFault>
     requires some { 1 ≤ vars }
     requires few { vars ≤ MOST_VARIABLES }
+    ensures template { IfOk result (λ template. Ok template ≡ ready (octagons_of vars)) }
     ensures rows { IfOk result (λ template. template ≡ octagons_of vars) }
     ensures width { IfOk result (λ template. width_of template ≡ vars) }
     ensures count { IfOk result (λ template. length template ≡ 2 * vars * vars) }
+    ensures refused { IfErr result (λ fault. fault ≢ NoMemory → Err fault ≡ ready (octagons_of vars)) }
 {
+    let count = 2 * vars * vars;
+    if count > MOST_ROWS {
+        return Err(RowFault::Large { count });
+    }
     Ok(Template::new(octagon_rows(alloc, vars)?))
 }

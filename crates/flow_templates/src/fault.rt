@@ -5,13 +5,15 @@ use std::alloc::{AllocError, AllocFailed};
 /// Why rows are no template. Lines are numbered from 1.
 ///
 /// The first faulty line decides, and in a line the first of `Length`, `BadRow`, `UnknownName` and `ZeroRow` that fits;
-/// `Count` comes only where no line is faulty. `docs/FORMATS.md` has the rules.
+/// `Count` comes only where no line is faulty. `Large` comes of ready-made templates alone. `docs/FORMATS.md` has the rules.
 #[derive(Clone, Copy, Debug, PartialEq, Eq)]
 pub enum RowFault {
     /// All coefficients of the row on this line are 0.
     ZeroRow { line: u32 },
     /// There are no rows, or more than `MOST_ROWS`; `count` is their number.
     Count { count: u32 },
+    /// A ready-made template over the variables has so many rows, more than `MOST_ROWS`: `count`.
+    Large { count: u32 },
     /// The row on this line names no variable of the program.
     UnknownName { line: u32 },
     /// This line is neither blank nor a row, or a coefficient leaves `2^63 - 1`.

@@ -1,4 +1,4 @@
 //! How many rows a template may have.
 
 /// The greatest number of rows of a template.
-pub const MOST_ROWS: u32 = 288;
+pub const MOST_ROWS: u32 = 2048;

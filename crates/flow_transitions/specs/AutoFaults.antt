@@ -3,10 +3,11 @@ use Rattle.std.specs.Prelude.{◌||◌, ℕ, Bool, true, false, List, Option, So
 use Rattle.std.specs.List.{find}
 use Rattle.lang_tree.specs.Tree.{Statement, Statements, set, havoc, assume, only_where, check, branch, loop, jump, label, nil, cons}
 use Rattle.flow_edges.specs.declared.edge.Edge.{Edge}
-use Rattle.flow_edges.specs.Faults.{is_wide, is_long}
+use Rattle.flow_edges.specs.Faults.{is_wide, is_longer}
 use Rattle.flow_transitions.specs.declared.auto_edge.AutoEdge.{AutoEdge}
 use Rattle.flow_transitions.specs.declared.fault.AutoFault.{AutoFault}
 use Rattle.flow_transitions.specs.declared.fault.AutoFault.TheVariants.{Cases, Edges, Actions}
+use Rattle.flow_transitions.specs.declared.limits.TheConstants.{MOST_EDGES, MOST_ACTIONS}
 use Rattle.flow_transitions.specs.Choices.{edges_of}
 
 -- an assumption with more than 64 cases
@@ -32,9 +33,13 @@ cases_fault edges = option_map (λ e. Cases e.at) (find (λ e. has_wide e.acts) 
 
 -- more edges than there may be
 abbrev pub edges_fault : List Edge → Option AutoFault
-edges_fault edges = if nat_lt 256 (length edges) then Some Edges else None
+edges_fault edges = if nat_lt MOST_EDGES (length edges) then Some Edges else None
 
--- the first edge with more actions than there may be
+-- an edge with more actions than it may have
+abbrev pub is_long : Edge → Bool
+is_long e = is_longer MOST_ACTIONS e
+
+-- the first edge that is too long
 abbrev pub actions_fault : List Edge → Option AutoFault
 actions_fault edges = option_map (λ k. Actions k) (position is_long edges)
 

@@ -8,7 +8,7 @@ use Rattle.lang_tokens.specs.declared.fault.LexFault.{LexFault}
 use Rattle.lang_tokens.specs.Reading.{Reads}
 use Rattle.lang_tokens.specs.Faults.{HasFault}
 use Rattle.lang_grammar.specs.View.{tokens_of}
-use Rattle.lang_tree.specs.declared.limits.TheConstants.{MOST_VARIABLES}
+use Rattle.flow_transitions.specs.declared.limits.TheConstants.{MOST_VARIABLES}
 use Rattle.lang_tree.specs.declared.form.Form.{Form}
 use Rattle.lang_tree.specs.Tree.{Condition, Statement, Statements, assume, nil, cons}
 use Rattle.lang_meaning.specs.declared.fault.ParseFault.{ParseFault}
@@ -19,7 +19,7 @@ use Rattle.lang_meaning.specs.Names.{place_of}
 use Rattle.lang_meaning.specs.Walk.{assignment}
 use Rattle.lang_meaning.specs.Expressions.{Meaning, as_truth}
 use Rattle.lang_meaning.specs.ExpressionAnswers.{ExpressionMeans}
-use Rattle.flow_edges.specs.declared.limits.TheConstants.{MOST_POINTS}
+use Rattle.flow_transitions.specs.declared.limits.TheConstants.{MOST_POINTS}
 use Rattle.flow_transitions.specs.declared.auto_edge.AutoEdge.{AutoEdge}
 use Rattle.flow_transitions.specs.declared.fault.AutoFault.{AutoFault}
 use Rattle.flow_transitions.specs.declared.fault.AutoFault.TheVariants as fault

@@ -4,9 +4,9 @@ use Rattle.lang_tokens.specs.Lines.{line_at}
 use Rattle.lang_grammar.specs.Expressions.{IsLongest, FindsExpr, FineExpr, ReadsExpr, nests_at}
 use Rattle.lang_grammar.specs.Grammar.{Kind, a_name, semicolon, Token, token, Expr, spell_expr, Groups}
 use Rattle.lang_tree.specs.declared.form.Form.{Form}
-use Rattle.lang_tree.specs.declared.limits.TheConstants.{MOST_VARIABLES}
+use Rattle.flow_transitions.specs.declared.limits.TheConstants.{MOST_VARIABLES}
 use Rattle.lang_tree.specs.Tree.{Condition, Statement, Statements, assume, nil, cons}
-use Rattle.flow_edges.specs.declared.limits.TheConstants.{MOST_POINTS}
+use Rattle.flow_transitions.specs.declared.limits.TheConstants.{MOST_POINTS}
 use Rattle.lang_meaning.specs.declared.fault.Limit.TheVariants.{Nesting, Variables}
 use Rattle.lang_meaning.specs.declared.fault.ParseFault.{ParseFault}
 use Rattle.lang_meaning.specs.declared.fault.ParseFault.TheVariants as parse

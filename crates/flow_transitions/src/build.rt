@@ -1,9 +1,8 @@
 //! From a transition system to its points and edges.
 
 ghost use Rattle.std.specs.Prelude.{◌≡◌, ◌<◌, ◌^◌, ◌⊎◌, IfOk, IfErr, IfSome, None, Some, length, position};
-ghost use Rattle.flow_edges.specs.Faults.{is_long};
 ghost use Rattle.flow_transitions.specs.Choices.{edges_of};
-ghost use Rattle.flow_transitions.specs.AutoFaults.{fault_of};
+ghost use Rattle.flow_transitions.specs.AutoFaults.{fault_of, is_long};
 
 use crate::auto::Auto;
 use crate::counting::edge_count;

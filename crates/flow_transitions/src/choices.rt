@@ -7,18 +7,16 @@ ghost use Rattle.lang_tree.specs.Cases.{cases_of};
 ghost use Rattle.lang_tree.specs.View.{condition_of};
 ghost use Rattle.flow_edges.specs.Steps.{guards};
 ghost use Rattle.flow_edges.specs.Trails.{kept};
+ghost use Rattle.flow_edges.specs.declared.limits.TheConstants.{KEPT};
 ghost use Rattle.flow_transitions.specs.Choices.{choices_in, choices_of};
 
 use crate::counting::choice_count;
-use crate::limits::MOST_ACTIONS;
-use flow_edges::{Action, Actions, Cases, cases};
+use flow_edges::{Action, Actions, Cases, KEPT, cases};
 use lang_tree::{Cond, Form, Stmt};
 use std::alloc::{AllocError, Global};
 
-/// How many actions of an edge are kept: one with more than `MOST_ACTIONS` is refused, so what comes later doesn't matter.
-const KEPT: usize = MOST_ACTIONS + 1;
-
-/// The actions that acts record by the choice of this number, as many as are kept. There are `count` choices.
+/// The actions that acts record by the choice of this number, as many as are kept of a program's edge, which are more than an edge may have
+/// here. There are `count` choices.
 pub(crate) fn chosen(
     alloc: Global,
     acts: &[Stmt],
@@ -61,7 +59,7 @@ fn add_choice(
 ) -> Result<(), AllocError>
     requires room { IsTrue (has_rooms (statement_of act.now)) }
     requires number { number < length (choices_of (statement_of act.now)) }
-    requires short { length actions.old.items ≤ 257 }
+    requires short { length actions.old.items ≤ KEPT }
     ensures { OnOk result (actions.new.items ≡ kept (actions.old.items ++ slice_index_or (choices_of (statement_of act.now)) number [])) }
 {
     match act {
@@ -91,7 +89,7 @@ fn few_cases(alloc: Global, cond: &Cond) -> Result<Cases, AllocError>
 
 /// Adds the guards, as many as are kept.
 fn add_guards(actions: &mut Vec<Action>, forms: &[Form]) -> Result<(), AllocError>
-    requires { length actions.old.items ≤ 257 }
+    requires { length actions.old.items ≤ KEPT }
     ensures { OnOk result (actions.new.items ≡ kept (actions.old.items ++ guards forms.now)) }
 {
     for form in forms {
@@ -102,7 +100,7 @@ fn add_guards(actions: &mut Vec<Action>, forms: &[Form]) -> Result<(), AllocErro
 
 /// Adds the action, where one more is kept.
 fn add(actions: &mut Vec<Action>, action: Action) -> Result<(), AllocError>
-    requires { length actions.old.items ≤ 257 }
+    requires { length actions.old.items ≤ KEPT }
     ensures { OnOk result (actions.new.items ≡ kept (actions.old.items ++ action ∷ [])) }
 {
     if actions.len() < KEPT {

@@ -4,6 +4,7 @@ ghost use Rattle.std.specs.Prelude.{◌≡◌, ◌<◌, ◌≤◌, ◌^◌, ◌+
 ghost use Rattle.lang_tree.specs.View.{statements_of};
 ghost use Rattle.flow_edges.specs.Constants.{have_rooms};
 ghost use Rattle.flow_edges.specs.Trails.{kept_edge};
+ghost use Rattle.flow_transitions.specs.declared.limits.TheConstants.{MOST_EDGES};
 ghost use Rattle.flow_transitions.specs.Choices.{choices_in, edges_along, edges_at, edges_of};
 ghost use Rattle.flow_transitions.specs.Counted.{have_room_along, way_count};
 
@@ -14,14 +15,14 @@ use flow_edges::Edge;
 use lang_tree::Stmt;
 use std::alloc::{AllocError, Global};
 
-/// The edges from so many points, in order, each with at most 257 of its actions.
+/// The edges from so many points, in order, each with at most `KEPT` of its actions.
 pub(crate) fn edges_of(
     alloc: Global,
     points: u32,
     edges: &[AutoEdge],
 ) -> Result<Vec<Edge>, AllocError>
     requires room { IsTrue (have_room_along edges.now) }
-    requires few { sum_by way_count edges.now ≤ 256 }
+    requires few { sum_by way_count edges.now ≤ MOST_EDGES }
     ensures { IfOk result (λ list. list.items ≡ map kept_edge (edges_of points edges.now)) }
 {
     let mut list = Vec::new(alloc);
@@ -39,7 +40,7 @@ fn add_edges_at(
     point: u32,
 ) -> Result<(), AllocError>
     requires room { IsTrue (have_room_along edges.now) }
-    requires few { sum_by way_count edges.now ≤ 256 }
+    requires few { sum_by way_count edges.now ≤ MOST_EDGES }
     ensures { OnOk result (list.new.items ≡ list.old.items ++ map kept_edge (edges_at edges.now point)) }
 {
     for edge in edges {
@@ -53,7 +54,7 @@ fn add_edges_at(
 /// Adds the edges of an edge of the text, one for each choice.
 fn add_edges(alloc: Global, list: &mut Vec<Edge>, edge: &AutoEdge) -> Result<(), AllocError>
     requires room { IsTrue (have_rooms edge.now.acts) }
-    requires few { way_count edge.now ≤ 256 }
+    requires few { way_count edge.now ≤ MOST_EDGES }
     ensures { OnOk result (list.new.items ≡ list.old.items ++ map kept_edge (edges_along edge.now)) }
 {
     let acts = edge.acts.as_slice();
@@ -71,7 +72,7 @@ fn add_edges(alloc: Global, list: &mut Vec<Edge>, edge: &AutoEdge) -> Result<(),
 /// The number of choices along acts, which is known to be small.
 fn few_ways(alloc: Global, acts: &[Stmt]) -> Result<u32, AllocError>
     requires room { IsTrue (have_rooms (statements_of acts.now)) }
-    requires few { length (choices_in (statements_of acts.now)) ≤ 256 }
+    requires few { length (choices_in (statements_of acts.now)) ≤ MOST_EDGES }
     ensures { IfOk result (λ n. n ≡ length (choices_in (statements_of acts.now))) }
 {
     match way_count(alloc, acts) {

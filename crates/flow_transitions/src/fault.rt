@@ -28,9 +28,9 @@ pub enum AutoFault {
     Cases { at: u32 },
     /// There are fewer than 2 points or more than `MOST_POINTS`; `count` is their number.
     Points { count: u32 },
-    /// There are more than 256 edges, one for each choice of cases.
+    /// There are more than `MOST_EDGES` edges, one for each choice of cases.
     Edges,
-    /// The edge with this number, from 0, has more than 256 actions; of several such edges it is the lowest.
+    /// The edge with this number, from 0, has more than `MOST_ACTIONS` actions; of several such edges it is the lowest.
     Actions { edge: u32 },
     /// Memory was wanted.
     NoMemory,

@@ -8,6 +8,7 @@ ghost use Rattle.solve_composition.specs.Composed.{dense, edge_forms};
 ghost use Rattle.solve_composition.specs.Operations.{row_composition, edge_composition};
 ghost use Rattle.solve_composition.specs.Faults.{Composes};
 ghost use Rattle.solve_composition.specs.Walks.{IsState};
+ghost use Rattle.flow_edges.specs.declared.limits.TheConstants.{MOST_ACTIONS};
 ghost use Rattle.lang_tree.specs.declared.limits.TheConstants.{MOST_VARIABLES, MOST_HIDDEN};
 
 use crate::affine::{Affine, Affines};
@@ -44,7 +45,7 @@ pub fn compose_edge(
     template: &[Coeffs],
     actions: &[Action],
 ) -> Result<Path, FormFault>
-    requires few { length actions.now ≤ 256 }
+    requires few { length actions.now ≤ MOST_ACTIONS }
     requires variables { variables ≤ MOST_VARIABLES }
     requires actions { IsTrue (list_all (is_action (variables + MOST_HIDDEN)) actions.now) }
     ensures { Composes (edge_forms variables template.now actions.now) (edge_composition variables template.now actions.now) result }

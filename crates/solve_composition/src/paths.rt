@@ -17,13 +17,14 @@ pub struct Path {
 
 impl Model for Path {
     ghost use Rattle.std.specs.Prelude.{◌≤◌, length};
+    ghost use Rattle.flow_edges.specs.declared.limits.TheConstants.{MOST_ACTIONS};
     ghost use Rattle.solve_composition.specs.Composed.{EdgeForms};
 
     ghost Value = { EdgeForms };
 
     ghost view = { λ p. record { frees = p.frees; guards = p.guards; rows = p.rows } };
 
-    ghost invariant = { λ p. length p.guards ≤ 256 };
+    ghost invariant = { λ p. length p.guards ≤ MOST_ACTIONS };
 }
 
 /// The composed forms of the edges of a system: for each edge the number of its free values, its guards in the order of its

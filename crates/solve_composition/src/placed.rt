@@ -11,6 +11,7 @@ ghost use Rattle.solve_composition.specs.Behind.{placed_forms, placed_compositio
 ghost use Rattle.flow_systems.specs.Faults.{AnswersBy};
 ghost use Rattle.solve_composition.specs.Faults.{Composes};
 ghost use Rattle.solve_composition.specs.Walks.{IsState};
+ghost use Rattle.flow_edges.specs.declared.limits.TheConstants.{MOST_ACTIONS};
 ghost use Rattle.lang_tree.specs.declared.limits.TheConstants.{MOST_VARIABLES, MOST_HIDDEN};
 
 use crate::affine::{Affine, Affines};
@@ -62,7 +63,7 @@ pub fn compose_placed(
     before: &[Action],
     guards: &[Form],
 ) -> Result<PlacedForms, FormFault>
-    requires few { length before.now ≤ 256 }
+    requires few { length before.now ≤ MOST_ACTIONS }
     requires variables { variables ≤ MOST_VARIABLES }
     requires before { IsTrue (list_all (is_action (variables + MOST_HIDDEN)) before.now) }
     requires guards { IsTrue (list_all (is_form (variables + MOST_HIDDEN)) guards.now) }

@@ -3,6 +3,7 @@
 ghost use Rattle.std.specs.Prelude.{◌≡◌, ◌≤◌, ◌<◌, ◌+◌, ◌^◌, List, [], ◌∷◌, IfOk, OnOk, IsTrue, length, map};
 ghost use Rattle.std.specs.List.{list_all};
 ghost use Rattle.lang_tree.specs.Meaning.{put};
+ghost use Rattle.flow_edges.specs.declared.limits.TheConstants.{MOST_ACTIONS};
 ghost use Rattle.theory_validity.specs.Words.{Affine as Formal, columns, free_count, no_form};
 ghost use Rattle.solve_composition.specs.Composed.{dense};
 ghost use Rattle.solve_composition.specs.Walks.{IsState, StepComposes, WalkComposes, acts_by_numbers};
@@ -15,9 +16,9 @@ use std::alloc::{AllocError, Global};
 
 // How many free assignments there are.
 pub fn count_frees(actions: &[Action]) -> u32
-    requires { length actions.now ≤ 256 }
+    requires { length actions.now ≤ MOST_ACTIONS }
     ensures count { result ≡ free_count actions.now }
-    ensures few { result ≤ 256 }
+    ensures few { result ≤ MOST_ACTIONS }
 {
     let mut count = 0;
     for action in actions {

@@ -1,6 +1,7 @@
 //! How large the joint problem of a list can be.
 
 ghost use Rattle.std.specs.Prelude.{◌≡◌, ◌+◌, ◌*◌, ◌<◌, ◌≤◌, length};
+ghost use Rattle.flow_edges.specs.declared.limits.TheConstants.{MOST_ACTIONS};
 ghost use Rattle.flow_systems.specs.View.{equations_of};
 ghost use Rattle.flow_systems.specs.declared.limits.TheConstants.{MOST_UNKNOWNS};
 ghost use Rattle.solve_composition.specs.Composed.{AreComposed};
@@ -17,7 +18,7 @@ fn block_rows(system: &System, paths: &Paths, edge: u32) -> u64
     requires composed { AreComposed (equations_of system.now) paths.now }
     requires edge { edge < length system.now.flow.edges }
     ensures rows { result ≡ block_rows system.now edge }
-    ensures few { result ≤ MOST_UNKNOWNS + 257 }
+    ensures few { result ≤ MOST_UNKNOWNS + MOST_ACTIONS + 1 }
 {
     system.template.as_slice().len() as u64 + 1 + paths.guards(edge) as u64
 }
@@ -29,7 +30,7 @@ fn most_rows(system: &System, paths: &Paths, pick: &Pick, list: &[u32]) -> u64
     requires rises { Rises 0 list.now }
     requires picked { ArePicked system.now pick.now list.now }
     ensures rows { result ≡ most_rows system.now pick.now list.now }
-    ensures few { result ≤ MOST_UNKNOWNS * (MOST_UNKNOWNS + 257) }
+    ensures few { result ≤ MOST_UNKNOWNS * (MOST_UNKNOWNS + MOST_ACTIONS + 1) }
 {
     let mut rows = 0;
     for unknown in list {

@@ -12,6 +12,7 @@ ghost use Rattle.solve_joint.specs.Rows.{IsSideFault};
 ghost use Rattle.solve_joint.specs.Blocks.{side_operations, split_columns};
 ghost use Rattle.solve_joint.specs.Problems.{problem_of, MakeProblem};
 ghost use Rattle.flow_systems.specs.declared.limits.TheConstants.{MOST_UNKNOWNS};
+ghost use Rattle.flow_edges.specs.declared.limits.TheConstants.{MOST_ACTIONS};
 ghost use Rattle.lang_tree.specs.declared.limits.TheConstants.{MOST_VARIABLES};
 
 use crate::based::Based;
@@ -64,7 +65,7 @@ pub fn joint_problem(
         length (get_or (map (λ r. r.coeffs.items) p.rows.items) r []) ≡ length p.goal.items) }
     ensures few { IfOk result (λ p. length p.rows.items + length p.goal.items < 4294967295) }
     ensures columns { OnOk result (length list.now + split_columns system.now pick.now list.now
-        ≤ MOST_UNKNOWNS * (2 * MOST_VARIABLES + 513)) }
+        ≤ MOST_UNKNOWNS * (2 * MOST_VARIABLES + 2 * MOST_ACTIONS + 1)) }
     ensures sides { OnOk result (first_wide long_limit (side_operations system.now pick.now base.now list.now) ≡ None) }
     ensures refused { IfErr result (λ f. IsSideFault (side_operations system.now pick.now base.now list.now) f) }
 {

@@ -12,6 +12,7 @@ ghost use Rattle.solve_joint.specs.Rows.{AllStand, IsSideFault};
 ghost use Rattle.solve_joint.specs.Blocks.{edge_at, sources_of, guards_of, side_of, block_of, split_width, blocks_from, split_columns};
 ghost use Rattle.solve_joint.specs.Blocks.{side_operations};
 ghost use Rattle.flow_systems.specs.declared.limits.TheConstants.{MOST_UNKNOWNS};
+ghost use Rattle.flow_edges.specs.declared.limits.TheConstants.{MOST_ACTIONS};
 ghost use Rattle.lang_tree.specs.declared.limits.TheConstants.{MOST_VARIABLES};
 
 use crate::based::Based;
@@ -79,7 +80,7 @@ pub fn count_columns(system: &System, paths: &Paths, pick: &Pick, list: &[u32]) 
     requires rises { Rises 0 list.now }
     requires picked { ArePicked system.now pick.now list.now }
     ensures count { result ≡ length list.now + split_columns system.now pick.now list.now }
-    ensures few { result ≤ MOST_UNKNOWNS * (2 * MOST_VARIABLES + 513) }
+    ensures few { result ≤ MOST_UNKNOWNS * (2 * MOST_VARIABLES + 2 * MOST_ACTIONS + 1) }
 {
     let mut cols = list.len();
     for unknown in list {

@@ -7,6 +7,7 @@ ghost use Rattle.solve_joint.specs.Numbers.{ArePicked};
 ghost use Rattle.solve_joint.specs.Blocks.{edge_at, split_columns};
 ghost use Rattle.solve_joint.specs.Layouts.{columns_from, layout_of};
 ghost use Rattle.flow_systems.specs.declared.limits.TheConstants.{MOST_UNKNOWNS};
+ghost use Rattle.flow_edges.specs.declared.limits.TheConstants.{MOST_ACTIONS};
 ghost use Rattle.lang_tree.specs.declared.limits.TheConstants.{MOST_VARIABLES};
 
 use crate::problem::{picked_edge, word_width};
@@ -38,7 +39,7 @@ pub fn layout(
     requires composed { AreComposed (equations_of system.now) paths.now }
     requires pick { length pick.now ≡ length system.now.flow.points * length system.now.template }
     requires picked { ArePicked system.now pick.now list.now }
-    requires few { length list.now + split_columns system.now pick.now list.now ≤ MOST_UNKNOWNS * (2 * MOST_VARIABLES + 513) }
+    requires few { length list.now + split_columns system.now pick.now list.now ≤ MOST_UNKNOWNS * (2 * MOST_VARIABLES + 2 * MOST_ACTIONS + 1) }
     ensures { IfOk result (λ v. v.items ≡ layout_of system.now pick.now list.now) }
 {
     let names = system.flow.names.as_slice().len();

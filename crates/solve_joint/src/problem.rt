@@ -15,6 +15,7 @@ ghost use Rattle.solve_composition.specs.Composed.{AreComposed};
 ghost use Rattle.solve_joint.specs.Numbers.{edge_of};
 ghost use Rattle.solve_joint.specs.Rows.{AllStand, IsSideFault};
 ghost use Rattle.solve_joint.specs.Blocks.{edge_at, sources_of, guards_of, own_of, side_of, split_width};
+ghost use Rattle.flow_edges.specs.declared.limits.TheConstants.{MOST_ACTIONS};
 ghost use Rattle.lang_tree.specs.declared.limits.TheConstants.{MOST_VARIABLES};
 
 use crate::based::Based;
@@ -53,7 +54,7 @@ pub fn word_width(system: &System, paths: &Paths, edge: u32) -> usize
     requires composed { AreComposed (equations_of system.now) paths.now }
     requires edge { edge < length system.now.flow.edges }
     ensures width { result ≡ width (length system.now.flow.names) (edge_at system.now edge).actions }
-    ensures few { result ≤ MOST_VARIABLES + 256 }
+    ensures few { result ≤ MOST_VARIABLES + MOST_ACTIONS }
 {
     system.flow.names.as_slice().len() + paths.frees(edge) as usize
 }

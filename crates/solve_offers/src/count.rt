@@ -3,6 +3,7 @@
 ghost use Rattle.std.specs.Prelude.{◌≡◌, ◌+◌, ◌*◌, ◌^◌, ◌<◌, ◌≤◌, IfSome, length};
 ghost use Rattle.std.specs.Option.{SomeIff};
 ghost use Rattle.base_limits.specs.declared.limits.TheConstants.{MOST_IMPROVEMENTS};
+ghost use Rattle.flow_edges.specs.declared.limits.TheConstants.{MOST_EDGES};
 ghost use Rattle.flow_systems.specs.View.{equations_of};
 ghost use Rattle.theory_validity.specs.Certificates.{edges_into};
 ghost use Rattle.theory_strategy.specs.PickCount.{pick_count};
@@ -24,17 +25,18 @@ fn count_into(edges: &[Edge], point: u32) -> usize
 fn times(product: u32, factor: u32, count: usize) -> Option<u32>
     requires product { product ≤ MOST_IMPROVEMENTS }
     requires positive { 0 < factor }
-    requires factor { factor ≤ 257 }
+    requires factor { factor ≤ MOST_EDGES + 1 }
     ensures { SomeIff result (product * factor ^ count ≤ MOST_IMPROVEMENTS) (product * factor ^ count) }
 {
-    let mut total = product;
+    let limit = MOST_IMPROVEMENTS as u64;
+    let mut total = product as u64;
     'times: for _k in 0..count {
-        total *= factor;
-        if total > MOST_IMPROVEMENTS {
+        total *= factor as u64;
+        if total > limit {
             return None;
         }
     }
-    Some(total)
+    Some(total as u32)
 }
 
 /// How many picks a system has: the product, over all unknowns, of one more than the number of edges into the unknown's point.

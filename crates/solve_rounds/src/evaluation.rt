@@ -32,7 +32,7 @@ fn part<W: Watch>(
     watch: &mut W,
 ) -> Result<(), RoundStop>
     requires bounds { length turning.old.bounds ≡ length at.now.system.now.flow.points * length at.now.system.now.template }
-    requires few { length turning.old.steps.items + length list.now < 4294967296 }
+    requires few { length turning.old.steps.items + length list.now ≤ 4294967296 }
     requires part { IsPart at.now.system.now at.now.pick.now at.now.raises.now at.now.places.now list.now }
     requires waiting { IsWaiting at.now.system.now at.now.pick.now at.now.raises.now at.now.places.now list.now turning.old.bounds }
     ensures done { IfOk result (λ done. IsDone at.now.system.now at.now.pick.now at.now.raises.now at.now.places.now list.now turning.old

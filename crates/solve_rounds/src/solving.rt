@@ -1,6 +1,6 @@
 //! The rounds, to their end.
 
-ghost use Rattle.std.specs.Prelude.{◌≡◌, ◌≤◌, ◌+◌, ◌*◌, length, map, count_by, drop, IfOk, IfErr, IsTrue};
+ghost use Rattle.std.specs.Prelude.{◌≡◌, ◌<◌, ◌≤◌, ◌+◌, ◌*◌, length, map, count_by, drop, IfOk, IfErr, IsTrue};
 ghost use Rattle.std.specs.List.{list_all};
 ghost use Rattle.base_limits.specs.declared.limits.TheConstants.{MOST_IMPROVEMENTS};
 ghost use Rattle.lang_tree.specs.Numbers.{are_numbers};
@@ -93,6 +93,9 @@ fn advance<W: Watch>(
     Ok(())
 }
 
+// How many steps a solution may have: each has a number of 32 bits. More would take more memory than there is.
+const MOST_STEPS: usize = 4_294_967_295;
+
 // The solution that the rounds have come to.
 fn finish(
     alloc: Global,
@@ -106,8 +109,12 @@ fn finish(
     requires made { made ≤ MOST_IMPROVEMENTS }
     requires known { AreKnown system.now progress.bounds progress.known }
     ensures finished { IfOk result (IsFinished system.now progress made) }
+    ensures few { IfOk result (λ solved. length solved.steps < 4294967296) }
     ensures stop { IfErr result (IsOfferStop system.now progress.bounds (made + 1)) }
 {
+    if progress.steps.len() > MOST_STEPS {
+        return Err(Stop::NoMemory);
+    }
     let mut known = progress.known;
     let at = Offering {
         system,

@@ -14,6 +14,7 @@ ghost use Rattle.solve_composition.specs.Composed.{dense};
 ghost use Rattle.solve_transformer.specs.Values.{IsLowestLost};
 ghost use Rattle.solve_transformer.specs.Splits.{bounds_at, split_limit, limit_of, source_row, IsSource};
 ghost use Rattle.flow_templates.specs.declared.limits.TheConstants.{MOST_ROWS};
+ghost use Rattle.flow_edges.specs.declared.limits.TheConstants.{MOST_ACTIONS};
 ghost use Rattle.lang_tree.specs.declared.limits.TheConstants.{MOST_VARIABLES};
 
 use crate::split::{split_coeffs, split_row};
@@ -103,8 +104,8 @@ pub fn edge_problem(
 ) -> Result<Problem<Frac>, AllocError>
     requires room { length template.now ≤ length source.now }
     requires few_rows { length template.now ≤ MOST_ROWS }
-    requires few_guards { length guards.now ≤ 512 }
-    requires few_columns { width ≤ MOST_VARIABLES + 256 }
+    requires few_guards { length guards.now ≤ 2 * MOST_ACTIONS }
+    requires few_columns { width ≤ MOST_VARIABLES + MOST_ACTIONS }
     ensures { (system : Equations) (z : Vector) (edge : Edge) (row : List ℤ) → IsTrue (is_over system.variables system.template) →
         IsSource system z edge row width template.now source.now guards.now form.now →
         IfOk result (λ p. (exact (λ q. q) p ≡ whole_problem system z edge row) × IsShaped p) }

@@ -24,6 +24,7 @@ ghost use Rattle.solve_transformer.specs.Places.{placed_edge, nothing, state_aft
 ghost use Rattle.solve_transformer.specs.Places.{forms_reading, products_reading, AnswersAt, IsPartFault, IsPlaced, IsPlaceFault};
 ghost use Rattle.solve_transformer.specs.Places.{NoneWideAt};
 ghost use Rattle.solve_transformer.specs.Values.{IsValue};
+ghost use Rattle.flow_edges.specs.declared.limits.TheConstants.{MOST_ACTIONS};
 ghost use Rattle.lang_tree.specs.declared.limits.TheConstants.{MOST_HIDDEN};
 
 use crate::build::lowest_lost;
@@ -129,8 +130,8 @@ fn solve_composed(
     forms: &PlacedForms,
 ) -> Result<Placed, PartFault>
     requires room { length system.now.template ≤ length source.now }
-    requires few_frees { forms.now.frees ≤ 256 }
-    requires few_guards { length forms.now.guards ≤ 512 }
+    requires few_frees { forms.now.frees ≤ MOST_ACTIONS }
+    requires few_guards { length forms.now.guards ≤ 2 * MOST_ACTIONS }
     requires forms { IsPlaced (length system.now.flow.names) forms.now }
     ensures { (z : Vector) (point : _) (before : List ActionValue) (guards : List FormValue) →
         forms.now ≡ placed_forms (length system.now.flow.names) before guards →
@@ -157,8 +158,8 @@ fn solve_placed(
     guards: &[Form],
 ) -> Result<Placed, PartFault>
     requires room { length system.now.template ≤ length source.now }
-    requires few_before { length before.now ≤ 256 }
-    requires few_guards { length guards.now ≤ 256 }
+    requires few_before { length before.now ≤ MOST_ACTIONS }
+    requires few_guards { length guards.now ≤ MOST_ACTIONS }
     requires actions { IsTrue (list_all (is_action (length system.now.flow.names + MOST_HIDDEN)) before.now) }
     requires forms { IsTrue (list_all (is_form (length system.now.flow.names + MOST_HIDDEN)) guards.now) }
     ensures { (z : Vector) (point : _) → bounds_at source.now ≡ z point → lost (z point) system.now.template ≡ false →
@@ -190,8 +191,8 @@ pub fn placed_value(
 ) -> Result<Placed, PartFault>
     requires bounds { IsVectorOf system.now bounds.now }
     requires point { point < length system.now.flow.points }
-    requires few_before { length before.now ≤ 256 }
-    requires few_guards { length guards.now ≤ 256 }
+    requires few_before { length before.now ≤ MOST_ACTIONS }
+    requires few_guards { length guards.now ≤ MOST_ACTIONS }
     requires actions { IsTrue (list_all (is_action (length system.now.flow.names + MOST_HIDDEN)) before.now) }
     requires forms { IsTrue (list_all (is_form (length system.now.flow.names + MOST_HIDDEN)) guards.now) }
     ensures value { IfOk result (λ answer. IsValue (equations_of system.now) (vector_at system.now bounds.now)

@@ -15,6 +15,7 @@ ghost use Rattle.base_fractions.specs.Extended.{extended};
 ghost use Rattle.solve_transformer.specs.Splits.{bounds_at};
 ghost use Rattle.solve_transformer.specs.Readings.{listed_outcome, finite_one, multiplier_one};
 ghost use Rattle.flow_templates.specs.declared.limits.TheConstants.{MOST_ROWS};
+ghost use Rattle.flow_edges.specs.declared.limits.TheConstants.{MOST_ACTIONS};
 ghost use Rattle.lang_tree.specs.declared.limits.TheConstants.{MOST_VARIABLES};
 
 use base_fractions::{Ext, Frac, OrderedField};
@@ -31,8 +32,8 @@ pub struct Sizes {
     pub rows: usize,
     pub guards: usize,
     pub ghost few_variables: { variables ≤ MOST_VARIABLES },
-    pub ghost few_frees: { frees ≤ 256 },
-    pub ghost few_guards: { guards ≤ 512 },
+    pub ghost few_frees: { frees ≤ MOST_ACTIONS },
+    pub ghost few_guards: { guards ≤ 2 * MOST_ACTIONS },
 }
 
 // An entry of a list, 0 behind its end.
@@ -52,8 +53,8 @@ fn read_entries(
     first: usize,
     count: usize,
 ) -> Result<Fracs, FormFault>
-    requires first { first ≤ MOST_VARIABLES + 256 }
-    requires count { count ≤ MOST_VARIABLES + 256 }
+    requires first { first ≤ MOST_VARIABLES + MOST_ACTIONS }
+    requires count { count ≤ MOST_VARIABLES + MOST_ACTIONS }
     ensures { AnswersBy (λ list. list ≡ map (unsplit (at point.now)) (range_with_len first count))
         (map (λ j. record { op = Sub; left = at point.now (j + j); right = at point.now (suc (j + j)) }) (range_with_len first count))
         result }
@@ -75,7 +76,7 @@ fn read_trace(
     frees: usize,
 ) -> Result<Trace, FormFault>
     requires variables { variables ≤ MOST_VARIABLES }
-    requires frees { frees ≤ 256 }
+    requires frees { frees ≤ MOST_ACTIONS }
     ensures { AnswersBy (IsTraceOf variables (variables + frees) (unsplit (at point.now)))
         (entry_operations (variables + frees) (at point.now)) result }
 {
@@ -150,7 +151,7 @@ fn guard_multipliers(
     count: usize,
 ) -> Result<Fracs, AllocError>
     requires first { first ≤ MOST_ROWS }
-    requires count { count ≤ 512 }
+    requires count { count ≤ 2 * MOST_ACTIONS }
     ensures { IfOk result (λ list. list ≡ map (λ k. at multipliers.now (first + k)) (range_with_len 0 count)) }
 {
     let mut list = Vec::with_capacity(alloc, count)?;

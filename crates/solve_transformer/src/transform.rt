@@ -17,6 +17,7 @@ ghost use Rattle.solve_transformer.specs.Meanings.{HasEvidence, Operates};
 ghost use Rattle.solve_transformer.specs.Splits.{bounds_at, IsSource, HasSource};
 ghost use Rattle.flow_edges.specs.declared.edge.Edge.{Edge};
 ghost use Rattle.solve_transformer.specs.Readings.{HasSizes, IsProblemFault};
+ghost use Rattle.flow_edges.specs.declared.limits.TheConstants.{MOST_ACTIONS};
 ghost use Rattle.flow_templates.specs.declared.limits.TheConstants.{MOST_ROWS};
 
 use crate::build::{edge_problem, lowest_lost};
@@ -81,8 +82,8 @@ pub(crate) fn solve_forms(
     form: &Affine,
 ) -> Result<Value, PartFault>
     requires room { length system.now.template ≤ length source.now }
-    requires few_frees { frees ≤ 256 }
-    requires few_guards { length guards.now ≤ 512 }
+    requires few_frees { frees ≤ MOST_ACTIONS }
+    requires few_guards { length guards.now ≤ 2 * MOST_ACTIONS }
     requires forms { HasSource (equations_of system.now) (length system.now.flow.names + frees) system.now.template source.now guards.now
         form.now }
     ensures { (z : Vector) (edge : Edge) (row : List ℤ) →

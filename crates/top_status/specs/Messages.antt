@@ -252,12 +252,14 @@ flow_words (flow.Cases line) = counted program_refused (codes "cases at line ") 
 flow_words (flow.Points count) = counted_in program_refused [] count (codes " points\n")
 flow_words flow.Edges = plain program_refused (codes "edges")
 flow_words (flow.Actions edge) = counted program_refused (codes "actions of edge ") edge
+flow_words flow.AllActions = plain program_refused (codes "actions")
 flow_words (flow.Checks count) = counted_in program_refused [] count (codes " checks\n")
 flow_words flow.NoMemory = words (codes "out of memory")
 
 abbrev pub row_words : RowFault → Words
 row_words (rows.ZeroRow line) = counted rows_refused (codes "zero row at line ") line
 row_words (rows.Count count) = counted_in rows_refused [] count (codes " rows\n")
+row_words (rows.Large count) = counted_in program_refused [] count (codes " rows\n")
 row_words (rows.UnknownName line) = counted rows_refused (codes "unknown name at line ") line
 row_words (rows.BadRow line) = counted rows_refused (codes "bad row at line ") line
 row_words (rows.Length line) = counted rows_refused (codes "length at line ") line

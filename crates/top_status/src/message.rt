@@ -190,6 +190,7 @@ fn flow_parts(fault: FlowFault) -> Parts
         FlowFault::Points { count } => counted_in(PROGRAM, b"", count as u64, b" points\n"),
         FlowFault::Edges => plain_in(PROGRAM, b"edges"),
         FlowFault::Actions { edge } => counted(PROGRAM, b"actions of edge ", edge),
+        FlowFault::AllActions => plain_in(PROGRAM, b"actions"),
         FlowFault::Checks { count } => counted_in(PROGRAM, b"", count as u64, b" checks\n"),
         FlowFault::NoMemory => plain(b"out of memory"),
     }
@@ -201,6 +202,7 @@ fn row_parts(fault: RowFault) -> Parts
     match fault {
         RowFault::ZeroRow { line } => counted(ROWS, b"zero row at line ", line),
         RowFault::Count { count } => counted_in(ROWS, b"", count as u64, b" rows\n"),
+        RowFault::Large { count } => counted_in(PROGRAM, b"", count as u64, b" rows\n"),
         RowFault::UnknownName { line } => counted(ROWS, b"unknown name at line ", line),
         RowFault::BadRow { line } => counted(ROWS, b"bad row at line ", line),
         RowFault::Length { line } => counted(ROWS, b"length at line ", line),

@@ -26,7 +26,7 @@ pub enum TextCause {
     Source(SourceFault),
     /// Its program has no points and edges within the limits.
     Flow(FlowFault),
-    /// The file of rows is no template over its variables.
+    /// The file of rows is no template over its variables, or a ready-made one over them has too many rows.
     Rows(RowFault),
     /// There are more unknowns than `flow_systems::MOST_UNKNOWNS`, so many.
     Unknowns(u32),

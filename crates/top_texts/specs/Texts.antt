@@ -8,7 +8,7 @@ use Rattle.lang_tokens.specs.Faults.{HasFault}
 use Rattle.lang_tree.specs.Tree.{Statements}
 use Rattle.flow_edges.specs.Faults.{fault_of_program}
 use Rattle.flow_edges.specs.Points.{points_of_program}
-use Rattle.flow_templates.specs.Domains.{intervals_of, zones_of, octagons_of}
+use Rattle.flow_templates.specs.Domains.{intervals_of, zones_of, octagons_of, ready}
 use Rattle.flow_templates.specs.RowFiles.{Answers}
 use Rattle.flow_templates.specs.declared.fault.RowFault.{RowFault}
 use Rattle.flow_systems.specs.declared.system.System.{System}
@@ -44,11 +44,11 @@ pub record IsAnalysed (program : Program) (names : List (List ℕ)) (body : Stat
   pub has_core : HasCore program names body
   pub within : fault_of_program body ≡ None
 
--- the template over these variables: the list of a domain, or what the text of the rows is
+-- the template over these variables: the list of a domain, unless it is too long, or what the text of the rows is
 abbrev pub HasTemplate : Domain (List ℕ) → List (List ℕ) → Result (List (List ℤ)) RowFault → Type 0
 HasTemplate domain.Intervals names answer = answer ≡ Ok (intervals_of (length names))
-HasTemplate domain.Zones names answer = answer ≡ Ok (zones_of (length names))
-HasTemplate domain.Octagons names answer = answer ≡ Ok (octagons_of (length names))
+HasTemplate domain.Zones names answer = answer ≡ ready (zones_of (length names))
+HasTemplate domain.Octagons names answer = answer ≡ ready (octagons_of (length names))
 HasTemplate (domain.Rows text) names answer = Answers names text answer
 
 -- a program and a template of these texts

@@ -10,13 +10,14 @@ use Rattle.flow_edges.specs.FlowLimits.{is_action, is_edge}
 use Rattle.flow_systems.proofs.EdgeActions.{edge_fits as actions_fit}
 use Rattle.flow_systems.proofs.Sizes.{both, flow_sizes}
 use Rattle.flow_systems.proofs.trace_tests.Traced.{all_at}
+use Rattle.flow_edges.specs.declared.limits.TheConstants.{MOST_ACTIONS}
 
 -- an edge goes from a point, and has few actions over the variables and the hidden ones
 pub record EdgeFits (flow : Flow) (edge : Edge) : Type 0 where
   -- it goes from a point
   pub source : edge.from < length flow.points
-  -- it has at most 256 actions
-  pub few : length edge.actions ≤ 256
+  -- it has few actions
+  pub few : length edge.actions ≤ MOST_ACTIONS
   -- they are over the variables and the hidden ones
   pub actions : IsTrue (list_all (is_action (length flow.names + MOST_HIDDEN)) edge.actions)
 

@@ -13,6 +13,7 @@ use Rattle.lang_tree.specs.Cases.{comparison_cases, crossed, cases_of}
 use Rattle.ask_verdicts.specs.Breaking.{is_case}
 use Rattle.flow_edges.proofs.Each.{Each, each-append, each-map, each_weaker, each_passes}
 use Rattle.flow_edges.proofs.constants.FormLimits.{IsForm, cases_forms}
+use Rattle.flow_edges.specs.declared.limits.TheConstants.{MOST_ACTIONS}
 
 -- so many guards at most
 abbrev IsShort : ℕ → List Form → Type 0
@@ -74,12 +75,12 @@ cases_short false (either c d) =
     (cases_short false d)
 
 -- ---- all cases
-all_cases : (n : ℕ) (cases : List (List Form)) → Each (Each (IsForm n)) cases → Each (IsShort 256) cases
+all_cases : (n : ℕ) (cases : List (List Form)) → Each (Each (IsForm n)) cases → Each (IsShort MOST_ACTIONS) cases
     → IsTrue (list_all (is_case n) cases)
 all_cases n [] forms short = refl
 all_cases n (case ∷ cases) forms short =
     and_from (is_case n case) (list_all (is_case n) cases)
-    (and_from (nat_le (length case) 256) (list_all (is_form n) case) (le-leb (length case) 256 short.0)
+    (and_from (nat_le (length case) MOST_ACTIONS) (list_all (is_form n) case) (le-leb (length case) MOST_ACTIONS short.0)
     (each_passes (is_form n) case forms.0))
     (all_cases n cases forms.1 short.1)
 
@@ -89,12 +90,12 @@ tested_cases n truth c tested =
     let p = and_parts (nat_le (leaf_count c) 64) (is_condition n c) tested in
     let few = leb-true (leaf_count c) 64 p.0 in
     all_cases n (cases_of truth c) (cases_forms n truth c p.1)
-    (weaker (leaf_count c + leaf_count c) 256 (omega (arith, few)) (cases_of truth c) (cases_short truth c))
+    (weaker (leaf_count c + leaf_count c) MOST_ACTIONS (omega (arith, few)) (cases_of truth c) (cases_short truth c))
 
 -- a case of such a list has few guards
-pub case_short : (n : ℕ) (case : List Form) → IsTrue (is_case n case) → length case ≤ 256
-case_short n case h = leb-true (length case) 256 (and_parts (nat_le (length case) 256) (list_all (is_form n) case) h).0
+pub case_short : (n : ℕ) (case : List Form) → IsTrue (is_case n case) → length case ≤ MOST_ACTIONS
+case_short n case h = leb-true (length case) MOST_ACTIONS (and_parts (nat_le (length case) MOST_ACTIONS) (list_all (is_form n) case) h).0
 
 -- and they are over the variables
 pub case_forms : (n : ℕ) (case : List Form) → IsTrue (is_case n case) → IsTrue (list_all (is_form n) case)
-case_forms n case h = (and_parts (nat_le (length case) 256) (list_all (is_form n) case) h).1
+case_forms n case h = (and_parts (nat_le (length case) MOST_ACTIONS) (list_all (is_form n) case) h).1

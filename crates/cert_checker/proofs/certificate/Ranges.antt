@@ -12,7 +12,7 @@ use Rattle.flow_systems.specs.View.{equations_of}
 use Rattle.flow_systems.proofs.Sizes.{both, flow_sizes}
 use Rattle.theory_validity.specs.Certificates.{PointsInRange}
 use Rattle.theory_validity.proofs.certificates.Needs.{in_of_contains}
-use Rattle.flow_edges.specs.declared.limits.TheConstants.{MOST_POINTS}
+use Rattle.flow_edges.specs.declared.limits.TheConstants.{MOST_POINTS, MOST_EDGES, MOST_ACTIONS}
 use Rattle.lang_tree.specs.declared.limits.TheConstants.{MOST_VARIABLES, MOST_HIDDEN}
 
 edge_passes : (n points : ℕ) (edges : List Edge) → IsTrue (list_all (is_edge n points) edges) → (edge : Edge) → In edges edge
@@ -32,20 +32,20 @@ points_in_range system =
           let n = length system.flow.names + MOST_HIDDEN in
           let points = length system.flow.points in
           let a = both (nat_lt edge.from points) (nat_lt 0 edge.to && (nat_lt edge.to points
-          && (nat_le (length edge.actions) 256 && list_all (is_action n) edge.actions)))
+          && (nat_le (length edge.actions) MOST_ACTIONS && list_all (is_action n) edge.actions)))
           (edge_passes n points system.flow.edges sizes.edges edge (in_of_contains system.flow.edges edge c)) in
-          let b = both (nat_lt 0 edge.to) (nat_lt edge.to points && (nat_le (length edge.actions) 256
+          let b = both (nat_lt 0 edge.to) (nat_lt edge.to points && (nat_le (length edge.actions) MOST_ACTIONS
           && list_all (is_action n) edge.actions)) a.1 in
-          let d = both (nat_lt edge.to points) (nat_le (length edge.actions) 256 && list_all (is_action n) edge.actions) b.1 in
+          let d = both (nat_lt edge.to points) (nat_le (length edge.actions) MOST_ACTIONS && list_all (is_action n) edge.actions) b.1 in
           ltb-true edge.to points d.0;
     }
 
--- a system has at most 256 edges
-pub few_edges : (flow : Flow) → length flow.edges ≤ 256
+-- a system has few edges
+pub few_edges : (flow : Flow) → length flow.edges ≤ MOST_EDGES
 few_edges flow =
     let a = both (nat_le 1 (length flow.names) && nat_le (length flow.names) MOST_VARIABLES) _ flow.within_limits in
     let b = both (nat_le 2 (length flow.points) && nat_le (length flow.points) MOST_POINTS) _ a.1 in
     let c = both (begins_with_entry flow.points && list_all has_line flow.points) _ b.1 in
     let n = length flow.names + MOST_HIDDEN in
-    let e = both (nat_le (length flow.edges) 256) (list_all (is_edge n (length flow.points)) flow.edges) c.1 in
-    leb-true (length flow.edges) 256 e.0
+    let e = both (nat_le (length flow.edges) MOST_EDGES) (list_all (is_edge n (length flow.points)) flow.edges) c.1 in
+    leb-true (length flow.edges) MOST_EDGES e.0

@@ -13,6 +13,7 @@ use Rattle.lang_tree.specs.PointNumbers.{splits, points_of, points_in, join_of, 
 use Rattle.flow_edges.specs.declared.edge.Action.{Action}
 use Rattle.flow_edges.specs.declared.edge.Action.TheVariants.{Guard, Assign, Havoc, Check}
 use Rattle.flow_edges.specs.declared.edge.Edge.{Edge}
+use Rattle.flow_edges.specs.declared.limits.TheConstants.{KEPT}
 use Rattle.flow_edges.specs.FlowLimits.{is_action}
 use Rattle.flow_edges.specs.Constants.{have_room, deed_room, deeds_room, kind_room, has_rooms, have_rooms}
 use Rattle.flow_edges.specs.Steps.{guards}
@@ -216,7 +217,7 @@ module _ (n : ℕ) where
   reached_fit : (p : ℕ) (ways : List Way) → Each WayFits ways → Each EdgeFits (reached (begun_at p) ways)
   reached_fit p ways k =
       each-map WayFits EdgeFits (λ w. record { from = p; to = w.to; actions = kept w.actions })
-      (λ w a. each-take (λ b. IsTrue (is_action n b)) 257 w.actions a) ways k
+      (λ w a. each-take (λ b. IsTrue (is_action n b)) KEPT w.actions a) ways k
 
   if_edges_fit : (b : Bool) (edges : List Edge) → Each EdgeFits edges → Each EdgeFits (if b then edges else [])
   if_edges_fit true edges a = a

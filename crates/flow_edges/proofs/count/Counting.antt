@@ -19,32 +19,32 @@ pub either_way : (a b : ℕ) → (a ≤ b) ⊎ (b < a)
 either_way a b = ⊎_elim (λ e. inl (omega arith)) (λ r. ⊎_elim (λ l. inl (omega arith)) (λ g. inr g) r) (cases_order a b)
 
 -- a product is at least a factor that is past the limit, where the other isn't 0
-grown : (a b : ℕ) → 257 ≤ a → min (257 * min b 257) 257 ≡ min (a * b) 257
+grown : (a b : ℕ) → ENOUGH ≤ a → min (ENOUGH * min b ENOUGH) ENOUGH ≡ min (a * b) ENOUGH
 grown a zero h = omega arith
 grown a (suc n) h = omega (arith, mul-le-mul_right (suc n) h)
 
-past : (a b : ℕ) → 257 ≤ b → min (a * 257) 257 ≡ min (a * b) 257
+past : (a b : ℕ) → ENOUGH ≤ b → min (a * ENOUGH) ENOUGH ≡ min (a * b) ENOUGH
 past zero b h = omega arith
 past (suc n) b h = omega (arith, mul-le-mul_left (suc n) h)
 
-capped : (a b : ℕ) → min (min a 257 * min b 257) 257 ≡ min (a * b) 257
+capped : (a b : ℕ) → min (min a ENOUGH * min b ENOUGH) ENOUGH ≡ min (a * b) ENOUGH
 capped a b =
     ⊎_elim
-    (λ (h : 257 ≤ a). let e : min a 257 ≡ 257 = omega arith in rw e (grown a b h))
-    (λ (h : a < 257).
-    let e : min a 257 ≡ a = omega arith in
+    (λ (h : ENOUGH ≤ a). let e : min a ENOUGH ≡ ENOUGH = omega arith in rw e (grown a b h))
+    (λ (h : a < ENOUGH).
+    let e : min a ENOUGH ≡ a = omega arith in
     ⊎_elim
-    (λ (k : 257 ≤ b).
-    let d : min b 257 ≡ 257 = omega arith in
+    (λ (k : ENOUGH ≤ b).
+    let d : min b ENOUGH ≡ ENOUGH = omega arith in
     rw (e, d) (past a b k))
-    (λ (k : b < 257). let d : min b 257 ≡ b = omega arith in rw (e, d) refl)
-    (either_way 257 b))
-    (either_way 257 a)
+    (λ (k : b < ENOUGH). let d : min b ENOUGH ≡ b = omega arith in rw (e, d) refl)
+    (either_way ENOUGH b))
+    (either_way ENOUGH a)
 
 -- a product of capped numbers, capped, is the capped product of the numbers
 pub product_counted : (x y a b r : ℕ) → x ≡ min a ENOUGH → y ≡ min b ENOUGH → r ≡ min (x * y) ENOUGH → r ≡ min (a * b) ENOUGH
 product_counted x y a b r p q e =
-    let f : r ≡ min (min a 257 * min b 257) 257 = rw (p, q) at e in
+    let f : r ≡ min (min a ENOUGH * min b ENOUGH) ENOUGH = rw (p, q) at e in
     f ∙ capped a b
 
 length-crossed : (us vs : List (List Form)) → length (crossed us vs) ≡ length us * length vs

@@ -1,4 +1,4 @@
--- The edges of a program as they are walked are its edges, with the first 257 actions of each.
+-- The edges of a program as they are walked are its edges, with the actions of each that are kept.
 use Rattle.std.proofs.Common.{◌≡◌, ◌∙◌, ℕ, zero, suc, ◌+◌, Bool, true, false, List, [], ◌∷◌, ◌++◌, length, map, refl, sym, ap, ap₂, arith}
 use Rattle.std.proofs.Common.{append_assoc}
 use Rattle.std.specs.Prelude.{◌||◌, Some, None, if◌then◌else◌}
@@ -122,7 +122,7 @@ module _ (exit : ℕ) where
         (walked_of s n after ∙ ap₂ (edges_in_node s n) (jumps-nodes exit more m rest) (ways-nodes exit more m rest))
         (later-points (completes s) m (points_in more) ws _ (walked_in more m rest))
 
--- the edges that are walked are the program's edges, each with the first 257 of its actions
+-- the edges that are walked are the program's edges, each with the actions that are kept of it
 pub walked_program : (body : Statements) → kept_edges body ≡ cut (edges_of_program body)
 walked_program body =
     let exit = exit_of body in

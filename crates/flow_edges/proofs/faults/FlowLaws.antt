@@ -20,7 +20,8 @@ use Rattle.flow_edges.specs.Points.{made_in, points_of_program}
 use Rattle.flow_edges.specs.Places.{one_point, places_of, places_in}
 use Rattle.flow_edges.specs.Edges.{edges_of_program}
 use Rattle.flow_edges.specs.Trails.{kept, kept_edge, kept_edges}
-use Rattle.flow_edges.specs.Faults.{is_long, long_fault, counted_after, counted_fault, fault_or, checks_fault, fault_of_program}
+use Rattle.flow_edges.specs.Faults.{is_longer, is_long, long_fault, counted_after, counted_fault, fault_or, checks_fault, fault_of_program}
+use Rattle.flow_edges.specs.Faults.{has_many_actions, actions_fault}
 use Rattle.flow_edges.specs.Faults.{wide_lines_in}
 use Rattle.flow_edges.specs.Checks.{checks_in}
 use Rattle.flow_edges.specs.FlowLimits.{is_entry, is_exit, begins_with_entry, has_line, is_action, is_edge, is_flow}
@@ -32,7 +33,7 @@ use Rattle.flow_edges.proofs.count.Counting.{either_way}
 use Rattle.flow_edges.proofs.build.EdgeLimits.{EdgeFits, few_in, edges_fit}
 use Rattle.flow_edges.proofs.steps.ElementLemmas.{in_contains}
 use Rattle.flow_edges.proofs.edges.Ranges.{ranges_law}
-use Rattle.flow_edges.specs.declared.limits.TheConstants.{MOST_POINTS, MOST_CHECKS}
+use Rattle.flow_edges.specs.declared.limits.TheConstants.{MOST_POINTS, MOST_EDGES, MOST_ACTIONS, KEPT, MOST_CHECKS}
 use Rattle.lang_tree.specs.declared.limits.TheConstants.{MOST_VARIABLES, MOST_HIDDEN}
 
 -- ---- a program's limits
@@ -73,38 +74,44 @@ no_choice false true x y h = cc
 no_choice false false x y h = (refl, refl)
 
 none_after : (lines : List ℕ) (body : Statements) → counted_after lines body ≡ None
-    → (point_count body ≤ MOST_POINTS) × (length (edges_of_program body) ≤ 256)
+    → (point_count body ≤ MOST_POINTS) × (length (edges_of_program body) ≤ MOST_EDGES)
 none_after [] body h =
-    let p = no_choice (nat_lt MOST_POINTS (point_count body)) (nat_lt 256 (length (edges_of_program body)))
+    let p = no_choice (nat_lt MOST_POINTS (point_count body)) (nat_lt MOST_EDGES (length (edges_of_program body)))
     (fault.Points (point_count body)) fault.Edges h in
-    (ltb-false MOST_POINTS (point_count body) p.0, ltb-false 256 (length (edges_of_program body)) p.1)
+    (ltb-false MOST_POINTS (point_count body) p.0, ltb-false MOST_EDGES (length (edges_of_program body)) p.1)
 none_after (line ∷ lines) body h = cc
 
-none_counted : (body : Statements) → counted_fault body ≡ None → (point_count body ≤ MOST_POINTS) × (length (edges_of_program body) ≤ 256)
+none_counted : (body : Statements) → counted_fault body ≡ None → (point_count body ≤ MOST_POINTS) × (length (edges_of_program body) ≤ MOST_EDGES)
 none_counted body h = none_after (wide_lines_in body) body h
 
 -- ---- edges that are too long
-long-kept : (e : Edge) → is_long (kept_edge e) ≡ is_long e
-long-kept e =
-    let l : length (kept e.actions) ≡ min 257 (length e.actions) = length-take 257 e.actions in
+longer-kept : (most : ℕ) → most < KEPT → (e : Edge) → is_longer most (kept_edge e) ≡ is_longer most e
+longer-kept most m e =
+    let l : length (kept e.actions) ≡ min KEPT (length e.actions) = length-take KEPT e.actions in
     ⊎_elim
-    (λ (h : length e.actions ≤ 257). ap (λ a. nat_lt 256 (length a)) (take_all 257 e.actions h))
-    (λ (h : 257 < length e.actions).
-    let k : 256 < length (kept e.actions) = omega arith in
-    let o : 256 < length e.actions = omega arith in
-    lt-ltb 256 (length (kept e.actions)) k ∙ sym (lt-ltb 256 (length e.actions) o))
-    (either_way (length e.actions) 257)
+    (λ (h : length e.actions ≤ KEPT). ap (λ a. nat_lt most (length a)) (take_all KEPT e.actions h))
+    (λ (h : KEPT < length e.actions).
+    let k : most < length (kept e.actions) = omega arith in
+    let o : most < length e.actions = omega arith in
+    lt-ltb most (length (kept e.actions)) k ∙ sym (lt-ltb most (length e.actions) o))
+    (either_way (length e.actions) KEPT)
 
-from-kept : (i : ℕ) (es : List Edge) → position_from is_long i (map kept_edge es) ≡ position_from is_long i es
-from-kept i [] = refl
-from-kept i (e ∷ es) = ap₂ (λ b r. let o : Option ℕ = cond b (Some i) r in o) (long-kept e) (from-kept (i + 1) es)
+from-kept : (most : ℕ) → most < KEPT → (i : ℕ) (es : List Edge)
+    → position_from (is_longer most) i (map kept_edge es) ≡ position_from (is_longer most) i es
+from-kept most m i [] = refl
+from-kept most m i (e ∷ es) = ap₂ (λ b r. let o : Option ℕ = cond b (Some i) r in o) (longer-kept most m e) (from-kept most m (i + 1) es)
 
--- the first edge that is too long is the same when each edge keeps 257 actions
-pub long_place-kept : (es : List Edge) → position is_long (map kept_edge es) ≡ position is_long es
-long_place-kept es = position_from-zero is_long (map kept_edge es) ∙ from-kept 0 es ∙ sym (position_from-zero is_long es)
+-- the first edge with more actions than so many is the same when each edge keeps as many and more
+pub place-kept : (most : ℕ) → most < KEPT → (es : List Edge) → position (is_longer most) (map kept_edge es) ≡ position (is_longer most) es
+place-kept most m es =
+    position_from-zero (is_longer most) (map kept_edge es) ∙ from-kept most m 0 es ∙ sym (position_from-zero (is_longer most) es)
+
+-- so is the first edge that is too long
+long_place-kept : (es : List Edge) → position is_long (map kept_edge es) ≡ position is_long es
+long_place-kept es = place-kept MOST_ACTIONS (omega arith) es
 
 abbrev IsShort : Edge → Type 0
-IsShort e = length e.actions ≤ 256
+IsShort e = length e.actions ≤ MOST_ACTIONS
 
 none_first : (b : Bool) (i : ℕ) (o : Option ℕ) → cond b (Some i) o ≡ None → (b ≡ false) × (o ≡ None)
 none_first true i o h = cc
@@ -114,7 +121,7 @@ short_from : (i : ℕ) (es : List Edge) → position_from is_long i es ≡ None 
 short_from i [] h = tt
 short_from i (e ∷ es) h =
     let p = none_first (is_long e) i (position_from is_long (i + 1) es) h in
-    (ltb-false 256 (length e.actions) p.0, short_from (i + 1) es p.1)
+    (ltb-false MOST_ACTIONS (length e.actions) p.0, short_from (i + 1) es p.1)
 
 short : (es : List Edge) → position is_long es ≡ None → Each IsShort es
 short es h = short_from 0 es (sym (position_from-zero is_long es) ∙ h)
@@ -122,7 +129,7 @@ short es h = short_from 0 es (sym (position_from-zero is_long es) ∙ h)
 whole : (es : List Edge) → Each IsShort es → map kept_edge es ≡ es
 whole [] h = refl
 whole (e ∷ es) h =
-    ap₂ (λ a r. let f : Edge = record e { actions = a } in f ∷ r) (take_all 257 e.actions (omega (arith, h.0))) (whole es h.1)
+    ap₂ (λ a r. let f : Edge = record e { actions = a } in f ∷ r) (take_all KEPT e.actions (omega (arith, h.0))) (whole es h.1)
 
 -- where no edge is too long nothing of them is cut off
 pub nothing_cut : (body : Statements) → position is_long (kept_edges body) ≡ None → kept_edges body ≡ edges_of_program body
@@ -134,18 +141,29 @@ nothing_cut body h =
 place_of_long : (body : Statements) → position is_long (kept_edges body) ≡ position is_long (edges_of_program body)
 place_of_long body = ap (position is_long) (walked_program body) ∙ long_place-kept (edges_of_program body)
 
--- where counting finds no fault, the program's fault is that of the kept edges or of the checks
+-- where counting finds no fault, the program's fault is that of the kept edges, or of all actions, or of the checks
 after_counting : (body : Statements) (k : Option ℕ) → counted_fault body ≡ None → position is_long (kept_edges body) ≡ k
-    → fault_of_program body ≡ fault_or (option_map (λ e. fault.Actions e) k) (checks_fault body)
+    → fault_of_program body
+    ≡ fault_or (option_map (λ e. fault.Actions e) k) (fault_or (actions_fault (edges_of_program body)) (checks_fault body))
 after_counting body k h l =
-    ap (λ o. fault_or o (fault_or (long_fault (edges_of_program body)) (checks_fault body))) h
-    ∙ ap (λ o. fault_or (option_map (λ e. fault.Actions e) o) (checks_fault body)) (sym (place_of_long body) ∙ l)
+    let later = fault_or (actions_fault (edges_of_program body)) (checks_fault body) in
+    ap (λ o. fault_or o (fault_or (long_fault (edges_of_program body)) later)) h
+    ∙ ap (λ o. fault_or (option_map (λ e. fault.Actions e) o) later) (sym (place_of_long body) ∙ l)
 
--- where counting finds no fault, no kept edge is too long and there are few checks, the program has no fault
-pub no_fault : (body : Statements) → counted_fault body ≡ None → position is_long (kept_edges body) ≡ None
-    → length (checks_in body) ≤ MOST_CHECKS → fault_of_program body ≡ None
-no_fault body h k l =
+-- where no kept edge is too long either, it is that of all actions of the kept edges, or of the checks
+after_long : (body : Statements) (many : Bool) → counted_fault body ≡ None → position is_long (kept_edges body) ≡ None
+    → has_many_actions (kept_edges body) ≡ many → fault_of_program body ≡ fault_or (if many then Some fault.AllActions else None)
+    (checks_fault body)
+after_long body many h k m =
     after_counting body None h k
+    ∙ ap (λ es. fault_or (actions_fault es) (checks_fault body)) (sym (nothing_cut body k))
+    ∙ ap (λ b. let o : Option FlowFault = (if b then Some fault.AllActions else None) in fault_or o (checks_fault body)) m
+
+-- where counting finds no fault, no kept edge is too long, there are not too many actions and few checks, the program has no fault
+pub no_fault : (body : Statements) → counted_fault body ≡ None → position is_long (kept_edges body) ≡ None
+    → has_many_actions (kept_edges body) ≡ false → length (checks_in body) ≤ MOST_CHECKS → fault_of_program body ≡ None
+no_fault body h k m l =
+    after_long body false h k m
     ∙ ap (λ b. let o : Option FlowFault = (if b then Some (fault.Checks (length (checks_in body))) else None) in o)
     (le-ltb MOST_CHECKS (length (checks_in body)) l)
 
@@ -154,11 +172,17 @@ pub long_faulted : (body : Statements) (k : ℕ) → counted_fault body ≡ None
     → fault_of_program body ≡ Some (fault.Actions k)
 long_faulted body k h l = after_counting body (Some k) h l
 
--- where counting finds no fault and no kept edge is too long, the checks are it where they are too many
+-- where counting finds no fault and no kept edge is too long, too many actions of all edges are it
+pub actions_faulted : (body : Statements) → counted_fault body ≡ None → position is_long (kept_edges body) ≡ None
+    → has_many_actions (kept_edges body) ≡ true → fault_of_program body ≡ Some fault.AllActions
+actions_faulted body h k m = after_long body true h k m
+
+-- where none of these is so, the checks are it where they are too many
 pub checks_faulted : (body : Statements) → counted_fault body ≡ None → position is_long (kept_edges body) ≡ None
+    → has_many_actions (kept_edges body) ≡ false
     → MOST_CHECKS < length (checks_in body) → fault_of_program body ≡ Some (fault.Checks (length (checks_in body)))
-checks_faulted body h k l =
-    after_counting body None h k
+checks_faulted body h k m l =
+    after_long body false h k m
     ∙ ap (λ b. let o : Option FlowFault = (if b then Some (fault.Checks (length (checks_in body))) else None) in o)
     (lt-ltb MOST_CHECKS (length (checks_in body)) l)
 
@@ -220,7 +244,7 @@ edge_within n m e r h k =
     and_from (nat_lt e.from m) _ (lt-ltb e.from m r.from)
     (and_from (nat_lt 0 e.to) _ (lt-ltb 0 e.to r.later)
     (and_from (nat_lt e.to m) _ (lt-ltb e.to m r.to)
-    (and_from (nat_le (length e.actions) 256) _ (le-leb (length e.actions) 256 k) (each_passes (is_action n) e.actions h))))
+    (and_from (nat_le (length e.actions) MOST_ACTIONS) _ (le-leb (length e.actions) MOST_ACTIONS k) (each_passes (is_action n) e.actions h))))
 
 edges_within : (n : ℕ) (body : Statements) → IsTrue (are_statements n false body) → position is_long (kept_edges body) ≡ None →
     IsTrue (list_all (is_edge n (point_count body)) (kept_edges body))
@@ -235,7 +259,7 @@ edges_within n body h k =
     (each_both (λ e. IsInRange m e × EdgeFits n e) IsShort (λ e. IsTrue (is_edge n m e)) (λ e p l. edge_within n m e p.0 p.1 l) edges
     (each_both (IsInRange m) (EdgeFits n) (λ e. IsInRange m e × EdgeFits n e) (λ e p q. (p, q)) edges range fit) brief))
 
-few_edges : (body : Statements) → counted_fault body ≡ None → length (kept_edges body) ≤ 256
+few_edges : (body : Statements) → counted_fault body ≡ None → length (kept_edges body) ≤ MOST_EDGES
 few_edges body h = omega (arith, (none_counted body h).1, ap length (walked_program body), length-map (edges_of_program body) kept_edge)
 
 program_within : (names : List (List ℕ)) (body : Statements) → IsTrue (is_program (length names) body) → counted_fault body ≡ None
@@ -257,8 +281,8 @@ program_within names body h k l =
     (and_from (nat_le 2 (length points)) (nat_le (length points) MOST_POINTS) (le-leb 2 (length points) two)
     (le-leb (length points) MOST_POINTS few))
     (and_from (begins_with_entry points && list_all has_line points) _ (points_within body)
-    (and_from (nat_le (length edges) 256) (list_all (is_edge (n + MOST_HIDDEN) (length points)) edges)
-    (le-leb (length edges) 256 (few_edges body k)) all)))
+    (and_from (nat_le (length edges) MOST_EDGES) (list_all (is_edge (n + MOST_HIDDEN) (length points)) edges)
+    (le-leb (length edges) MOST_EDGES (few_edges body k)) all)))
 
 -- where there is no fault, names, points and edges are a flow within the limits
 pub flow_within : (names : List (List ℕ)) (points : List Point) (edges : List Edge) (body : Statements)

@@ -1,4 +1,4 @@
--- Ways that lead to the same edges, whatever is walked before them: those of which the first 257 actions are the same.
+-- Ways that lead to the same edges, whatever is walked before them: those of which the same actions are kept.
 use Rattle.std.proofs.Common.{◌≡◌, ◌∙◌, ℕ, ◌+◌, Bool, true, false, List, [], ◌∷◌, ◌++◌, refl, sym, ap₂}
 use Rattle.std.specs.Prelude.{◌||◌, if◌then◌else◌}
 use Rattle.lang_tree.specs.declared.form.Form.{Form}
@@ -25,7 +25,7 @@ pub record Alike (us vs : List Way) : Type 0 where
 pub alike_same : (ways : List Way) → Alike ways ways
 alike_same ways = record { at = λ b. refl }
 
--- walked edges keep 257 actions of the ways
+-- walked edges keep of the ways what is kept
 rewalked : (p : ℕ) (b : Begun) (ways : List Way) → reached b (walked (reached (begun_at p) ways)) ≡ reached b ways
 rewalked p b [] = refl
 rewalked p b (w ∷ ways) =

@@ -13,27 +13,28 @@ use Rattle.lang_tree.specs.Cases.{cases_of}
 use Rattle.flow_edges.specs.declared.edge.Action.{Action}
 use Rattle.flow_edges.specs.declared.edge.Action.TheVariants.{Guard, Assign, Havoc, Check}
 use Rattle.flow_edges.specs.declared.edge.Edge.{Edge}
+use Rattle.flow_edges.specs.declared.limits.TheConstants.{KEPT}
 use Rattle.flow_edges.specs.Steps.{guards}
 use Rattle.flow_edges.specs.Edges.{Way, prefixed, by_case, deed_ways, deeds_ways}
 use Rattle.flow_edges.specs.Trails.{Begun, begun_at, kept, followed, reached, split, by_cases, begun_by, begun_along}
 use Rattle.flow_edges.proofs.count.Counting.{either_way}
 use Rattle.flow_edges.proofs.edge_walk.Loops.{loop_end}
 
--- of at most 257 actions all are kept
-pub kept_all : (xs : List Action) → length xs ≤ 257 → kept xs ≡ xs
-kept_all xs h = take_all 257 xs h
+-- of actions that are few enough all are kept
+pub kept_all : (xs : List Action) → length xs ≤ KEPT → kept xs ≡ xs
+kept_all xs h = take_all KEPT xs h
 
 -- what is cut off already changes nothing
 kept-append : (xs ys : List Action) → kept (kept xs ++ ys) ≡ kept (xs ++ ys)
 kept-append xs ys =
     ⊎_elim
-    (λ (h : 257 ≤ length xs).
-    let l : length (kept xs) ≡ 257 = omega (arith, length-take 257 xs) in
-    let m : 257 ≤ length (kept xs) = omega arith in
-    let n : length (kept xs) ≤ 257 = omega arith in
-    take-append-le 257 (kept xs) ys m ∙ take_all 257 (kept xs) n ∙ sym (take-append-le 257 xs ys h))
-    (λ (h : length xs < 257). ap (λ z. kept (z ++ ys)) (kept_all xs (omega arith)))
-    (either_way 257 (length xs))
+    (λ (h : KEPT ≤ length xs).
+    let l : length (kept xs) ≡ KEPT = omega (arith, length-take KEPT xs) in
+    let m : KEPT ≤ length (kept xs) = omega arith in
+    let n : length (kept xs) ≤ KEPT = omega arith in
+    take-append-le KEPT (kept xs) ys m ∙ take_all KEPT (kept xs) n ∙ sym (take-append-le KEPT xs ys h))
+    (λ (h : length xs < KEPT). ap (λ z. kept (z ++ ys)) (kept_all xs (omega arith)))
+    (either_way KEPT (length xs))
 
 take-append-take : (k m : ℕ) (xs ys : List Action) → k ≤ m → take k (xs ++ take m ys) ≡ take k (xs ++ ys)
 take-append-take k m [] ys h = take-take k m ys h
@@ -42,32 +43,32 @@ take-append-take (suc k) m (x ∷ xs) ys h = ap (λ r. x ∷ r) (take-append-tak
 
 -- also what is cut off of later actions
 pub append-kept : (xs ys : List Action) → kept (xs ++ kept ys) ≡ kept (xs ++ ys)
-append-kept xs ys = take-append-take 257 257 xs ys (omega arith)
+append-kept xs ys = take-append-take KEPT KEPT xs ys (omega arith)
 
 -- what is kept of kept actions is what was kept
 pub kept_twice : (xs : List Action) → kept (kept xs) ≡ kept xs
-kept_twice xs = take-take 257 257 xs (omega arith)
+kept_twice xs = take-take KEPT KEPT xs (omega arith)
 
 abbrev begun : ℕ → List Action → Begun
 begun p actions = record { from = p; actions = actions }
 
 -- following an edge by no action leaves it as it is
-pub followed_by_nothing : (b : Begun) → length b.actions ≤ 257 → followed b [] ≡ b
+pub followed_by_nothing : (b : Begun) → length b.actions ≤ KEPT → followed b [] ≡ b
 followed_by_nothing b h = ap (begun b.from) (ap kept (append-nil b.actions) ∙ kept_all b.actions h)
 
 followed_on : (b : Begun) (xs ys : List Action) → followed (followed b xs) ys ≡ followed b (xs ++ ys)
 followed_on b xs ys = ap (begun b.from) (kept-append (b.actions ++ xs) ys ∙ ap kept (append_assoc b.actions xs ys))
 
 -- one more action, where there is room for it
-pub followed_by_one : (b : Begun) (a : Action) (items : List Action) → items ≡ b.actions ++ a ∷ [] → length b.actions < 257
+pub followed_by_one : (b : Begun) (a : Action) (items : List Action) → items ≡ b.actions ++ a ∷ [] → length b.actions < KEPT
     → begun b.from items ≡ followed b (a ∷ [])
 followed_by_one b a items e h =
     let one : List Action = a ∷ [] in
     ap (begun b.from) (e ∙ sym (kept_all (b.actions ++ one) (omega (arith, length-append b.actions one))))
 
 -- and where there is none
-pub followed_past : (b : Begun) (xs : List Action) → 257 ≤ length b.actions → length b.actions ≤ 257 → b ≡ followed b xs
-followed_past b xs h k = sym (ap (begun b.from) (take-append-le 257 b.actions xs h ∙ kept_all b.actions k))
+pub followed_past : (b : Begun) (xs : List Action) → KEPT ≤ length b.actions → length b.actions ≤ KEPT → b ≡ followed b xs
+followed_past b xs h k = sym (ap (begun b.from) (take-append-le KEPT b.actions xs h ∙ kept_all b.actions k))
 
 abbrev arrow : Begun → Way → Edge
 arrow b w = record { from = b.from; to = w.to; actions = kept (b.actions ++ w.actions) }

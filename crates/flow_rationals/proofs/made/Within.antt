@@ -20,7 +20,10 @@ use Rattle.flow_edges.specs.declared.edge.Edge.{Edge}
 use Rattle.flow_edges.specs.declared.point.Point.{Point}
 use Rattle.flow_edges.specs.FlowLimits.{is_action, is_edge, is_flow}
 use Rattle.flow_systems.proofs.EdgeActions.{edges_grow}
-use Rattle.lang_tree.specs.declared.limits.TheConstants.{MOST_HIDDEN}
+use Rattle.lang_tree.specs.declared.limits.TheConstants.{MOST_VARIABLES, MOST_HIDDEN}
+use Rattle.flow_edges.specs.declared.limits.TheConstants.{MOST_EDGES, MOST_ACTIONS}
+use Rattle.flow_templates.specs.declared.limits.TheConstants.{MOST_ROWS}
+use Rattle.flow_systems.specs.declared.limits.TheConstants.{MOST_UNKNOWNS}
 use Rattle.flow_templates.specs.Rows.{is_row, width_of, is_template}
 use Rattle.flow_templates.specs.Domains.{term, multiple}
 use Rattle.flow_systems.specs.SystemLimits.{is_over, is_system}
@@ -153,12 +156,12 @@ length-edges n (e ∷ equations) k =
     ∙ sym (sum_by-cons (λ (f : Equation). length f.alternatives) e equations)
 
 -- ---- all edges
-edge_within : (n from : ℕ) (actions : List Action) → from < 2 → length actions ≤ 256
+edge_within : (n from : ℕ) (actions : List Action) → from < 2 → length actions ≤ MOST_ACTIONS
     → ((a : Action) → In actions a → is_action (n + 1) a ≡ true) →
     is_edge (n + 1) 2 (record { from = from; to = 1; actions = actions }) ≡ true
 edge_within n from actions l few h =
-    and_from (nat_lt from 2) (nat_le (length actions) 256 && list_all (is_action (n + 1)) actions) (lt-ltb from 2 l)
-    (and_from (nat_le (length actions) 256) (list_all (is_action (n + 1)) actions) (le-leb (length actions) 256 few)
+    and_from (nat_lt from 2) (nat_le (length actions) MOST_ACTIONS && list_all (is_action (n + 1)) actions) (lt-ltb from 2 l)
+    (and_from (nat_le (length actions) MOST_ACTIONS) (list_all (is_action (n + 1)) actions) (le-leb (length actions) MOST_ACTIONS few)
     (all_from (is_action (n + 1)) actions h))
 
 module _ (equations : List Equation) (sound : AreSound equations) where
@@ -190,7 +193,7 @@ module _ (equations : List Equation) (sound : AreSound equations) where
   edges_within = all_from (is_edge (length equations + 1) 2) (edges_of equations) (λ edge m.
       ⊎_elim (λ e. subst (λ f. is_edge (length equations + 1) 2 f ≡ true) e start_within) (alternative_within edge) m)
 
-  few_edges : length (edges_of equations) ≤ 256
+  few_edges : length (edges_of equations) ≤ MOST_EDGES
   few_edges = let e = length-edges (length equations) equations 0 in let f = sound.few_alternatives in omega arith
 
 -- there is one variable for each equation, and one more
@@ -206,12 +209,12 @@ flow_limits equations h =
     let names = length (variables_of equations) in
     let e = length-variables equations in
     let edges = edges_of equations in
-    and_from (nat_le 1 names && nat_le names 12) _
-    (and_from (nat_le 1 names) (nat_le names 12) (le-leb 1 names (omega arith)) (le-leb names 12 (omega arith)))
+    and_from (nat_le 1 names && nat_le names MOST_VARIABLES) _
+    (and_from (nat_le 1 names) (nat_le names MOST_VARIABLES) (le-leb 1 names (omega arith)) (le-leb names MOST_VARIABLES (omega arith)))
     (and_from true _ refl
     (and_from true _ refl
-    (and_from (nat_le (length edges) 256) (list_all (is_edge (names + MOST_HIDDEN) 2) edges)
-    (le-leb (length edges) 256 (few_edges equations sound))
+    (and_from (nat_le (length edges) MOST_EDGES) (list_all (is_edge (names + MOST_HIDDEN) 2) edges)
+    (le-leb (length edges) MOST_EDGES (few_edges equations sound))
     (edges_grow names (names + MOST_HIDDEN) 2 edges (omega arith)
     (subst (λ k. list_all (is_edge k 2) edges ≡ true) (sym e) (edges_within equations sound))))))
 
@@ -248,9 +251,9 @@ width-rows (suc m) h = length-map-range_with_len (term (pos 1) 0) 0 (suc m + 1)
 rows_limits : (n : ℕ) → 1 ≤ n → n ≤ 11 → IsTrue (is_template (rows_of n))
 rows_limits n h k =
     let e = length-rows n in
-    and_from (nat_le 1 (length (rows_of n)) && nat_le (length (rows_of n)) 288) _
-    (and_from (nat_le 1 (length (rows_of n))) (nat_le (length (rows_of n)) 288) (le-leb 1 (length (rows_of n)) (omega arith))
-    (le-leb (length (rows_of n)) 288 (omega arith)))
+    and_from (nat_le 1 (length (rows_of n)) && nat_le (length (rows_of n)) MOST_ROWS) _
+    (and_from (nat_le 1 (length (rows_of n))) (nat_le (length (rows_of n)) MOST_ROWS) (le-leb 1 (length (rows_of n)) (omega arith))
+    (le-leb (length (rows_of n)) MOST_ROWS (omega arith)))
     (all_from (λ row. is_row row && length row == width_of (rows_of n)) (rows_of n) (λ row m.
     let p = row_passes n row m in
     and_from (is_row row) (length row == width_of (rows_of n)) p.0 (eq-eqb (length row) (width_of (rows_of n))
@@ -270,10 +273,10 @@ system_limits equations h =
     let n = length equations in
     let names = length (variables_of equations) in
     let e = length-rows n in
-    and_from (is_over names (rows_of n)) (nat_le (2 * length (rows_of n)) 2048)
+    and_from (is_over names (rows_of n)) (nat_le (2 * length (rows_of n)) MOST_UNKNOWNS)
     (all_from (λ row. length row == names) (rows_of n) (λ row m. eq-eqb (length row) names
     ((row_passes n row m).1 ∙ sym (length-variables equations))))
-    (le-leb (2 * length (rows_of n)) 2048 (omega arith))
+    (le-leb (2 * length (rows_of n)) MOST_UNKNOWNS (omega arith))
 
 -- variables, points and rows of equations within the limits are a system within the limits
 pub system_within : (equations : List Equation) (names : List (List ℕ)) (points : List Point) (template : List (List ℤ))

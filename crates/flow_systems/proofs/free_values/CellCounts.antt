@@ -21,6 +21,7 @@ use Rattle.flow_systems.specs.Cells.{is_havoc, guard_count, greatest, most}
 use Rattle.flow_systems.proofs.Sizes.{both, flow_sizes}
 use Rattle.flow_templates.specs.declared.limits.TheConstants.{MOST_ROWS}
 use Rattle.lang_tree.specs.declared.limits.TheConstants.{MOST_VARIABLES, MOST_HIDDEN}
+use Rattle.flow_edges.specs.declared.limits.TheConstants.{MOST_ACTIONS}
 
 -- the number of free assignments is the count of the actions that are free assignments
 pub free_count-is : (actions : List Action) → free_count actions ≡ count_by is_havoc actions
@@ -70,24 +71,24 @@ module _ (count : List Action → ℕ) where
       nothing_more [] = refl
       nothing_more (n ∷ ns) = ap (λ x. n ∷ x) (nothing_more ns)
 
--- an edge has at most 256 actions
+-- an edge has few actions
 most_few : (count : List Action → ℕ) → ((actions : List Action) → count actions ≤ length actions)
-    → (n points : ℕ) (edges : List Edge) (p : ℕ) → IsTrue (list_all (is_edge n points) edges) → most count edges p ≤ 256
-most_few count few n points [] p h = let l : 0 ≤ 256 = omega arith in l
+    → (n points : ℕ) (edges : List Edge) (p : ℕ) → IsTrue (list_all (is_edge n points) edges) → most count edges p ≤ MOST_ACTIONS
+most_few count few n points [] p h = let l : 0 ≤ MOST_ACTIONS = omega arith in l
 most_few count few n points (e ∷ es) p h =
     let t = both (is_edge n points e) (list_all (is_edge n points) es) h in
     at_edge (e.to == p) (few_actions t.0) (most_few count few n points es p t.1)
   where
-    few_actions : IsTrue (is_edge n points e) → count e.actions ≤ 256
+    few_actions : IsTrue (is_edge n points e) → count e.actions ≤ MOST_ACTIONS
     few_actions k =
         let a = both (nat_lt e.from points) _ k in
         let b = both (nat_lt 0 e.to) _ a.1 in
         let c = both (nat_lt e.to points) _ b.1 in
-        let d = both (nat_le (length e.actions) 256) (list_all (is_action n) e.actions) c.1 in
-        omega (arith, leb-true (length e.actions) 256 d.0, few e.actions)
+        let d = both (nat_le (length e.actions) MOST_ACTIONS) (list_all (is_action n) e.actions) c.1 in
+        omega (arith, leb-true (length e.actions) MOST_ACTIONS d.0, few e.actions)
 
-    at_edge : (b : Bool) → count e.actions ≤ 256 → most count es p ≤ 256 →
-        greatest (map (λ e. count e.actions) (cond b (e ∷ filter (λ e. e.to == p) es) (filter (λ e. e.to == p) es))) ≤ 256
+    at_edge : (b : Bool) → count e.actions ≤ MOST_ACTIONS → most count es p ≤ MOST_ACTIONS →
+        greatest (map (λ e. count e.actions) (cond b (e ∷ filter (λ e. e.to == p) es) (filter (λ e. e.to == p) es))) ≤ MOST_ACTIONS
     at_edge true k l = omega (arith, k, l)
     at_edge false k l = l
 
@@ -100,17 +101,19 @@ pub frees_few : (actions : List Action) → free_count actions ≤ length action
 frees_few actions = omega (arith, free_count-is actions, count_by-le-length is_havoc actions)
 
 -- the rows of an unknown's joint problem, for each row of the template, are within their limit
-pub rows_bound : (rows guards : ℕ) → rows ≤ MOST_ROWS → guards ≤ 256 → rows * (rows + 1 + guards) ≤ MOST_ROWS * (MOST_ROWS + 257)
-rows_bound rows guards h k = mul-le rows (rows + 1 + guards) MOST_ROWS (MOST_ROWS + 257) h (omega (arith, h, k))
+pub rows_bound : (rows guards : ℕ) → rows ≤ MOST_ROWS → guards ≤ MOST_ACTIONS
+    → rows * (rows + 1 + guards) ≤ rows * (MOST_ROWS + MOST_ACTIONS + 1)
+rows_bound rows guards h k = mul-le rows (rows + 1 + guards) rows (MOST_ROWS + MOST_ACTIONS + 1) (omega arith) (omega (arith, h, k))
 
 -- the columns of an unknown's joint problem, for each row of the template, are within their limit
-pub columns_bound : (rows names frees : ℕ) → rows ≤ MOST_ROWS → names ≤ MOST_VARIABLES → frees ≤ 256
-    → rows * (1 + 2 * (names + frees)) ≤ MOST_ROWS * (2 * MOST_VARIABLES + 513)
-columns_bound rows names frees h k l = mul-le rows (1 + 2 * (names + frees)) MOST_ROWS (2 * MOST_VARIABLES + 513) h (omega (arith, k, l))
+pub columns_bound : (rows names frees : ℕ) → names ≤ MOST_VARIABLES → frees ≤ MOST_ACTIONS
+    → rows * (1 + 2 * (names + frees)) ≤ rows * (2 * MOST_VARIABLES + 2 * MOST_ACTIONS + 1)
+columns_bound rows names frees k l =
+    mul-le rows (1 + 2 * (names + frees)) rows (2 * MOST_VARIABLES + 2 * MOST_ACTIONS + 1) (omega arith) (omega (arith, k, l))
 
 -- the counts of a flow's edges
 pub few_of : (count : List Action → ℕ) → ((actions : List Action) → count actions ≤ length actions)
-    → (flow : Flow) (edges : List Edge) (p n : ℕ) → edges ≡ flow.edges → n ≡ most count edges p → n ≤ 256
+    → (flow : Flow) (edges : List Edge) (p n : ℕ) → edges ≡ flow.edges → n ≡ most count edges p → n ≤ MOST_ACTIONS
 few_of count few flow edges p n e k = omega (
   arith,
   k,

@@ -1,17 +1,15 @@
--- The rows of the templates: their numbers, that they are templates, and how many there are.
-use Rattle.std.proofs.Common.{◌≡◌, ◌≢◌, ◌≤◌, ◌+◌, ◌-◌, ◌*◌, ℕ, suc, zero, ℤ, pos, negsuc, Bool, true, false, ◌&&◌, cond, eqb, List, [], ◌∷◌}
-use Rattle.std.proofs.Common.{◌++◌, length, map, ap}
+-- The rows of the templates, one by one.
+use Rattle.std.proofs.Common.{◌≡◌, ◌≢◌, ◌≤◌, ◌+◌, ℕ, ℤ, pos, negsuc, Bool, true, false, cond, eqb, List, [], ◌∷◌}
+use Rattle.std.proofs.Common.{◌++◌, map, ap}
 use Rattle.std.proofs.Common.{sym, ◌∙◌, refl, arith, append_assoc, ◌+ℤ◌}
 use Rattle.std.specs.List.{range_with_len, flat_map}
-use Rattle.std.proofs.lemmas.Bool.{and_from, and_parts, eq-eqb, eqb-true, ne_eqb, le-ltb, agree_below, agree_below_at}
+use Rattle.std.proofs.lemmas.Bool.{and_from, eq-eqb, ne_eqb, le-ltb}
 use Rattle.std.proofs.lemmas.Bool.Decides.{nat_tests}
 use Rattle.std.proofs.lemmas.List.{flat_map_more, map-id}
 use Rattle.std.proofs.lemmas.List.FromFn.{map-range_with_len_more}
 use Rattle.std.proofs.Math.IntN.{+ℤ_idl, +ℤ_idr}
 use Rattle.lang_tree.specs.Numbers.{is_number, are_numbers}
-use Rattle.flow_templates.specs.Rows.{is_template, width_of}
-use Rattle.flow_templates.specs.Domains.{term, combination, intervals_of, difference, zones_of, signed_sums, octagons_of}
-use Rattle.lang_tree.specs.declared.limits.TheConstants.{MOST_VARIABLES}
+use Rattle.flow_templates.specs.Domains.{term, combination, difference, signed_sums}
 
 -- the coefficient of the variable itself, and of another one
 pub term_own : (c : ℤ) (i k : ℕ) → k ≡ i → term c i k ≡ c
@@ -91,33 +89,3 @@ difference_one n i j d = rw (ne_eqb i j d) refl
 -- two variables have signed sums only where the second comes after the first
 pub signed_sums_none : (n i j : ℕ) → j ≤ i → [] ≡ signed_sums n i j
 signed_sums_none n i j e = sym (rw (le-ltb i j e) refl)
-
--- what is shown of a template over n variables
-abbrev pub IsCounted : (ℕ → List (List ℤ)) → (ℕ → ℕ) → ℕ → Type 0
-IsCounted rows count n = (is_template (rows n) ≡ true) × (width_of (rows n) ≡ n) × (length (rows n) ≡ count n)
-
--- the same as a test, which is counted out for each number of variables that a program may have
-abbrev is_counted : (ℕ → List (List ℤ)) → (ℕ → ℕ) → ℕ → Bool
-is_counted rows count n = is_template (rows n) && (eqb (width_of (rows n)) n && eqb (length (rows n)) (count n))
-
-counted : (rows : ℕ → List (List ℤ)) (count : ℕ → ℕ) → agree_below (λ k. is_counted rows count (suc k)) (λ k. true) MOST_VARIABLES ≡ true →
-    (n : ℕ) → 1 ≤ n → n ≤ MOST_VARIABLES → IsCounted rows count n
-counted rows count all zero low high = absurd (omega (arith, low))
-counted rows count all (suc k) low high =
-    let n = suc k in
-    let a = and_parts (is_template (rows n)) _ (agree_below_at (λ k. is_counted rows count (suc k)) (λ k. true) MOST_VARIABLES k all
-    (omega (arith, high))) in
-    let b = and_parts (eqb (width_of (rows n)) n) (eqb (length (rows n)) (count n)) a.1 in
-    (a.0, eqb-true (width_of (rows n)) n b.0, eqb-true (length (rows n)) (count n) b.1)
-
--- the intervals over n variables are a template over them, of 2n rows
-pub intervals_counted : (n : ℕ) → 1 ≤ n → n ≤ MOST_VARIABLES → IsCounted intervals_of (λ n. 2 * n) n
-intervals_counted = counted intervals_of (λ n. 2 * n) refl
-
--- the zones over n variables are a template over them, of 2n + n(n - 1) rows
-pub zones_counted : (n : ℕ) → 1 ≤ n → n ≤ MOST_VARIABLES → IsCounted zones_of (λ n. 2 * n + n * (n - 1)) n
-zones_counted = counted zones_of (λ n. 2 * n + n * (n - 1)) refl
-
--- the octagons over n variables are a template over them, of 2n^2 rows
-pub octagons_counted : (n : ℕ) → 1 ≤ n → n ≤ MOST_VARIABLES → IsCounted octagons_of (λ n. 2 * n * n) n
-octagons_counted = counted octagons_of (λ n. 2 * n * n) refl

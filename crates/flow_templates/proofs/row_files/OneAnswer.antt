@@ -4,7 +4,7 @@ use Rattle.std.proofs.Common.{refl, ap, sym}
 use Rattle.std.proofs.Common.{subst, ◌∙◌, inl, inr}
 use Rattle.std.proofs.lemmas.Bool.{false≢true}
 use Rattle.flow_templates.specs.declared.fault.RowFault.{RowFault}
-use Rattle.flow_templates.specs.declared.fault.RowFault.TheVariants.{ZeroRow, Count, UnknownName, BadRow, Length, NoMemory}
+use Rattle.flow_templates.specs.declared.fault.RowFault.TheVariants.{ZeroRow, Count, Large, UnknownName, BadRow, Length, NoMemory}
 use Rattle.flow_templates.specs.Rows.{is_row}
 use Rattle.flow_templates.specs.RowFaults.{count_faults}
 use Rattle.flow_templates.specs.Grammar.{Amount}
@@ -43,6 +43,7 @@ no_fault names line n (ZeroRow at) (Some row) f r =
     false≢true (sym f.1.zero ∙ (ap (λ a. is_row (row_of names a)) (same_amounts line f.1.amounts r.amounts f.1.reads r.reads)
     ∙ (ap is_row (sym r.row_is) ∙ r.nonzero)))
 no_fault names line n (Count count) read f r = f
+no_fault names line n (Large count) read f r = f
 no_fault names line n (Length at) read f r = f
 no_fault names line n NoMemory read f r = f
 
@@ -62,9 +63,11 @@ fault_once names line n (ZeroRow a) (UnknownName b) h k =
     ∙ h.1.known)))
 fault_once names line n (ZeroRow a) (ZeroRow b) h k = ap ZeroRow (h.0 ∙ sym k.0)
 fault_once names line n (Count a) g h k = absurd h
+fault_once names line n (Large a) g h k = absurd h
 fault_once names line n (Length a) g h k = absurd h
 fault_once names line n NoMemory g h k = absurd h
 fault_once names line n f (Count b) h k = absurd k
+fault_once names line n f (Large b) h k = absurd k
 fault_once names line n f (Length b) h k = absurd k
 fault_once names line n f NoMemory h k = absurd k
 
@@ -149,6 +152,7 @@ pub gives_one : (names : List (List ℕ)) (text : List ℕ) (result : Result (Li
 gives_one names text (Ok template) h k answer a = one_answer names text answer (Ok template) a h
 gives_one names text (Err (ZeroRow at)) h k answer a = inr (one_answer names text answer (Err (ZeroRow at)) a (k (λ e. cc)))
 gives_one names text (Err (Count at)) h k answer a = inr (one_answer names text answer (Err (Count at)) a (k (λ e. cc)))
+gives_one names text (Err (Large count)) h k answer a = inr (one_answer names text answer (Err (Large count)) a (k (λ e. cc)))
 gives_one names text (Err (UnknownName at)) h k answer a = inr (one_answer names text answer (Err (UnknownName at)) a (k (λ e. cc)))
 gives_one names text (Err (BadRow at)) h k answer a = inr (one_answer names text answer (Err (BadRow at)) a (k (λ e. cc)))
 gives_one names text (Err (Length at)) h k answer a = inr (one_answer names text answer (Err (Length at)) a (k (λ e. cc)))

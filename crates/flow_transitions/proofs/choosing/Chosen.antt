@@ -8,6 +8,7 @@ use Rattle.std.proofs.Math.Nat.{mul-div_cancel, mul_comm, zero-mul}
 use Rattle.lang_tree.specs.Tree.{Statement, Statements, nil, cons}
 use Rattle.flow_edges.specs.declared.edge.Action.{Action}
 use Rattle.flow_edges.specs.Trails.{kept}
+use Rattle.flow_edges.specs.declared.limits.TheConstants.{KEPT}
 use Rattle.flow_transitions.specs.Choices.{choices_of, choices_in}
 use Rattle.flow_transitions.proofs.choosing.Crossing.{length-crossing, get_or-crossing, quotient_below}
 
@@ -18,33 +19,33 @@ factor_some zero b h = omega (arith, zero-mul b)
 factor_some (suc a) b h = omega arith
 
 -- ---- kept actions
-pub kept_short : (xs : List Action) → length (kept xs) ≤ 257
-kept_short xs = omega (arith, length-take 257 xs)
+pub kept_short : (xs : List Action) → length (kept xs) ≤ KEPT
+kept_short xs = omega (arith, length-take KEPT xs)
 
--- of at most 257 actions all are kept
-pub kept_all : (xs : List Action) → length xs ≤ 257 → kept xs ≡ xs
-kept_all xs h = take_all 257 xs h
+-- of actions that are few enough all are kept
+pub kept_all : (xs : List Action) → length xs ≤ KEPT → kept xs ≡ xs
+kept_all xs h = take_all KEPT xs h
 
 -- what isn't kept already changes nothing
 pub kept-append : (xs ys : List Action) → kept (kept xs ++ ys) ≡ kept (xs ++ ys)
 kept-append xs ys =
     ⊎_elim
-    (λ (h : 257 < length xs).
-    let l : 257 ≤ length (kept xs) = omega (arith, length-take 257 xs) in
-    let m : 257 ≤ length xs = omega arith in
-    take-append-le 257 (kept xs) ys l ∙ take_all 257 (kept xs) (kept_short xs) ∙ sym (take-append-le 257 xs ys m))
-    (λ (h : length xs ≤ 257). ap (λ z. kept (z ++ ys)) (kept_all xs h))
-    (cases_lt 257 (length xs))
+    (λ (h : KEPT < length xs).
+    let l : KEPT ≤ length (kept xs) = omega (arith, length-take KEPT xs) in
+    let m : KEPT ≤ length xs = omega arith in
+    take-append-le KEPT (kept xs) ys l ∙ take_all KEPT (kept xs) (kept_short xs) ∙ sym (take-append-le KEPT xs ys m))
+    (λ (h : length xs ≤ KEPT). ap (λ z. kept (z ++ ys)) (kept_all xs h))
+    (cases_lt KEPT (length xs))
 
 -- one more action, where there is room for it, and where there is none
-pub added : (xs : List Action) (a : Action) (items : List Action) → length xs < 257 → items ≡ xs ++ a ∷ [] → items ≡ kept (xs ++ a ∷ [])
+pub added : (xs : List Action) (a : Action) (items : List Action) → length xs < KEPT → items ≡ xs ++ a ∷ [] → items ≡ kept (xs ++ a ∷ [])
 added xs a items h e =
     let one : List Action = a ∷ [] in
     e ∙ sym (kept_all (xs ++ one) (omega (arith, length-append xs one)))
 
--- behind 257 actions one more is not kept
-pub left_out : (xs : List Action) (a : Action) → 257 ≤ length xs → length xs ≤ 257 → xs ≡ kept (xs ++ a ∷ [])
-left_out xs a h k = sym (take-append-le 257 xs (a ∷ []) h ∙ kept_all xs k)
+-- behind as many actions as are kept one more is not
+pub left_out : (xs : List Action) (a : Action) → KEPT ≤ length xs → length xs ≤ KEPT → xs ≡ kept (xs ++ a ∷ [])
+left_out xs a h k = sym (take-append-le KEPT xs (a ∷ []) h ∙ kept_all xs k)
 
 -- ---- a choice as far as its acts have been done: what is left of it has a number below the number of choices that are left
 pub record IsChosen (all : Statements) (whole : ℕ) (rest : Statements) (actions : List Action) (left number : ℕ) : Type 0 where
@@ -52,8 +53,8 @@ pub record IsChosen (all : Statements) (whole : ℕ) (rest : Statements) (action
   pub count : left ≡ length (choices_in rest)
   -- the number is that of one of them
   pub within : number < left
-  -- at most 257 actions have been done
-  pub short : length actions ≤ 257
+  -- no more actions have been done than are kept
+  pub short : length actions ≤ KEPT
   -- with the actions of what is left they are, as far as they are kept, those of the whole choice
   pub same : kept (actions ++ get_or (choices_in rest) number []) ≡ kept (get_or (choices_in all) whole [])
 
@@ -111,7 +112,7 @@ chosen_more all whole s rest actions after left number n e c f =
     record {
       count = p.later;
       within = let h = p.later_some in omega arith;
-      short = subst (λ z. length z ≤ 257) (sym after_is) (kept_short (actions ++ first));
+      short = subst (λ z. length z ≤ KEPT) (sym after_is) (kept_short (actions ++ first));
       same =
           ap (λ k. kept (after ++ get_or (choices_in rest) (number % k) [])) p.later
           ∙ ap (λ z. kept (z ++ later)) after_is ∙ kept-append (actions ++ first) later

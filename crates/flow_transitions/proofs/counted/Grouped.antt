@@ -8,6 +8,7 @@ use Rattle.std.proofs.lemmas.List.{length-map}
 use Rattle.std.proofs.lemmas.List.Sums.{sum_by-cons}
 use Rattle.flow_transitions.specs.declared.auto_edge.AutoEdge.{AutoEdge}
 use Rattle.flow_transitions.specs.AutoLimits.{are_acts, is_auto_edge}
+use Rattle.flow_transitions.specs.declared.counting.TheConstants.{ENOUGH}
 use Rattle.flow_transitions.specs.Choices.{choices_in, edge_by, edges_along, starts_at, edges_at, edges_of}
 use Rattle.flow_transitions.specs.Counted.{way_count}
 
@@ -81,6 +82,6 @@ grouped variables points (e ∷ es) h =
 -- the same, counted no further than they matter
 pub total : (variables points : ℕ) (edges slice : List AutoEdge) (count : ℕ) → IsTrue (list_all (is_auto_edge variables points) edges)
     → slice ≡ edges →
-    count ≡ min (sum_by way_count slice) 257 → count ≡ min (length (edges_of points edges)) 257
+    count ≡ min (sum_by way_count slice) ENOUGH → count ≡ min (length (edges_of points edges)) ENOUGH
 total variables points edges slice count h e f =
-    f ∙ ap (λ es. min (sum_by way_count es) 257) e ∙ ap (λ k. min k 257) (sym (grouped variables points edges h))
+    f ∙ ap (λ es. min (sum_by way_count es) ENOUGH) e ∙ ap (λ k. min k ENOUGH) (sym (grouped variables points edges h))

@@ -4,12 +4,14 @@ use Rattle.std.proofs.Common.{arith}
 use Rattle.std.specs.Prelude.{◌&&◌, ◌||◌, ◌==◌, IsTrue, None, not, nat_lt, nat_le, position, flat_map, filter}
 use Rattle.std.specs.List.{list_all, range_with_len}
 use Rattle.std.proofs.lemmas.Bool.{and_from, and_parts, false≢true, leb-true, le-leb, ltb-true, lt-ltb}
-use Rattle.lang_tree.specs.declared.limits.TheConstants.{MOST_VARIABLES, MOST_HIDDEN}
+use Rattle.lang_tree.specs.declared.limits.TheConstants as tree_limit
+use Rattle.lang_tree.specs.declared.limits.TheConstants.{MOST_HIDDEN}
 use Rattle.lang_tree.specs.Tree.{Condition, Statement, Statements, set, havoc, assume, only_where, check, branch, loop, jump, label, nil}
 use Rattle.lang_tree.specs.Tree.{cons, leaf_count}
 use Rattle.lang_tree.specs.Limits.{is_condition, is_tested}
 use Rattle.lang_tree.specs.Cases.{cases_of}
-use Rattle.flow_edges.specs.declared.limits.TheConstants.{MOST_POINTS}
+use Rattle.flow_edges.specs.declared.limits.TheConstants as flow_limit
+use Rattle.flow_edges.specs.declared.limits.TheConstants.{KEPT}
 use Rattle.flow_edges.specs.declared.edge.Action.{Action}
 use Rattle.flow_edges.specs.declared.edge.Action.TheVariants.{Guard}
 use Rattle.flow_edges.specs.declared.edge.Edge.{Edge}
@@ -17,7 +19,6 @@ use Rattle.flow_edges.specs.declared.point.Place.{Place}
 use Rattle.flow_edges.specs.declared.point.Place.TheVariants.{Entry, Loop, Label, Join, Assume, Exit}
 use Rattle.flow_edges.specs.declared.point.Point.{Point}
 use Rattle.flow_edges.specs.Constants.{has_rooms, have_rooms}
-use Rattle.flow_edges.specs.Faults.{is_long}
 use Rattle.flow_systems.proofs.EdgeActions.{edges_grow}
 use Rattle.flow_edges.specs.FlowLimits.{is_entry, is_exit, begins_with_entry, has_line, is_action, is_edge, is_flow}
 use Rattle.flow_edges.specs.Steps.{guards}
@@ -25,6 +26,8 @@ use Rattle.flow_edges.specs.Trails.{kept_edge}
 use Rattle.flow_edges.proofs.Each.{Each, each-append, each-map, each-flat_map, each-take, each_both, each_passes}
 use Rattle.flow_edges.proofs.constants.FormLimits.{IsForm, cases_forms, condition_room}
 use Rattle.flow_transitions.specs.declared.auto_edge.AutoEdge.{AutoEdge}
+use Rattle.flow_transitions.specs.declared.limits.TheConstants.{MOST_VARIABLES, MOST_POINTS, MOST_EDGES}
+use Rattle.flow_transitions.specs.AutoFaults.{is_long}
 use Rattle.flow_transitions.specs.AutoLimits.{is_act, are_acts, is_auto_edge, is_label, are_labels, is_auto}
 use Rattle.flow_transitions.specs.Choices.{choices_of, choices_in, edge_by, edges_along, starts_at, edges_at, edges_of}
 use Rattle.flow_transitions.specs.Counted.{have_room_along}
@@ -171,14 +174,14 @@ all_fit n m edges (p ∷ ps) h = each-append (EdgeFits n m) (edges_at edges p) (
     (all_fit n m edges ps h)
 
 kept_fits : (n m : ℕ) (e : Edge) → EdgeFits n m e → EdgeFits n m (kept_edge e)
-kept_fits n m e h = record { from = h.from; later = h.later; to = h.to; actions = each-take (Fits n) 257 e.actions h.actions }
+kept_fits n m e h = record { from = h.from; later = h.later; to = h.to; actions = each-take (Fits n) KEPT e.actions h.actions }
 
 edge_within : (n m : ℕ) (e : Edge) → EdgeFits n m e → IsShort e → IsTrue (is_edge n m e)
 edge_within n m e h k =
     and_from (nat_lt e.from m) _ (lt-ltb e.from m h.from)
     (and_from (nat_lt 0 e.to) _ (lt-ltb 0 e.to h.later)
     (and_from (nat_lt e.to m) _ (lt-ltb e.to m h.to)
-    (and_from (nat_le (length e.actions) 256) _ (le-leb (length e.actions) 256 k) (each_passes (is_action n) e.actions h.actions))))
+    (and_from (nat_le (length e.actions) flow_limit.MOST_ACTIONS) _ (le-leb (length e.actions) flow_limit.MOST_ACTIONS (omega (arith, k))) (each_passes (is_action n) e.actions h.actions))))
 
 edges_within : (n m : ℕ) (edges : List AutoEdge) (es : List Edge) → IsTrue (list_all (is_auto_edge n m) edges)
     → es ≡ map kept_edge (edges_of m edges) →
@@ -234,15 +237,15 @@ points_within (p ∷ ps) h =
 -- ---- the flow
 pub flow_within : (names : List (List ℕ)) (points : List Point) (edges : List AutoEdge) (es : List Edge)
     → IsTrue (is_auto names points edges) →
-    es ≡ map kept_edge (edges_of (length points) edges) → length es ≤ 256 → position is_long es ≡ None → IsTrue (is_flow names points es)
+    es ≡ map kept_edge (edges_of (length points) edges) → length es ≤ MOST_EDGES → position is_long es ≡ None → IsTrue (is_flow names points es)
 flow_within names points edges es h e f l =
     let n = length names in
     let m = length points in
     let o = limits names points edges h in
-    and_from (nat_le 1 n && nat_le n MOST_VARIABLES) _ (and_from (nat_le 1 n) (nat_le n MOST_VARIABLES) (le-leb 1 n o.some_name)
-    (le-leb n MOST_VARIABLES o.few_names))
-    (and_from (nat_le 2 m && nat_le m MOST_POINTS) _ (and_from (nat_le 2 m) (nat_le m MOST_POINTS) (le-leb 2 m o.two_points)
-    (le-leb m MOST_POINTS o.few_points))
+    and_from (nat_le 1 n && nat_le n tree_limit.MOST_VARIABLES) _ (and_from (nat_le 1 n) (nat_le n tree_limit.MOST_VARIABLES) (le-leb 1 n o.some_name)
+    (le-leb n tree_limit.MOST_VARIABLES (omega (arith, o.few_names))))
+    (and_from (nat_le 2 m && nat_le m flow_limit.MOST_POINTS) _ (and_from (nat_le 2 m) (nat_le m flow_limit.MOST_POINTS) (le-leb 2 m o.two_points)
+    (le-leb m flow_limit.MOST_POINTS (omega (arith, o.few_points))))
     (and_from (begins_with_entry points && list_all has_line points) _ (points_within points o.labels)
-    (and_from (nat_le (length es) 256) (list_all (is_edge (n + MOST_HIDDEN) m) es) (le-leb (length es) 256 f)
+    (and_from (nat_le (length es) flow_limit.MOST_EDGES) (list_all (is_edge (n + MOST_HIDDEN) m) es) (le-leb (length es) flow_limit.MOST_EDGES (omega (arith, f)))
     (edges_grow n (n + MOST_HIDDEN) m es (omega arith) (edges_within n m edges es o.along e l)))))

@@ -10,11 +10,11 @@ use Rattle.lang_tree.specs.Limits.{is_form}
 use Rattle.lang_meaning.specs.Walk.{assignment}
 use Rattle.lang_meaning.proofs.limits.Values.{whole_fits}
 use Rattle.lang_tokens.specs.declared.token.Token.{Token}
-use Rattle.lang_tree.specs.declared.limits.TheConstants.{MOST_VARIABLES}
+use Rattle.flow_transitions.specs.declared.limits.TheConstants.{MOST_VARIABLES}
 use Rattle.lang_tree.specs.declared.stmt.Stmt.{Stmt}
 use Rattle.lang_tree.specs.Tree.{Statement, Statements, nil, cons}
 use Rattle.lang_tree.specs.View.{statement_of, statements_of}
-use Rattle.flow_edges.specs.declared.limits.TheConstants.{MOST_POINTS}
+use Rattle.flow_transitions.specs.declared.limits.TheConstants.{MOST_POINTS}
 use Rattle.flow_transitions.specs.declared.auto_edge.AutoEdge.{AutoEdge}
 use Rattle.flow_transitions.specs.declared.reading.point_name.PointName.{PointName}
 use Rattle.flow_transitions.specs.AutoLimits.{is_act, are_acts, is_auto_edge, is_label, are_labels, is_auto}

@@ -10,8 +10,8 @@ use Rattle.lang_tokens.specs.Lines.{line_at}
 use Rattle.lang_grammar.specs.Expressions.{BeginsExpr}
 use Rattle.lang_grammar.specs.Grammar.{Kind, a_name, comma, semicolon, change_sign, replaces}
 use Rattle.lang_grammar.specs.Grammar.{demand_word, assumes as to_assume, the_end, Token, token, spell_expr}
-use Rattle.lang_tree.specs.declared.limits.TheConstants.{MOST_VARIABLES}
-use Rattle.flow_edges.specs.declared.limits.TheConstants.{MOST_POINTS}
+use Rattle.flow_transitions.specs.declared.limits.TheConstants.{MOST_VARIABLES}
+use Rattle.flow_transitions.specs.declared.limits.TheConstants.{MOST_POINTS}
 use Rattle.lang_meaning.specs.Names.{place_of}
 use Rattle.flow_transitions.specs.declared.fault.AutoFault.TheVariants as fault
 use Rattle.flow_transitions.specs.AutoReading.{Progress, progress, start, Stepped, token_at}

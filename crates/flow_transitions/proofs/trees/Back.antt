@@ -9,8 +9,8 @@ use Rattle.lang_tokens.specs.Lines.{line_at}
 use Rattle.lang_grammar.specs.Expressions.{IsLongest, BeginsExpr, FindsExpr, stops_at, nests_at}
 use Rattle.lang_grammar.specs.Grammar.{Kind, a_name, semicolon, right_paren, the_end, Token, token, Expr, spell_expr}
 use Rattle.lang_grammar.specs.View.{tokens_of}
-use Rattle.lang_tree.specs.declared.limits.TheConstants.{MOST_VARIABLES}
-use Rattle.flow_edges.specs.declared.limits.TheConstants.{MOST_POINTS}
+use Rattle.flow_transitions.specs.declared.limits.TheConstants.{MOST_VARIABLES}
+use Rattle.flow_transitions.specs.declared.limits.TheConstants.{MOST_POINTS}
 use Rattle.lang_tree.specs.Tree.{Statement}
 use Rattle.lang_meaning.specs.declared.fault.ParseFault.{ParseFault}
 use Rattle.lang_meaning.specs.declared.fault.ParseFault.TheVariants as parse

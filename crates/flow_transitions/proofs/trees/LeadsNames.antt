@@ -7,8 +7,8 @@ use Rattle.std.specs.Prelude.{codes, nat_lt, nat_le}
 use Rattle.lang_tokens.specs.declared.token.Token as lex_token
 use Rattle.lang_tokens.specs.Lines.{line_at}
 use Rattle.lang_grammar.specs.Grammar.{a_name, comma, semicolon, Token, token}
-use Rattle.lang_tree.specs.declared.limits.TheConstants.{MOST_VARIABLES}
-use Rattle.flow_edges.specs.declared.limits.TheConstants.{MOST_POINTS}
+use Rattle.flow_transitions.specs.declared.limits.TheConstants.{MOST_VARIABLES}
+use Rattle.flow_transitions.specs.declared.limits.TheConstants.{MOST_POINTS}
 use Rattle.lang_meaning.specs.Names.{place_of}
 use Rattle.flow_transitions.specs.declared.reading.point_name.PointName.{PointName}
 use Rattle.flow_transitions.specs.AutoReading.{Progress, progress, start, Stepped, token_at, variable_if, point_if, counted_then}

@@ -1,7 +1,7 @@
 //! The acts of an edge.
 
 ghost use Rattle.std.specs.Prelude.{◌≡◌, ◌<◌, ◌≤◌, ◌+◌, ◌++◌, ◌≢◌, ℕ, List, [], ◌∷◌, IfErr, IfOk, IsTrue, None, Some, length};
-ghost use Rattle.lang_tree.specs.declared.limits.TheConstants.{MOST_VARIABLES};
+ghost use Rattle.flow_transitions.specs.declared.limits.TheConstants.{MOST_VARIABLES};
 ghost use Rattle.lang_tree.specs.View.{statement_of, statements_of};
 ghost use Rattle.flow_transitions.specs.declared.auto_edge.AutoEdge.{AutoEdge};
 ghost use Rattle.flow_transitions.specs.declared.reading.point_name.PointName.{PointName};

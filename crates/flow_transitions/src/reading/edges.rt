@@ -2,8 +2,7 @@
 
 ghost use Rattle.std.specs.Prelude.{◌≡◌, ◌<◌, ◌≤◌, ◌+◌, ◌++◌, ◌≢◌, List, [], ◌∷◌, Err, IfErr, IfOk, IsTrue, Ok, length};
 ghost use Rattle.std.specs.List.{list_all};
-ghost use Rattle.lang_tree.specs.declared.limits.TheConstants.{MOST_VARIABLES};
-ghost use Rattle.flow_edges.specs.declared.limits.TheConstants.{MOST_POINTS};
+ghost use Rattle.flow_transitions.specs.declared.limits.TheConstants.{MOST_POINTS, MOST_VARIABLES};
 ghost use Rattle.flow_transitions.specs.declared.auto_edge.AutoEdge.{AutoEdge};
 ghost use Rattle.flow_transitions.specs.AutoLimits.{is_auto_edge};
 ghost use Rattle.flow_transitions.specs.AutoSymbols.{IsSource, seen_at};

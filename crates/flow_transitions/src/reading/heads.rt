@@ -1,22 +1,21 @@
 //! The variables and the points that a text names.
 
 ghost use Rattle.std.specs.Prelude.{◌≡◌, ◌≢◌, ◌<◌, ◌≤◌, ◌+◌, ◌++◌, ℕ, List, [], ◌∷◌, IfErr, IfOk, IsFalse, cond, length};
-ghost use Rattle.lang_tree.specs.declared.limits.TheConstants.{MOST_VARIABLES};
-ghost use Rattle.flow_edges.specs.declared.limits.TheConstants.{MOST_POINTS};
+ghost use Rattle.flow_transitions.specs.declared.limits.TheConstants.{MOST_POINTS, MOST_VARIABLES};
 ghost use Rattle.flow_transitions.specs.declared.reading.point_name.PointName.{PointName};
 ghost use Rattle.flow_transitions.specs.AutoSymbols.{IsSource, seen_at};
 ghost use Rattle.flow_transitions.specs.AutoReading.{Advances, at_edge, at_point, at_points, at_variable, past_point, progress, start};
 ghost use Rattle.flow_transitions.specs.AutoReading.{unexpected_fault};
 
 use crate::fault::AutoFault;
+use crate::limits::{MOST_POINTS, MOST_VARIABLES};
 use crate::reading::places::{place_of, point_place};
 use crate::reading::point_name::PointName;
 use crate::reading::symbol::Symbol;
 use crate::reading::tokens::{line, name, place, symbol, unexpected, word};
-use flow_edges::MOST_POINTS;
 use lang_parser::{Limit, ParseFault};
 use lang_tokens::Token;
-use lang_tree::{MOST_VARIABLES, Name};
+use lang_tree::Name;
 use std::alloc::Global;
 
 /// The variables that a text names first, and the number of the token behind them.

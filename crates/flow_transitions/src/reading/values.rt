@@ -2,7 +2,7 @@
 
 ghost use Rattle.std.specs.Prelude.{◌≡◌, ◌≢◌, ◌<◌, ◌≤◌, ℕ, IfErr, IfOk, IsTrue, Err, Ok, length};
 ghost use Rattle.lang_grammar.specs.View.{tokens_of};
-ghost use Rattle.lang_tree.specs.declared.limits.TheConstants.{MOST_VARIABLES};
+ghost use Rattle.flow_transitions.specs.declared.limits.TheConstants.{MOST_VARIABLES};
 ghost use Rattle.lang_tree.specs.Tree.{assume};
 ghost use Rattle.lang_tree.specs.Limits.{is_tested};
 ghost use Rattle.lang_tree.specs.View.{condition_of};

@@ -2,9 +2,10 @@
 use Rattle.std.proofs.Common.{◌≡◌, ◌≤◌, ◌+◌, ◌*◌, ℕ, pos, Bool, true, false, cond, List, [], ◌∷◌, ◌++◌, length, map, Option, None, Some}
 use Rattle.std.proofs.Common.{refl, sym, ap, ◌∙◌, subst, arith}
 use Rattle.std.specs.Prelude.{nat_lt, neg_ℤ, if◌then◌else◌}
-use Rattle.std.specs.List.{position, position_from}
+use Rattle.std.specs.List.{position, position_from, sum_by}
 use Rattle.std.proofs.lemmas.Bool.{le-ltb}
 use Rattle.std.proofs.lemmas.List.{length-append, length-map, length-take}
+use Rattle.std.proofs.lemmas.List.Sums.{sum_by-cons}
 use Rattle.std.proofs.lemmas.Iterator.Adapters.{position_from-zero}
 use Rattle.lang_tree.specs.declared.cond.Rel.TheVariants.{Lt}
 use Rattle.lang_tree.specs.declared.form.Form.{Form}
@@ -23,7 +24,7 @@ use Rattle.flow_edges.specs.Points.{made_in, points_of_program}
 use Rattle.flow_edges.specs.Checks.{checks_in}
 use Rattle.flow_edges.specs.Counts.{no_jump_counts, way_count_in, edge_count_in, edge_count}
 use Rattle.flow_edges.specs.Edges.{Way, arrived, prefixed, by_case, Jumps, no_jumps, loop_jumps, ways_in, edges_of_program}
-use Rattle.flow_edges.specs.Faults.{wide_lines_in, counted_fault, counted_after, fault_of_program, is_long}
+use Rattle.flow_edges.specs.Faults.{wide_lines_in, counted_fault, counted_after, fault_of_program, is_long, action_count, has_many_actions}
 use Rattle.flow_edges.specs.Steps.{guards}
 use Rattle.flow_edges.specs.Trails.{kept, begun_at, reached, edges_in_nodes, kept_edges}
 use Rattle.flow_edges.proofs.Each.{Each, each-append, each-map}
@@ -34,7 +35,7 @@ use Rattle.out_workload.specs.declared.draws.Loop.{Loop}
 use Rattle.out_workload.specs.Draws.{following, loops_from}
 use Rattle.out_workload.specs.Bodies.{turn_of, loops_body, generated_body}
 use Rattle.out_workload.proofs.draws.TextParts.{count_drawn}
-use Rattle.flow_edges.specs.declared.limits.TheConstants.{MOST_POINTS}
+use Rattle.flow_edges.specs.declared.limits.TheConstants.{KEPT, MOST_ACTIONS, MOST_ALL_ACTIONS, MOST_EDGES, MOST_POINTS}
 
 -- ---- counting
 loops_points : (n : ℕ) (ls : List Loop) → points_in (loops_body n ls) ≡ length ls
@@ -93,9 +94,9 @@ generated_counted : (seed loops : ℕ) → loops ≤ 46 → counted_fault (gener
 generated_counted seed loops h =
     let body = generated_body seed loops in
     ap (λ (x : List ℕ). counted_after x body) (none_wide 3 (loops_from seed loops))
-    ∙ no_more (nat_lt MOST_POINTS (point_count body)) (nat_lt 256 (length (edges_of_program body))) (fault.Points (point_count body))
+    ∙ no_more (nat_lt MOST_POINTS (point_count body)) (nat_lt MOST_EDGES (length (edges_of_program body))) (fault.Points (point_count body))
     (le-ltb MOST_POINTS (point_count body) (omega (arith, generated_count seed loops)))
-    (le-ltb 256 (length (edges_of_program body)) (omega (arith, few_edges seed loops)))
+    (le-ltb MOST_EDGES (length (edges_of_program body)) (omega (arith, few_edges seed loops)))
 
 -- ---- actions
 abbrev IsShortWay : ℕ → Way → Type 0
@@ -109,7 +110,7 @@ loops_ways n [] p e = (omega arith, tt)
 loops_ways n (l ∷ ls) p e = (omega arith, tt)
 
 kept_short : (actions : List Action) → length (kept actions) ≤ length actions
-kept_short actions = omega (arith, length-take 257 actions)
+kept_short actions = omega (arith, length-take KEPT actions)
 
 reached_few : (p : ℕ) (ways : List Way) → Each (IsShortWay 4) ways → Each IsFew (reached (begun_at p) ways)
 reached_few p ways h = each-map (IsShortWay 4) IsFew (λ w. record { from = p; to = w.to; actions = kept w.actions })
@@ -170,10 +171,22 @@ none_from : (i : ℕ) (es : List Edge) → Each IsFew es → position_from is_lo
 none_from i [] h = refl
 none_from i (e ∷ es) h =
     let o : Option ℕ = position_from is_long (i + 1) es in
-    ap (λ (b : Bool). cond b (Some i) o) (le-ltb 256 (length e.actions) (omega (arith, h.0))) ∙ none_from (i + 1) es h.1
+    ap (λ (b : Bool). cond b (Some i) o) (le-ltb MOST_ACTIONS (length e.actions) (omega (arith, h.0))) ∙ none_from (i + 1) es h.1
 
 none_long : (es : List Edge) → Each IsFew es → position is_long es ≡ None
 none_long es h = position_from-zero is_long es ∙ none_from 0 es h
+
+few_actions : (es : List Edge) → Each IsFew es → sum_by action_count es ≤ 4 * length es
+few_actions [] h = omega arith
+few_actions (e ∷ es) h = omega (arith, sum_by-cons action_count e es, h.0, few_actions es h.1)
+
+not_many : (seed loops : ℕ) → loops ≤ 46 → has_many_actions (kept_edges (generated_body seed loops)) ≡ false
+not_many seed loops h =
+    let body = generated_body seed loops in
+    let few = kept_few seed loops in
+    let whole = ap length (nothing_cut body (none_long (kept_edges body) few)) in
+    le-ltb MOST_ALL_ACTIONS (sum_by action_count (kept_edges body))
+    (omega (arith, few_actions (kept_edges body) few, whole, few_edges seed loops))
 
 unchecked : (n : ℕ) (ls : List Loop) → length (checks_in (loops_body n ls)) ≡ 0
 unchecked n [] = refl
@@ -183,7 +196,7 @@ unchecked n (l ∷ ls) = unchecked (n + 5) ls
 pub generated_within : (seed loops : ℕ) → loops ≤ 46 → fault_of_program (generated_body seed loops) ≡ None
 generated_within seed loops h =
     let body = generated_body seed loops in
-    no_fault body (generated_counted seed loops h) (none_long (kept_edges body) (kept_few seed loops))
+    no_fault body (generated_counted seed loops h) (none_long (kept_edges body) (kept_few seed loops)) (not_many seed loops h)
     (omega (arith, unchecked 3 (loops_from seed loops)))
 
 -- each edge of a generated program has at most four actions

@@ -13,6 +13,7 @@ use Rattle.solve_composition.specs.Operations.{row_composition, actions_composit
 use Rattle.flow_systems.specs.Faults.{OperationFault, IsFaultOf}
 use Rattle.solve_composition.proofs.operations.Walked.{guards_few}
 use Rattle.solve_composition.proofs.walk.States.{length-columns}
+use Rattle.flow_edges.specs.declared.limits.TheConstants.{MOST_ACTIONS}
 
 -- the start variables and the free values of actions are together their width
 pub width_is : (n frees : ℕ) (actions : List Action) → frees ≡ free_count actions → n + frees ≡ width n actions
@@ -69,7 +70,7 @@ module _ (n w k : ℕ) (template : List (List ℤ)) (actions : List Action) (e :
 
 -- an edge has no more guards than actions
 pub guards_within : (n k : ℕ) (w : ℕ) (actions : List Action) (guards : List Affine)
-    → guards ≡ map (dense w) (guards_from k (columns n) actions) → length actions ≤ 256 → length guards ≤ 256
+    → guards ≡ map (dense w) (guards_from k (columns n) actions) → length actions ≤ MOST_ACTIONS → length guards ≤ MOST_ACTIONS
 guards_within n k w actions guards e l =
     let a = ap (λ (gs : List Affine). length gs) e ∙ length-map (guards_from k (columns n) actions) (dense w) in
     let b = guards_few k (columns n) actions in

@@ -9,6 +9,7 @@ use Rattle.std.proofs.lemmas.List.Folds.{list_all_at}
 use Rattle.flow_edges.specs.declared.edge.Action.{Action}
 use Rattle.flow_edges.specs.declared.edge.Action.TheVariants.{Guard, Assign, Havoc, Check}
 use Rattle.flow_edges.specs.FlowLimits.{is_edge, is_action}
+use Rattle.flow_edges.specs.declared.limits.TheConstants.{MOST_ACTIONS}
 use Rattle.flow_systems.specs.declared.system.System.{System}
 use Rattle.flow_systems.proofs.Sizes.{both, flow_sizes}
 use Rattle.flow_systems.specs.View.{vector_of}
@@ -48,18 +49,18 @@ edge_from system edge l =
     ltb-true e.from (length system.flow.points) (both (nat_lt e.from (length system.flow.points)) _ (edge_is system edge l)).0
 
 -- an edge has few actions
-pub few_actions : (system : System) (edge : ℕ) → edge < length system.flow.edges → length (edge_at system edge).actions ≤ 256
+pub few_actions : (system : System) (edge : ℕ) → edge < length system.flow.edges → length (edge_at system edge).actions ≤ MOST_ACTIONS
 few_actions system edge l =
     let e = edge_at system edge in
     let a = both (nat_lt e.from (length system.flow.points)) _ (edge_is system edge l) in
     let b = both (nat_lt 0 e.to) _ a.1 in
     let c = both (nat_lt e.to (length system.flow.points)) _ b.1 in
     let n = length system.flow.names + MOST_HIDDEN in
-    leb-true (length e.actions) 256 (both (nat_le (length e.actions) 256) (list_all (is_action n) e.actions) c.1).0
+    leb-true (length e.actions) MOST_ACTIONS (both (nat_le (length e.actions) MOST_ACTIONS) (list_all (is_action n) e.actions) c.1).0
 
 -- and has few columns
 pub few_columns : (system : System) (edge : ℕ) → edge < length system.flow.edges
-    → width (length system.flow.names) (edge_at system edge).actions ≤ MOST_VARIABLES + 256
+    → width (length system.flow.names) (edge_at system edge).actions ≤ MOST_VARIABLES + MOST_ACTIONS
 unfolding width
 few_columns system edge l = omega (
   arith,
@@ -104,7 +105,8 @@ pub few_guards : (n : ℕ) (actions : List Action) → length (guard_forms n act
 unfolding guard_forms
 few_guards n actions = forms_count n (columns n) actions
 
-few_template : (system : System) → length system.template ≤ MOST_UNKNOWNS
+-- there are at least two points, so that the rows are at most half as many as the unknowns
+few_template : (system : System) → 2 * length system.template ≤ MOST_UNKNOWNS
 few_template system =
     let t = length system.template in
     let s = system_size system in
@@ -114,7 +116,8 @@ few_template system =
 
 -- a list's blocks have few rows for each of its unknowns
 pub few_rows : (system : System) (pick : List (Option ℕ)) (base : List Ext) (list : List ℕ) (offset : ℕ) (rest : List ℕ)
-    → ArePicked system pick rest → length (blocks_from system pick base list offset rest) ≤ (MOST_UNKNOWNS + 257) * length rest
+    → ArePicked system pick rest
+    → 2 * length (blocks_from system pick base list offset rest) ≤ (MOST_UNKNOWNS + 2 * MOST_ACTIONS + 2) * length rest
 few_rows system pick base list offset [] h = omega arith
 few_rows system pick base list offset (u ∷ rest) h =
     let e = edge_for pick u in

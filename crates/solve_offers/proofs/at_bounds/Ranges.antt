@@ -15,6 +15,7 @@ use Rattle.theory_validity.specs.Certificates.{PointsInRange}
 use Rattle.theory_validity.proofs.certificates.Needs.{in_of_contains}
 use Rattle.solve_offers.specs.AtBounds.{edge_at}
 use Rattle.lang_tree.specs.declared.limits.TheConstants.{MOST_HIDDEN}
+use Rattle.flow_edges.specs.declared.limits.TheConstants.{MOST_ACTIONS}
 
 edge_passes : (n points : ℕ) (edges : List Edge) → IsTrue (list_all (is_edge n points) edges) → (edge : Edge) → In edges edge
     → IsTrue (is_edge n points edge)
@@ -30,11 +31,11 @@ ends_pass system edge c =
     let n = length system.flow.names + MOST_HIDDEN in
     let points = length system.flow.points in
     let a = both (nat_lt edge.from points) (nat_lt 0 edge.to && (nat_lt edge.to points
-    && (nat_le (length edge.actions) 256 && list_all (is_action n) edge.actions)))
+    && (nat_le (length edge.actions) MOST_ACTIONS && list_all (is_action n) edge.actions)))
     (edge_passes n points system.flow.edges (flow_sizes system.flow).edges edge (in_of_contains system.flow.edges edge c)) in
-    let b = both (nat_lt 0 edge.to) (nat_lt edge.to points && (nat_le (length edge.actions) 256 && list_all (is_action n) edge.actions))
+    let b = both (nat_lt 0 edge.to) (nat_lt edge.to points && (nat_le (length edge.actions) MOST_ACTIONS && list_all (is_action n) edge.actions))
     a.1 in
-    let d = both (nat_lt edge.to points) (nat_le (length edge.actions) 256 && list_all (is_action n) edge.actions) b.1 in
+    let d = both (nat_lt edge.to points) (nat_le (length edge.actions) MOST_ACTIONS && list_all (is_action n) edge.actions) b.1 in
     (ltb-true edge.from points a.0, ltb-true edge.to points d.0)
 
 -- an edge starts at a point

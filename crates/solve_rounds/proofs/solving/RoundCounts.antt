@@ -1,28 +1,25 @@
--- The steps of a round: at most two for each unknown, and each has an item.
-use Rattle.std.proofs.Common.{◌≡◌, ◌∙◌, inl, ⊎_elim, Bool, ◌+◌, ◌*◌, ◌<◌, ◌≤◌, List, [], ◌∷◌, ◌++◌, length}
-use Rattle.std.proofs.Common.{length-append, refl, sym, ap, subst, arith}
+-- The steps of a round each have an item.
+use Rattle.std.proofs.Common.{◌∙◌, inl, ⊎_elim, Bool, ◌<◌, List, [], ◌∷◌, length}
+use Rattle.std.proofs.Common.{refl, sym, subst, arith}
 use Rattle.base_facts.proofs.elements.Membership.{of_append}
 use Rattle.base_facts.specs.Elements.{In}
 use Rattle.base_numbers.specs.Rational.{ℚ}
 use Rattle.flow_systems.specs.Equations.{Equations, Vector}
-use Rattle.theory_validity.specs.Steps.{Item, Step, after_step, Distinct}
+use Rattle.theory_validity.specs.Steps.{Item, Step, after_step}
 use Rattle.theory_validity.specs.Certificates.{after_steps}
 use Rattle.theory_transformers.specs.EdgeProblems.{transformer}
 use Rattle.theory_strategy.specs.Picks.{Pick, Transformer, IsPick, choices}
 use Rattle.theory_strategy.specs.Growth.{passes, growth, grow}
-use Rattle.theory_strategy.specs.Round.{Outcome, Point, Rays, OutcomeFacts, members, Admissible}
+use Rattle.theory_strategy.specs.Round.{Outcome, Point, Rays, OutcomeFacts}
 use Rattle.theory_strategy.specs.Turns.{step_by, left_by, Leaves, AreTurnsOf}
 use Rattle.theory_strategy.proofs.growth.GrowthLaw.{Raises}
 use Rattle.theory_strategy.proofs.growth.PassLaw.{passes_done, PassesDone}
 use Rattle.theory_strategy.proofs.round.Choices.{choices_picked}
-use Rattle.theory_strategy.proofs.round.WholeCut.{cut_is}
 use Rattle.theory_rounds.specs.Evidence.{exact_evidence}
 use Rattle.theory_rounds.specs.Cut.{exact_cut}
 use Rattle.theory_rounds.specs.Rounds.{exact_grow, exact_grown}
 use Rattle.theory_rounds.specs.RoundSteps.{IsRoundBy}
-use Rattle.theory_strategy.proofs.round.PartLaw.{turn_fewer}
-use Rattle.theory_rounds.proofs.rounds.ExactRound.{exact_sizes, exact_cuts}
-use Rattle.solve_rounds.proofs.solving.Counting.{count_choices, distinct_few, distinct_append}
+use Rattle.theory_rounds.proofs.rounds.ExactRound.{exact_sizes}
 
 -- a step has an item
 abbrev pub Filled : Step → Type 0
@@ -41,10 +38,6 @@ module _ (fitting : ℚ → Bool) (system : Equations) (d : Vector) (pick : Pick
       (passes fitting system (transformer system) (exact_evidence system) (length (choices system pick)) d (choices system pick))
   done = passes_done fitting system (transformer system) (exact_evidence system) (exact_sizes system) pick is_pick
       (length (choices system pick)) (choices system pick) d (omega arith) (choices_picked system pick)
-
-  grow_few : length (exact_grow fitting system d pick) ≤ system.points * length system.template
-  unfolding grow growth
-  grow_few = let c = done.logged.count in let m = count_choices system pick in omega arith
 
   grow_filled : (s : Step) → In (exact_grow fitting system d pick) s → Filled s
   unfolding grow growth
@@ -77,55 +70,10 @@ turns_filled system (list ∷ lists) b steps h s m =
     ⊎_elim (λ j. leaves_filled system h.0 b list [] h.1 s j) (λ j. turns_filled system lists (after_steps h.0 b) h.2.0 h.2.1 s j)
     (of_append h.0 h.2.0 s (subst (λ l. In l s) h.2.2 m))
 
-members_distinct : (system : Equations) (lists : List (List Item)) → Admissible system lists → Distinct (members lists)
-unfolding members
-members_distinct system [] h = tt
-members_distinct system (list ∷ lists) h = distinct_append list (members lists) h.0 (members_distinct system lists h.3) h.1
-
 module _ (fitting : ℚ → Bool) (system : Equations) (d : Vector) (pick : Pick) (is_pick : IsPick system pick) where
-  -- each turn leaves fewer unknowns
-  leaves_few : (steps : List Step) (b : Vector) (list left : List Item) → Leaves system (transformer system) b list steps left
-      → length steps + length left ≤ length list
-  leaves_few [] b list left h = let e : length left ≡ length list = ap (λ l. length l) h in omega arith
-  leaves_few (step ∷ steps) b list left h =
-      let rest = leaves_few steps (after_step step b) (left_by h.0 list) left h.4 in
-      let fewer = turn_fewer system (transformer system) b list h.0 h.3 h.1 in
-      omega arith
-
-  turns_few : (lists : List (List Item)) (b : Vector) (steps : List Step) → AreTurnsOf system (transformer system) b lists steps
-      → length steps ≤ length (members lists)
-  unfolding members
-  turns_few [] b steps h = let e : length steps ≡ 0 = ap (λ s. length s) h in omega arith
-  turns_few (list ∷ lists) b steps h =
-      let s = ap (λ l. length l) h.2.2 in
-      let a = length-append h.0 h.2.0 in
-      let m = length-append list (members lists) in
-      let p = leaves_few h.0 b list [] h.1 in
-      let t = turns_few lists (after_steps h.0 b) h.2.0 h.2.1 in
-      omega arith
-
   -- each step of a round has an item
   pub round_filled : (steps : List Step) → IsRoundBy fitting system d pick steps → (s : Step) → In steps s → Filled s
   round_filled steps h s m =
       ⊎_elim (λ j. grow_filled fitting system d pick is_pick s j)
       (λ j. turns_filled system (exact_cut fitting system d pick) (exact_grown fitting system d pick) h.turns h.made s j)
       (of_append (exact_grow fitting system d pick) h.turns s (subst (λ l. In l s) h.same m))
-
-  members_few : length (members (exact_cut fitting system d pick)) ≤ system.points * length system.template
-  members_few =
-      let cut = cut_is fitting system (transformer system) (exact_evidence system) (exact_sizes system) d pick
-      (exact_cut fitting system d pick) is_pick (exact_cuts fitting system d pick is_pick) in
-      distinct_few system (members (exact_cut fitting system d pick)) (members_distinct system (exact_cut fitting system d pick)
-      cut.admissible)
-      (λ u m. let p = is_pick u (cut.listed u m).picked in (p.point_within, p.row_within))
-
-  -- and there are at most two for each unknown
-  pub round_few : (steps : List Step) → IsRoundBy fitting system d pick steps
-      → length steps ≤ system.points * length system.template + system.points * length system.template
-  round_few steps h =
-      let all : length steps ≡ length (exact_grow fitting system d pick ++ h.turns) = ap (λ l. length l) h.same in
-      let a = length-append (exact_grow fitting system d pick) h.turns in
-      let g = grow_few fitting system d pick is_pick in
-      let t = turns_few (exact_cut fitting system d pick) (exact_grown fitting system d pick) h.turns h.made in
-      let m = members_few in
-      omega arith

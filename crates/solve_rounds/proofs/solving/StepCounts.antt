@@ -1,18 +1,16 @@
--- The steps of a chain of rounds as the code has them: their number, and the numbers of their items.
+-- The steps of a chain of rounds as the code has them: that each has an item, and no more than there are unknowns.
 use Rattle.std.proofs.Common.{◌≡◌, ◌∙◌, inl, inr, ⊎_elim, Bool, true, false, ◌&&◌, ℕ, zero, suc, ◌+◌, ◌*◌, ◌%◌, ◌<◌, ◌≤◌, List, [], ◌∷◌}
-use Rattle.std.proofs.Common.{◌++◌, length, length-append, map, refl, ap, subst, arith}
+use Rattle.std.proofs.Common.{length, map, refl, ap, subst, arith}
 use Rattle.std.specs.Prelude.{IsTrue, nat_le, ℤ}
 use Rattle.std.specs.List.{list_all}
 use Rattle.std.proofs.lemmas.Bool.{le-leb, leb-true}
 use Rattle.std.proofs.lemmas.List.{length-map}
 use Rattle.std.proofs.lemmas.Nat.{mod-mul-add}
-use Rattle.base_limits.specs.declared.limits.TheConstants.{MOST_IMPROVEMENTS}
 use Rattle.base_facts.proofs.elements.Membership.{in_map, of_append}
 use Rattle.base_facts.specs.Elements.{In}
 use Rattle.flow_systems.specs.Equations.{Equations, Vector}
 use Rattle.flow_systems.specs.View.{equations_of}
 use Rattle.flow_systems.specs.declared.system.System.{System}
-use Rattle.flow_systems.specs.SystemLimits.{is_over}
 use Rattle.flow_systems.proofs.Sizes.{both}
 use Rattle.flow_templates.specs.Rows.{is_template}
 use Rattle.lang_tree.specs.Numbers.{are_numbers}
@@ -31,9 +29,8 @@ use Rattle.solve_rounds.specs.Chains.{state_at, AreStepsAfter, IsChain}
 use Rattle.solve_rounds.specs.Solutions.{IsSolved, AreNumbered, has_most, cert_with}
 use Rattle.solve_offers.proofs.at_bounds.Ranges.{points_in_range}
 use Rattle.solve_rounds.proofs.solving.Counting.{distinct_few}
-use Rattle.solve_rounds.proofs.solving.RoundCounts.{Filled, round_filled, round_few}
+use Rattle.solve_rounds.proofs.solving.RoundCounts.{Filled, round_filled}
 use Rattle.solve_rounds.proofs.solving.Outcomes.{solved_valid}
-use Rattle.flow_systems.specs.declared.limits.TheConstants.{MOST_UNKNOWNS}
 use Rattle.flow_templates.specs.declared.limits.TheConstants.{MOST_ROWS}
 
 -- ---- the chain's steps
@@ -48,17 +45,6 @@ module _ (system : System) (policy : Offer → ℕ → Type 0) (n : ℕ) (choose
       (λ j. round_filled fitting E (state_at system choose k).vector (state_at system choose (suc k)).pick
       (round_made fitting E (points_in_range system) choose chain.among n chain.made k (omega arith)).better.is_pick h.2.0 h.2.1 s j)
       (of_append h.0 h.2.0 s (subst (λ l. In l s) h.2.2 m))
-
-  steps_few : length system.flow.points * length system.template ≤ MOST_UNKNOWNS → (k : ℕ) → k ≤ n → (steps : List Step)
-      → AreStepsAfter system choose k steps → length steps ≤ k * (2 * MOST_UNKNOWNS)
-  steps_few limit zero l steps h = let none : length steps ≡ 0 = ap (λ s. length s) h in omega arith
-  steps_few limit (suc k) l steps h =
-      let a = length-append h.0 h.2.0 in
-      let r = round_few fitting E (state_at system choose k).vector (state_at system choose (suc k)).pick
-      (round_made fitting E (points_in_range system) choose chain.among n chain.made k (omega arith)).better.is_pick h.2.0 h.2.1 in
-      let before = steps_few limit k (omega arith) h.0 h.1 in
-      let all : length steps ≡ length (h.0 ++ h.2.0) = ap (λ s. length s) h.2.2 in
-      omega arith
 
 -- a template has a row
 pub some_row : (template : List (List ℤ)) → IsTrue (is_template template) → 0 < length template
@@ -100,18 +86,10 @@ valid_at system (step ∷ steps) z h s m = ⊎_elim (λ e. subst (λ t. (y : Vec
     (λ j. valid_at system steps (after_step step z) h.1 s j) m
 
 module _ (system : System) (policy : Offer → ℕ → Type 0) (limit : ℕ) (solved : Solved) (s : IsSolved system policy limit solved) where
-  unknowns_few : length system.flow.points * length system.template ≤ MOST_UNKNOWNS
-  unknowns_few = leb-true (length system.flow.points * length system.template) MOST_UNKNOWNS
-      (both (is_over (length system.flow.names) system.template) (nat_le (length system.flow.points * length system.template) MOST_UNKNOWNS)
-      system.within_limits).1
-
-  -- the steps and their items can be numbered
-  pub solved_numbered : limit ≤ MOST_IMPROVEMENTS → AreNumbered system solved.steps
+  -- where there are no more steps than have a number, the steps and their items can be numbered
+  pub solved_numbered : length solved.steps < 4294967296 → AreNumbered system solved.steps
   solved_numbered few = record {
-    few = (let c = steps_few system policy solved.improvements s.choose s.chain unknowns_few solved.improvements (omega arith)
-        (map (step_of (length system.template)) solved.steps) s.steps in
-        let m = length-map solved.steps (step_of (length system.template)) in
-        let w = s.within in omega arith);
+    few = few;
     short = all_in (has_most (length system.flow.points * length system.template)) solved.steps
         (λ step m.
         let v = valid_at (equations_of system) (map (step_of (length system.template)) solved.steps) _

@@ -28,6 +28,7 @@ use Rattle.solve_transformer.proofs.build.Sources.{sizes_same, limits_few, lengt
 use Rattle.solve_transformer.proofs.splits.Problems.{exact_is}
 use Rattle.flow_templates.specs.declared.limits.TheConstants.{MOST_ROWS}
 use Rattle.lang_tree.specs.declared.limits.TheConstants.{MOST_VARIABLES}
+use Rattle.flow_edges.specs.declared.limits.TheConstants.{MOST_ACTIONS}
 
 edge_within : (system : Equations) (z : Vector) (edge : Edge) → AllWithin (width system.variables edge.actions) (edge_limits system z edge)
 unfolding edge_limits
@@ -100,7 +101,7 @@ module _ (system : Equations) (z : Vector) (edge : Edge) (row : List ℤ) (w : �
         ∙ ap (λ n. n + n) (length-first_entries w (end_form system.variables edge.actions row).coeffs)
 
     -- and it is shaped
-    pub built_shaped : length template ≤ MOST_ROWS → length guards ≤ 512 → w ≤ MOST_VARIABLES + 256 → IsShaped p
+    pub built_shaped : length template ≤ MOST_ROWS → length guards ≤ 2 * MOST_ACTIONS → w ≤ MOST_VARIABLES + MOST_ACTIONS → IsShaped p
     built_shaped t b c =
         let count = ap (λ (xs : List Limit). length xs) h ∙ length-append
         (map (split_limit w) (source_limits (λ r u. u) system.variables (bounds_at source) template))

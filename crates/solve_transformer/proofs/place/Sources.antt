@@ -17,6 +17,7 @@ use Rattle.solve_composition.proofs.behind.Forms.{frees_behind}
 use Rattle.solve_transformer.specs.Places.{placed_edge, nothing}
 use Rattle.solve_transformer.specs.Splits.{bounds_at, IsSource}
 use Rattle.solve_transformer.proofs.transform.Operated.{frees_few, forms_few}
+use Rattle.flow_edges.specs.declared.limits.TheConstants.{MOST_ACTIONS}
 
 module _ (system : Equations) (z : Vector) (p : ℕ) (before : List Action) (gs : List Form) (template : List (List ℤ))
     (t : template ≡ system.template) (source : List Ext) (b : bounds_at source ≡ z p) (forms : PlacedForms)
@@ -44,7 +45,7 @@ module _ (system : Equations) (z : Vector) (p : ℕ) (before : List Action) (gs 
 
 -- the forms at a place have few free values and few guards
 pub placed_frees : (n : ℕ) (before : List Action) (gs : List Form) (forms : PlacedForms) → forms ≡ placed_forms n before gs
-    → length before ≤ 256 → forms.frees ≤ 256
+    → length before ≤ MOST_ACTIONS → forms.frees ≤ MOST_ACTIONS
 placed_frees n before gs forms is l =
     let count = ap (λ (f : PlacedForms). f.frees) is ∙ frees_behind before gs in
     let few = frees_few before in
@@ -52,7 +53,7 @@ placed_frees n before gs forms is l =
 
 -- so they have
 pub placed_guards : (n : ℕ) (before : List Action) (gs : List Form) (forms : PlacedForms) → forms ≡ placed_forms n before gs
-    → length before ≤ 256 → length gs ≤ 256 → length forms.guards ≤ 512
+    → length before ≤ MOST_ACTIONS → length gs ≤ MOST_ACTIONS → length forms.guards ≤ 2 * MOST_ACTIONS
 placed_guards n before gs forms is l m =
     let actions = placed_actions before gs in
     let count = ap (λ (f : PlacedForms). length f.guards) is ∙ length-map (guard_forms n actions) (dense (width n actions)) in

@@ -40,6 +40,7 @@ use Rattle.solve_composition.proofs.Places.{read_at}
 use Rattle.flow_systems.proofs.EdgeActions.{edge_fits}
 use Rattle.solve_composition.proofs.composed.Means.{paths_count, forms_are, have_columns}
 use Rattle.solve_composition.proofs.operations.Walked.{guards_few}
+use Rattle.flow_edges.specs.declared.limits.TheConstants.{MOST_ACTIONS}
 
 -- ---- bounds at the source
 pub source_is : (list : List Ext) (bounds : List Extended) (rows rows' p p' : ℕ) → map extended list ≡ bounds → rows' ≡ rows → p' ≡ p
@@ -110,12 +111,12 @@ pub record PathSizes (s : System) (paths : List EdgeForms) (edge : ℕ) : Type 0
   pub here : slice_get paths edge ≡ Some forms
   -- their free values are those of the edge's actions
   pub frees : forms.frees ≡ free_count (edge_at s edge).actions
-  -- there are at most 256 free values
-  pub few_frees : forms.frees ≤ 256
-  -- there are at most 256 guards
-  pub few_guards : length forms.guards ≤ 256
+  -- there are few free values
+  pub few_frees : forms.frees ≤ MOST_ACTIONS
+  -- there are few guards
+  pub few_guards : length forms.guards ≤ MOST_ACTIONS
 
--- the composed forms of an edge of the system have at most 256 free values and guards
+-- the composed forms of an edge of the system have no more free values and guards than an edge may have actions
 pub path_sizes : (s : System) (paths : List EdgeForms) (edge : ℕ) → AreComposed (equations_of s) paths → edge < length s.flow.edges
     → PathSizes s paths edge
 path_sizes s paths edge h l =

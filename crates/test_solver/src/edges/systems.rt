@@ -6,10 +6,10 @@ ghost use Rattle.flow_systems.specs.SystemLimits.{is_over};
 use crate::cases::Fail;
 use flow_edges::{Flow, flow};
 use flow_systems::System;
-use flow_templates::{Template, intervals, zones};
+use flow_templates::{RowFault, Template, intervals, zones};
 use lang_parser::parse;
 use lang_tokens::{Lexicon, lex};
-use std::alloc::{AllocError, Global};
+use std::alloc::Global;
 
 // The points and edges of a text.
 fn flow_of(alloc: Global, text: &[u8]) -> Result<Flow, Fail> {
@@ -22,7 +22,7 @@ fn flow_of(alloc: Global, text: &[u8]) -> Result<Flow, Fail> {
 }
 
 // The rows of each variable, or also those of both together.
-fn template_of(alloc: Global, count: u32, in_pairs: bool) -> Result<Template, AllocError>
+fn template_of(alloc: Global, count: u32, in_pairs: bool) -> Result<Template, RowFault>
     requires some { 1 ≤ count }
     requires few { count ≤ 2 }
     ensures { IfOk result (λ template. IsTrue (is_over count template)) }
@@ -30,7 +30,7 @@ fn template_of(alloc: Global, count: u32, in_pairs: bool) -> Result<Template, Al
     if in_pairs {
         zones(alloc, count)
     } else {
-        intervals(alloc, count)
+        Ok(intervals(alloc, count)?)
     }
 }
 
@@ -43,7 +43,7 @@ pub(crate) fn system_of(alloc: Global, text: &[u8], in_pairs: bool) -> Result<Sy
     if count != 1 && count != 2 {
         return Err("one variable or two".into());
     }
-    let template = template_of(alloc, count, in_pairs)?;
+    let template = template_of(alloc, count, in_pairs).map_err(|_| "a template")?;
     match System::new(flow, template) {
         Ok(system) => Ok(system),
         Err(_) => Err("too many unknowns".into()),

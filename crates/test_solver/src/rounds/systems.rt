@@ -6,10 +6,10 @@ ghost use Rattle.flow_systems.specs.SystemLimits.{is_over};
 use crate::cases::Fail;
 use flow_edges::{Flow, flow};
 use flow_systems::System;
-use flow_templates::{Template, intervals, zones};
+use flow_templates::{RowFault, Template, intervals, zones};
 use lang_parser::parse;
 use lang_tokens::{Lexicon, lex};
-use std::alloc::{AllocError, Global};
+use std::alloc::Global;
 
 /// The rows that a system is made over.
 #[derive(Clone, Copy, PartialEq, Eq, Drop)]
@@ -70,7 +70,7 @@ fn flow_of(alloc: Global, text: &[u8]) -> Result<Flow, Fail> {
 }
 
 // The rows of each variable, or also those of pairs.
-fn template_of(alloc: Global, count: u32, in_pairs: bool) -> Result<Template, AllocError>
+fn template_of(alloc: Global, count: u32, in_pairs: bool) -> Result<Template, RowFault>
     requires some { 1 ≤ count }
     requires few { count ≤ 3 }
     ensures { IfOk result (λ template. IsTrue (is_over count template)) }
@@ -78,7 +78,7 @@ fn template_of(alloc: Global, count: u32, in_pairs: bool) -> Result<Template, Al
     if in_pairs {
         zones(alloc, count)
     } else {
-        intervals(alloc, count)
+        Ok(intervals(alloc, count)?)
     }
 }
 
@@ -99,7 +99,7 @@ pub(crate) fn system_of(alloc: Global, text: &[u8], domain: Domain) -> Result<Sy
     if count != 1 && count != 2 && count != 3 {
         return Err("one to three variables".into());
     }
-    let template = template_of(alloc, count, has_pairs(domain))?;
+    let template = template_of(alloc, count, has_pairs(domain)).map_err(|_| "a template")?;
     match System::new(flow, template) {
         Ok(system) => Ok(system),
         Err(_) => Err("too many unknowns".into()),

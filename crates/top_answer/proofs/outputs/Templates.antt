@@ -1,11 +1,13 @@
 -- The template of texts has a row.
-use Rattle.std.proofs.Common.{◌≡◌, ◌++◌, ◌<◌, ℕ, zero, suc, List, [], ◌∷◌, length, sym, subst, arith, length-append}
-use Rattle.std.specs.Prelude.{ℤ, Result, Ok, Err}
+use Rattle.std.proofs.Common.{◌≡◌, ◌++◌, ◌<◌, ℕ, zero, suc, Bool, true, false, List, [], ◌∷◌, length, sym, subst, arith, length-append}
+use Rattle.std.specs.Prelude.{ℤ, Result, Ok, Err, nat_le, if◌then◌else◌}
 use Rattle.std.proofs.lemmas.List.{length-map}
-use Rattle.flow_templates.specs.Domains.{intervals_of, octagons_of, zones_of}
+use Rattle.flow_templates.specs.Domains.{intervals_of, octagons_of, ready, zones_of}
 use Rattle.flow_templates.specs.RowFaults.{count_faults}
 use Rattle.flow_templates.specs.RowFiles.{Answers, a_count, a_fault, a_template}
 use Rattle.flow_templates.specs.declared.fault.RowFault.{RowFault}
+use Rattle.flow_templates.specs.declared.fault.RowFault.TheVariants.{Large}
+use Rattle.flow_templates.specs.declared.limits.TheConstants.{MOST_ROWS}
 use Rattle.flow_transitions.specs.AutoContents.{AutoAnswer, Content}
 use Rattle.flow_transitions.specs.AutoGrammar.{Names, Spot}
 use Rattle.flow_transitions.specs.AutoTexts.{IsAuto, by_tokens, no_tokens}
@@ -37,6 +39,14 @@ same_rows template rows e = cc
 no_fault : (template : List (List ℤ)) (fault : RowFault) → rows_answer (Ok template) ≡ rows_answer (Err fault) → ⊥
 no_fault template fault e = cc
 
+-- a ready-made template has its rows
+ready_rows : (template rows : List (List ℤ)) → rows_answer (Ok template) ≡ ready rows → rows ≡ template
+ready_rows template rows e = on (nat_le (length rows) MOST_ROWS) e
+  where
+    on : (b : Bool) → rows_answer (Ok template) ≡ (if b then Ok rows else Err (Large (length rows))) → rows ≡ template
+    on true h = cc
+    on false h = cc
+
 file_row : (names : List (List ℕ)) (text : List ℕ) (template : List (List ℤ)) → Answers names text (Ok template) → 0 < length template
 file_row names text template (a_template rows e h) =
     subst (λ (t : List (List ℤ)). 0 < length t) (same_rows template rows e) (counted_rows rows h.right)
@@ -49,10 +59,10 @@ pub some_row : (rows : Domain (List ℕ)) (names : List (List ℕ)) (template : 
 some_row Intervals names template some e =
     subst (λ (t : List (List ℤ)). 0 < length t) (same_rows template (intervals_of (length names)) e) (some_intervals (length names) some)
 some_row Zones names template some e =
-    subst (λ (t : List (List ℤ)). 0 < length t) (same_rows template (zones_of (length names)) e)
+    subst (λ (t : List (List ℤ)). 0 < length t) (ready_rows template (zones_of (length names)) e)
     (more_rows (intervals_of (length names)) _ (some_intervals (length names) some))
 some_row Octagons names template some e =
-    subst (λ (t : List (List ℤ)). 0 < length t) (same_rows template (octagons_of (length names)) e)
+    subst (λ (t : List (List ℤ)). 0 < length t) (ready_rows template (octagons_of (length names)) e)
     (more_rows (intervals_of (length names)) _ (some_intervals (length names) some))
 some_row (Rows text) names template some h = file_row names text template h
 

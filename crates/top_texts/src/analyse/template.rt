@@ -29,8 +29,8 @@ pub(crate) fn template_of(
     let vars = names.len() as u32;
     match rows {
         Domain::Intervals => Ok(intervals(alloc, vars)?),
-        Domain::Zones => Ok(zones(alloc, vars)?),
-        Domain::Octagons => Ok(octagons(alloc, vars)?),
+        Domain::Zones => zones(alloc, vars),
+        Domain::Octagons => octagons(alloc, vars),
         Domain::Rows(text) => read_rows(alloc, text, names),
     }
 }

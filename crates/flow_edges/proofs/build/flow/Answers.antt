@@ -5,9 +5,9 @@ use Rattle.lang_tree.specs.declared.limits.TheConstants.{MOST_HIDDEN}
 use Rattle.flow_edges.specs.declared.fault.FlowFault.{FlowFault}
 use Rattle.flow_edges.specs.declared.fault.FlowFault.TheVariants as fault
 use Rattle.flow_edges.specs.Checks.{checks_in}
-use Rattle.flow_edges.specs.Faults.{is_long}
+use Rattle.flow_edges.specs.Faults.{is_long, has_many_actions}
 use Rattle.flow_edges.proofs.build.EdgeLimits.{room_in}
-use Rattle.flow_edges.proofs.faults.FlowLaws.{limits, few_points, few_kept, long_faulted, checks_faulted, no_fault, nothing_cut}
+use Rattle.flow_edges.proofs.faults.FlowLaws.{limits, few_points, few_kept, long_faulted, actions_faulted, checks_faulted, no_fault, nothing_cut}
 use Rattle.flow_edges.proofs.faults.FlowLaws.{flow_within}
 use Rattle.flow_edges.proofs.build.flow.Goals as goal
 
@@ -38,6 +38,15 @@ check_count-count-requires c =
     let p = c.args.program.now in
     omega (arith, ap nodes_in c.as_slice-2.ensures, (limits (length p.names) p.body p.within_limits).nodes)
 
+pub returns-then-are_too_many-clause-fault : goal.returns-then-are_too_many-clause-fault
+returns-then-are_too_many-clause-fault c =
+    let none = sym c.counted_fault.ensures ∙ c.in_default.is in
+    let found = ap (position is_long) (sym (c.deref.ensures.value ∙ c.in_ok-edges.ensures)) ∙ sym c.long_edge.ensures
+    ∙ c.in_default-long_edge.is in
+    let many = ap has_many_actions (sym (c.deref-2.ensures.value ∙ c.in_ok-edges.ensures)) ∙ sym c.are_too_many.ensures
+    ∙ c.if-are_too_many.true in
+    inr (actions_faulted c.args.program.now.body none found many)
+
 counted : (body b : Statements) (n : ℕ) → b ≡ body → n ≡ length (checks_in b) → n ≡ length (checks_in body)
 counted body b n e f = f ∙ ap (λ s. length (checks_in s)) e
 
@@ -47,7 +56,9 @@ returns-then-count-gt-MOST_CHECKS-clause-fault c =
     let found = ap (position is_long) (sym (c.deref.ensures.value ∙ c.in_ok-edges.ensures)) ∙ sym c.long_edge.ensures
     ∙ c.in_default-long_edge.is in
     let count = counted c.args.program.now.body _ c.check_count-count.result c.as_slice-2.ensures c.check_count-count.ensures.count in
-    inr (checks_faulted c.args.program.now.body none found (omega (arith, count, c.if-count-gt-MOST_CHECKS.true))
+    let few = ap has_many_actions (sym (c.deref-2.ensures.value ∙ c.in_ok-edges.ensures)) ∙ sym c.are_too_many.ensures
+    ∙ c.if-are_too_many.false in
+    inr (checks_faulted c.args.program.now.body none found few (omega (arith, count, c.if-count-gt-MOST_CHECKS.true))
     ∙ ap (λ (k : ℕ). let o : Option FlowFault = Some (fault.Checks k) in o) (sym count))
 
 pub invariant_of-result : goal.invariant_of-result
@@ -74,4 +85,6 @@ returns-clause-within c =
     let found = ap (position is_long) (sym (c.deref.ensures.value ∙ c.in_ok-edges.ensures)) ∙ sym c.long_edge.ensures
     ∙ c.in_default-long_edge.is in
     let count = counted c.args.program.now.body _ c.check_count-count.result c.as_slice-2.ensures c.check_count-count.ensures.count in
-    no_fault c.args.program.now.body none found (omega (arith, count, c.if-count-gt-MOST_CHECKS.false))
+    let few = ap has_many_actions (sym (c.deref-2.ensures.value ∙ c.in_ok-edges.ensures)) ∙ sym c.are_too_many.ensures
+    ∙ c.if-are_too_many.false in
+    no_fault c.args.program.now.body none found few (omega (arith, count, c.if-count-gt-MOST_CHECKS.false))

@@ -2,6 +2,7 @@ use Rattle.std.proofs.Common.{◌≤◌, ◌++◌, ◌∙◌, length, take, sym,
 use Rattle.std.proofs.lemmas.List.{append-nil}
 use Rattle.flow_edges.specs.Steps.{guards}
 use Rattle.flow_edges.specs.Trails.{kept}
+use Rattle.flow_edges.specs.declared.limits.TheConstants.{KEPT}
 use Rattle.flow_transitions.proofs.choosing.Chosen.{kept_all, kept_short}
 use Rattle.flow_transitions.proofs.made.Places.{guard_more}
 use Rattle.flow_transitions.proofs.choices.add_guards.Goals as goal
@@ -11,7 +12,7 @@ loop-form-init c = let xs = c.args.actions.now.items in sym (ap kept (append-nil
 
 pub add-requires : goal.add-requires
 add-requires c =
-    subst (λ z. length z ≤ 257) (sym c.loop-form.invariant) (kept_short
+    subst (λ z. length z ≤ KEPT) (sym c.loop-form.invariant) (kept_short
     (c.args.actions.now.items ++ guards (take c.loop-form.form-index c.args.forms.now)))
 
 pub loop-form-preserved : goal.loop-form-preserved

@@ -5,6 +5,7 @@ use Rattle.std.specs.List.{list_all}
 use Rattle.flow_edges.specs.declared.edge.Action.{Action}
 use Rattle.flow_edges.specs.FlowLimits.{is_action}
 use Rattle.flow_systems.proofs.EdgeActions.{edge_fits}
+use Rattle.flow_edges.specs.declared.limits.TheConstants.{MOST_ACTIONS}
 use Rattle.solve_composition.proofs.compose.compose_all.Goals as goal
 
 pub loop-number-init : goal.loop-number-init
@@ -12,7 +13,7 @@ loop-number-init c = record { list = c.in_ok-list.ensures.items; first = refl }
 
 pub compose_edge-requires-clause-few : goal.compose_edge-requires-clause-few
 compose_edge-requires-clause-few c =
-    subst (λ (xs : List Action). length xs ≤ 256) (sym c.as_slice.ensures)
+    subst (λ (xs : List Action). length xs ≤ MOST_ACTIONS) (sym c.as_slice.ensures)
     (edge_fits c.args.system.now.flow c.as_slice-edges.result.now c.loop-number.number c.index-edges-number.result c.as_slice-edges.ensures
     c.loop-number-test.true c.index-edges-number.is).few
 

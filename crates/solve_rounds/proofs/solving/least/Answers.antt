@@ -76,7 +76,7 @@ returns-in-None-clause-numbered g c =
     c.loop-made.invariant.after c.improve_from.new.known) c.args.limit c.in_ok-finish-in-None.field-0
     (c.in_ok-improve_from.ensures.none.0 (subst (λ o. IsNone o) (sym c.in-None.is) refl)) c.loop-made.invariant.within
     c.in_ok-finish-in-None.ensures.finished)
-    c.requires.limit
+    c.in_ok-finish-in-None.ensures.few
 
 pub returns-then-made-limit-clause-halt : goal.returns-then-made-limit-clause-halt
 returns-then-made-limit-clause-halt g c =
