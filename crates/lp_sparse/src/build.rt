@@ -2,7 +2,7 @@
 ghost use Rattle.std.specs.Prelude.{◌≡◌, ℕ, ◌+◌, ◌<◌, ◌≤◌, List, length, map, ◌++◌, [], get_or, IfOk, OnOk};
 ghost use Rattle.base_numbers.specs.Rational.{ℚ, zero_ℚ};
 ghost use Rattle.lp_dictionary.specs.Build.{goals_of, slack_entries, auxiliary_entries, goal_entries};
-ghost use Rattle.lp_sparse.specs.Keeps.{Lists};
+ghost use Rattle.lp_dictionary.specs.Keeps.{Lists};
 ghost use Rattle.lp_sparse.specs.Rows.{row_at};
 ghost use Rattle.lp_sparse.specs.Build.{signed_by, end_pushed, IsFirst};
 

@@ -5,8 +5,9 @@ ghost use Rattle.base_fractions.specs.Operation.{first_wide};
 ghost use Rattle.lp_dictionary.specs.Formulas.{combined_row, added_operations};
 ghost use Rattle.lp_dictionary.specs.PivotOperations.{added_row_operations};
 ghost use Rattle.lp_dictionary.specs.Faults.{Refuses};
-ghost use Rattle.lp_sparse.specs.Entries.{value_at, Rises, HasNoZero, or_zero, head_value, behind};
-ghost use Rattle.lp_sparse.specs.Keeps.{Keeps};
+ghost use Rattle.lp_dictionary.specs.Entries.{value_at, Rises, HasNoZero};
+ghost use Rattle.lp_sparse.specs.Entries.{or_zero, head_value, behind};
+ghost use Rattle.lp_dictionary.specs.Keeps.{Keeps};
 ghost use Rattle.lp_sparse.specs.Merge.{StartsAt, MergesOn, MergesEntry};
 ghost use Rattle.lp_sparse.specs.Units.{IsUnit};
 

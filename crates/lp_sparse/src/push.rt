@@ -1,6 +1,6 @@
 //! Entries that are appended to a list.
 ghost use Rattle.std.specs.Prelude.{◌≡◌, OnOk, IfErr};
-ghost use Rattle.lp_sparse.specs.Entries.{pushed};
+ghost use Rattle.lp_dictionary.specs.Entries.{pushed};
 ghost use Rattle.lp_sparse.specs.Faults.{Pushes, PassesOn};
 
 use crate::entry::{Entry, SparseRow};

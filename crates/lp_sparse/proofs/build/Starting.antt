@@ -13,9 +13,9 @@ use Rattle.lp_dictionary.specs.Cells.{cells_table}
 use Rattle.lp_dictionary.proofs.cells.RowLoops.{row_end}
 use Rattle.lp_dictionary.proofs.listed.DictBuilds.{get_behind, joined_length, get_joined, slack_long, slack_short, goal_long, goal_short}
 use Rattle.lp_dictionary.proofs.listed.DictBuilds.{auxiliary_length}
-use Rattle.lp_sparse.specs.declared.entry.SparseRow.{SparseRow}
-use Rattle.lp_sparse.specs.Entries.{Rises, HasNoZero}
-use Rattle.lp_sparse.specs.Keeps.{Lists}
+use Rattle.lp_sparse.specs.declared.row.SparseRow.{SparseRow}
+use Rattle.lp_dictionary.specs.Entries.{Rises, HasNoZero}
+use Rattle.lp_dictionary.specs.Keeps.{Lists}
 use Rattle.lp_sparse.specs.Rows.{row_at, numbers, EachRises, NoZeros}
 use Rattle.lp_sparse.specs.Build.{first_list, IsFirst}
 use Rattle.lp_sparse.specs.Named.{named_table}

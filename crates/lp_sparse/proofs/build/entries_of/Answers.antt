@@ -1,7 +1,7 @@
 use Rattle.std.proofs.Common.{◌+◌, ◌≤◌, length, map, take, sym, ◌∙◌, subst, arith}
 use Rattle.std.proofs.lemmas.List.{length-map, length-take-le}
 use Rattle.lp_sparse.specs.Build.{signed_by}
-use Rattle.lp_sparse.specs.Keeps.{Lists}
+use Rattle.lp_dictionary.specs.Keeps.{Lists}
 use Rattle.lp_sparse.proofs.build.Listing.{lists_more}
 use Rattle.lp_sparse.proofs.build.entries_of.Goals as goal
 

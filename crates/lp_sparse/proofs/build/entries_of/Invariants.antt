@@ -1,6 +1,6 @@
 use Rattle.std.proofs.Common.{map, take}
 use Rattle.lp_sparse.specs.Build.{signed_by}
-use Rattle.lp_sparse.specs.Keeps.{Lists}
+use Rattle.lp_dictionary.specs.Keeps.{Lists}
 use Rattle.lp_sparse.proofs.build.entries_of.Given as goal
 
 abbrev pub invariant-loop-k : goal.invariant-loop-k

@@ -4,8 +4,8 @@ use Rattle.std.proofs.lemmas.List.{length-map, length_push}
 use Rattle.base_numbers.specs.Rational.{zero_ℚ}
 use Rattle.lp_dictionary.specs.declared.problem.Row.{Row}
 use Rattle.lp_dictionary.specs.Build.{slack_entries, auxiliary_entries, goal_entries}
-use Rattle.lp_sparse.specs.declared.entry.SparseRow.{SparseRow}
-use Rattle.lp_sparse.specs.Keeps.{Lists}
+use Rattle.lp_sparse.specs.declared.row.SparseRow.{SparseRow}
+use Rattle.lp_dictionary.specs.Keeps.{Lists}
 use Rattle.lp_sparse.specs.Rows.{row_at}
 use Rattle.lp_sparse.specs.Build.{IsFirst}
 use Rattle.lp_sparse.proofs.build.Starting.{first_one, first_two}

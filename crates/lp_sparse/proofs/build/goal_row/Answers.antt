@@ -2,7 +2,7 @@ use Rattle.std.proofs.Common.{length, map, sym, subst}
 use Rattle.std.proofs.lemmas.List.{length-map}
 use Rattle.base_numbers.specs.Rational.{zero_ℚ}
 use Rattle.lp_dictionary.specs.Build.{goal_entries}
-use Rattle.lp_sparse.specs.Keeps.{Lists}
+use Rattle.lp_dictionary.specs.Keeps.{Lists}
 use Rattle.lp_sparse.proofs.build.Listing.{signed_none, lists_end}
 use Rattle.lp_sparse.proofs.build.goal_row.Goals as goal
 

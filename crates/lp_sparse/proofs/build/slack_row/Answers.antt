@@ -2,7 +2,7 @@ use Rattle.std.proofs.Common.{◌≡◌, length, map, sym, ◌∙◌, subst, ari
 use Rattle.std.proofs.lemmas.List.{length-map}
 use Rattle.base_numbers.specs.Rational.{one_ℚ, neg_ℚ}
 use Rattle.lp_dictionary.specs.Build.{slack_entries}
-use Rattle.lp_sparse.specs.Keeps.{Lists}
+use Rattle.lp_dictionary.specs.Keeps.{Lists}
 use Rattle.lp_sparse.proofs.build.Listing.{lists_end}
 use Rattle.lp_sparse.proofs.build.slack_row.Goals as goal
 

@@ -4,7 +4,7 @@ use Rattle.std.proofs.lemmas.List.{get_or-map, length_push}
 use Rattle.base_numbers.specs.Rational.{zero_ℚ}
 use Rattle.lp_dictionary.specs.declared.problem.Row.{Row}
 use Rattle.lp_dictionary.specs.Build.{slack_entries}
-use Rattle.lp_sparse.specs.Keeps.{Lists}
+use Rattle.lp_dictionary.specs.Keeps.{Lists}
 use Rattle.lp_sparse.specs.Rows.{row_at}
 use Rattle.lp_sparse.proofs.place.RowsAt.{row_pushed, row_before}
 use Rattle.lp_sparse.proofs.build.slack_rows.Goals as goal

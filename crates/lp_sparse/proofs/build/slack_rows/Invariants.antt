@@ -1,7 +1,7 @@
 use Rattle.std.proofs.Common.{◌≡◌, ℕ, ◌<◌, [], length, map, get_or}
 use Rattle.base_numbers.specs.Rational.{zero_ℚ}
 use Rattle.lp_dictionary.specs.Build.{slack_entries}
-use Rattle.lp_sparse.specs.Keeps.{Lists}
+use Rattle.lp_dictionary.specs.Keeps.{Lists}
 use Rattle.lp_sparse.specs.Rows.{row_at}
 use Rattle.lp_sparse.proofs.build.slack_rows.Given as goal
 

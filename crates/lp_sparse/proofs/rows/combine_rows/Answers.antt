@@ -4,8 +4,8 @@ use Rattle.base_fractions.specs.Operation.{first_wide}
 use Rattle.lp_dictionary.specs.Formulas.{combined_row}
 use Rattle.lp_dictionary.specs.Faults.{Refuses}
 use Rattle.lp_dictionary.specs.PivotOperations.{combination_row_operations}
-use Rattle.lp_sparse.specs.Entries.{value_at, Rises, HasNoZero}
-use Rattle.lp_sparse.specs.Keeps.{Keeps}
+use Rattle.lp_dictionary.specs.Entries.{value_at, Rises, HasNoZero}
+use Rattle.lp_dictionary.specs.Keeps.{Keeps}
 use Rattle.lp_sparse.specs.Rows.{numbers, rows_operations}
 use Rattle.lp_sparse.proofs.place.RowsAt.{row_read, row_kept}
 use Rattle.lp_sparse.proofs.rows.Answering.{fault_of_more}
