@@ -57,7 +57,7 @@ fn push_spread<F: OrderedField>(
     ensures { OnOk result (map F.meaning entries.new.items ≡ map F.meaning entries.old.items ++ map (signed_by negated) coefficients.now) }
 {
     for col in 0..coefficients.len() {
-        entries.push(signed(coefficients.at(col as u32), negated))?;
+        entries.push(signed(coefficients.at(col), negated))?;
     }
     Ok(())
 }

@@ -43,7 +43,7 @@ fn longer(length: u32, more: usize) -> Result<u32, AllocError>
 }
 
 impl<F: OrderedField> Coefficients<F> {
-    ghost use Rattle.std.specs.Prelude.{◌≡◌, ◌<◌, ◌≤◌, ◌+◌, ◌++◌, ◌∷◌, [], length, map, get_or, OnOk, OnErr, IfOk};
+    ghost use Rattle.std.specs.Prelude.{◌≡◌, ◌≤◌, ◌+◌, ◌++◌, ◌∷◌, [], length, map, get_or, OnOk, OnErr, IfOk};
     ghost use Rattle.base_numbers.specs.Rational.{zero_ℚ};
     ghost use Rattle.lp_dictionary.specs.Build.{zeros};
     ghost use Rattle.lp_dictionary.specs.Keeps.{Lists};
@@ -94,17 +94,20 @@ impl<F: OrderedField> Coefficients<F> {
 
     /// How many coefficients there are, those that are zero too.
     pub fn len(&self) -> usize
-        ensures count { result ≡ length self.now }
-        ensures few { result < 4294967296 }
+        ensures { result ≡ length self.now }
     {
         self.length as usize
     }
 
     /// The coefficient at a place, counted from 0; 0 behind the last.
-    pub fn at(&self, place: u32) -> F
+    pub fn at(&self, place: usize) -> F
         ensures { F.meaning result ≡ get_or self.now place zero_ℚ }
     {
-        value_in(&self.entries, place)
+        if place < self.length as usize {
+            value_in(&self.entries, place as u32)
+        } else {
+            F::zero()
+        }
     }
 
     /// The coefficients that are not zero, by rising place.

@@ -1,5 +1,5 @@
 -- Lists of entries that grow at their end with the numbers of a dense list, and the numbers that they stand for.
-use Rattle.std.proofs.Common.{◌≡◌, ℕ, zero, suc, ◌+◌, ◌-◌, ◌<◌, ⊎_elim, List, [], ◌∷◌, ◌++◌, length, get_or, refl, ap, sym, ◌∙◌}
+use Rattle.std.proofs.Common.{◌≡◌, ℕ, zero, suc, ◌+◌, ◌-◌, ◌<◌, ◌≤◌, ⊎_elim, List, [], ◌∷◌, ◌++◌, length, get_or, refl, ap, sym, ◌∙◌}
 use Rattle.std.proofs.Common.{subst, arith, length-append}
 use Rattle.std.proofs.lemmas.Bool.{cases_lt}
 use Rattle.std.proofs.lemmas.List.{length_push, get_or_push, get_or_append_left, get_or_past, ext_get_or}
@@ -9,7 +9,7 @@ use Rattle.lp_dictionary.specs.declared.entry.Entry.{Entry}
 use Rattle.lp_dictionary.specs.Entries.{value_at, Rises, HasNoZero, pushed, spread}
 use Rattle.lp_dictionary.specs.Keeps.{Keeps, Lists}
 use Rattle.lp_dictionary.proofs.listed.DictBuilds.{length-zeros, get-zeros, get_behind}
-use Rattle.lp_dictionary.proofs.kept.Lists.{keeps_none, keeps_gap, keeps_same, keeps_pushed, no_zero_pushed, value_behind}
+use Rattle.lp_dictionary.proofs.kept.Lists.{keeps_none, keeps_gap, keeps_same, keeps_pushed, no_zero_pushed}
 
 module _ {F : Type 0} (m : F → ℚ) where
   -- no number
@@ -71,11 +71,9 @@ module _ {F : Type 0} (m : F → ℚ) where
   pub lists_rise : (xs : List ℚ) (es : List (Entry F)) (n : ℕ) → Lists m xs es → n ≡ length xs → Rises 0 n es
   lists_rise xs es n h e = subst (λ k. Rises 0 k es) (sym e) h.keeps.rises
 
-  -- the number at any column
-  pub at_spread : (n : ℕ) (es : List (Entry F)) (k : ℕ) → Rises 0 n es → get_or (spread m n es) k zero_ℚ ≡ value_at m es k
-  at_spread n es k r = ⊎_elim (λ a. get_spread n es k a)
-      (λ a. get_or_past (spread m n es) k zero_ℚ (let h = length-spread n es in omega (arith, a, h)) ∙ sym (value_behind m 0 n k es r a))
-      (cases_lt k n)
+  -- 0 behind them
+  pub past_spread : (n : ℕ) (es : List (Entry F)) (k : ℕ) → n ≤ k → get_or (spread m n es) k zero_ℚ ≡ zero_ℚ
+  past_spread n es k l = get_or_past (spread m n es) k zero_ℚ (let h = length-spread n es in omega (arith, l, h))
 
   -- one more number
   pub spread_pushed : (n : ℕ) (es : List (Entry F)) (x : F) → Rises 0 n es → HasNoZero m es

@@ -11,7 +11,7 @@ loop-col-preserved g c =
     let f = signed_by c.args.negated in
     let xs = c.args.coefficients.now in
     let k = c.loop-col.col in
-    let within : c.loop-col.col < length c.args.coefficients.now = let e = c.len-col-end.ensures.count in let l = c.loop-col-test.true in
+    let within : c.loop-col.col < length c.args.coefficients.now = let e = c.len-col-end.ensures in let l = c.loop-col-test.true in
     omega (arith, e, l) in
     appended_more m c.loop-col.entries.items c.push.new.self.items (map m c.args.entries.now.items) (map f (take k xs))
     (map f (take (k + 1) xs)) c.signed.result c.in_ok-push.ensures.items c.loop-col.invariant

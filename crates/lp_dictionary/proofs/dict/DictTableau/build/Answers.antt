@@ -24,7 +24,7 @@ invariant_of-result g c =
     let n = length-map p.rows.items (λ (r : Row _). m r.side) in
     let bs_long : length c.in_ok-basics.basics.items ≡ length (map (λ (r : Row _). m r.side) p.rows.items) =
     let e = c.in_ok-basics.ensures.0 in let f = c.len.ensures in omega (arith, e, f, n, kr) in
-    let cols : c.len-cols.result ≡ length p.goal = c.len-cols.ensures.count in
+    let cols : c.len-cols.result ≡ length p.goal = c.len-cols.ensures in
     let ns_long = subst (λ w. length c.in_ok-others.others.items ≡ width_of c.is_some-auxiliary.result w) cols c.in_ok-others.ensures.0 in
     let entries = c.in_ok-entries.ensures ∙ ap (λ k. slacks_entries aux A b k ++ goals_entries aux p.goal) (sym n) in
     record {
@@ -48,7 +48,7 @@ returns-clause-first g c =
     let rows : c.len.result ≡ length (map (λ (r : Row _). m r.side) p.rows.items) = let f = c.len.ensures in omega (arith, f, n, kr) in
     let bs_long : length c.in_ok-basics.basics.items ≡ length (map (λ (r : Row _). m r.side) p.rows.items) =
     let e = c.in_ok-basics.ensures.0 in omega (arith, e, rows) in
-    let cols : c.len-cols.result ≡ length p.goal = c.len-cols.ensures.count in
+    let cols : c.len-cols.result ≡ length p.goal = c.len-cols.ensures in
     let ns_long = subst (λ w. length c.in_ok-others.others.items ≡ width_of c.is_some-auxiliary.result w) cols c.in_ok-others.ensures.0 in
     let ns_are = subst (λ w. (k : ℕ) → k < width_of c.is_some-auxiliary.result w → get_or c.in_ok-others.others.items k 0 ≡ other_name w k)
     cols c.in_ok-others.ensures.1 in
