@@ -1,7 +1,8 @@
 //! The lists of the first dictionary.
 ghost use Rattle.std.specs.Prelude.{◌≡◌, ℕ, ◌+◌, ◌<◌, ◌≤◌, length, map, ◌++◌, ◌∷◌, [], get_or, vec_len, IfOk, OnOk};
 ghost use Rattle.lp_dictionary.specs.Exact.{exact, IsShaped};
-ghost use Rattle.lp_dictionary.specs.Build.{goals_of, width_of, other_name, zeros, signed_by, slack_entries, auxiliary_entries, goal_entries};
+ghost use Rattle.base_numbers.specs.Vector.{zeros};
+ghost use Rattle.lp_dictionary.specs.Build.{goals_of, width_of, other_name, signed_by, slack_entries, auxiliary_entries, goal_entries};
 ghost use Rattle.lp_dictionary.specs.Build.{goals_entries, slacks_entries};
 
 use crate::coefficients::Coefficients;

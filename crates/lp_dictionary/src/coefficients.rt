@@ -45,7 +45,7 @@ fn longer(length: u32, more: usize) -> Result<u32, AllocError>
 impl<F: OrderedField> Coefficients<F> {
     ghost use Rattle.std.specs.Prelude.{◌≡◌, ◌≤◌, ◌+◌, ◌++◌, ◌∷◌, [], length, map, get_or, OnOk, OnErr, IfOk};
     ghost use Rattle.base_numbers.specs.Rational.{zero_ℚ};
-    ghost use Rattle.lp_dictionary.specs.Build.{zeros};
+    ghost use Rattle.base_numbers.specs.Vector.{zeros};
     ghost use Rattle.lp_dictionary.specs.Keeps.{Lists};
 
     /// No coefficients.

@@ -11,12 +11,11 @@ ghost use Rattle.lp_dictionary.specs.Keeps.{Keeps};
 ghost use Rattle.lp_sparse.specs.Merge.{StartsAt, MergesOn, MergesEntry};
 ghost use Rattle.lp_sparse.specs.Units.{IsUnit};
 
-use crate::entry::Entry;
 use crate::formulas::{kept_of, sum_of};
 use crate::push::push_answer;
 use crate::unit::unit_of;
 use base_fractions::OrderedField;
-use lp_dictionary::PivotFault;
+use lp_dictionary::{Entry, PivotFault};
 
 /// Appends the entries of a row from the place `i` on whose column is below `until`, with `product` in the pivot's column, and answers
 /// the place after them.

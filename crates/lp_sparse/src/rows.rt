@@ -10,13 +10,12 @@ ghost use Rattle.lp_sparse.specs.Entries.{IsRising};
 ghost use Rattle.lp_dictionary.specs.Keeps.{Keeps};
 ghost use Rattle.lp_sparse.specs.Rows.{row_at, numbers, EachRises, NoZeros, CombinesRows, Exchanges, rows_operations, exchange_operations};
 
-use crate::entry::{Entry, SparseRow};
 use crate::formulas::product_of;
 use crate::merge::merge;
-use crate::place::value_in;
 use crate::push::{push_answer, replace};
+use crate::row::SparseRow;
 use base_fractions::OrderedField;
-use lp_dictionary::{PivotFault, divided_by};
+use lp_dictionary::{Entry, PivotFault, divided_by, value_in};
 
 /// Formulas 1 and 2 on the pivot's row, whose entry at `col` is the pivot.
 pub fn divide_row<F: OrderedField>(

@@ -3,7 +3,8 @@ use Rattle.std.proofs.Common.{◌≡◌, ℕ, zero, suc, ◌+◌, Bool, List, []
 use Rattle.std.proofs.Common.{append_assoc, add-one}
 use Rattle.std.proofs.lemmas.List.{map_push}
 use Rattle.base_numbers.specs.Rational.{ℚ, zero_ℚ}
-use Rattle.lp_dictionary.specs.Build.{zeros, slack_entries, slacks_entries}
+use Rattle.base_numbers.specs.Vector.{zeros}
+use Rattle.lp_dictionary.specs.Build.{slack_entries, slacks_entries}
 use Rattle.lp_dictionary.proofs.listed.Joins.{joined-suc, joined-zero}
 
 zeros_push : (n : ℕ) → zeros (suc n) ≡ zeros n ++ zero_ℚ ∷ []

@@ -4,11 +4,12 @@ use Rattle.std.proofs.Common.{subst, arith, length-append}
 use Rattle.std.proofs.lemmas.Bool.{cases_lt}
 use Rattle.std.proofs.lemmas.List.{length_push, get_or_push, get_or_append_left, get_or_past, ext_get_or}
 use Rattle.base_numbers.specs.Rational.{ℚ, zero_ℚ}
-use Rattle.lp_dictionary.specs.Build.{zeros}
+use Rattle.base_numbers.specs.Vector.{zeros}
 use Rattle.lp_dictionary.specs.declared.entry.Entry.{Entry}
 use Rattle.lp_dictionary.specs.Entries.{value_at, Rises, HasNoZero, pushed, spread}
 use Rattle.lp_dictionary.specs.Keeps.{Keeps, Lists}
-use Rattle.lp_dictionary.proofs.listed.DictBuilds.{length-zeros, get-zeros, get_behind}
+use Rattle.base_numbers.proofs.vector.Vectors.{length-zeros}
+use Rattle.lp_dictionary.proofs.listed.DictBuilds.{get-zeros, get_behind}
 use Rattle.lp_dictionary.proofs.kept.Lists.{keeps_none, keeps_gap, keeps_same, keeps_pushed, no_zero_pushed}
 
 module _ {F : Type 0} (m : F → ℚ) where

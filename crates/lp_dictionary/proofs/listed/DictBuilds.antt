@@ -5,7 +5,9 @@ use Rattle.std.proofs.lemmas.List.{length-map, get_or-map, get_or_append_left, g
 use Rattle.std.proofs.lemmas.Bool.{cases_lt, cases_eq, eq-eqb, ne_eqb}
 use Rattle.base_numbers.specs.Rational.{ℚ, zero_ℚ, one_ℚ, neg_ℚ}
 use Rattle.lp_dictionary.specs.Listed.{joined}
-use Rattle.lp_dictionary.specs.Build.{zeros, slack_entries, auxiliary_entries, goal_entries}
+use Rattle.base_numbers.specs.Vector.{zeros}
+use Rattle.base_numbers.proofs.vector.Vectors.{length-zeros}
+use Rattle.lp_dictionary.specs.Build.{slack_entries, auxiliary_entries, goal_entries}
 use Rattle.lp_dictionary.proofs.cells.RowLoops.{row_end}
 
 -- an entry past the first part of a list is one of its second part
@@ -35,11 +37,6 @@ get_joined s (suc n) f h i k d l b =
     (λ a. let q : i ≡ n = omega (arith, a, l) in get_behind (joined n f) (f n) k (i * s + k) d
     (ap (λ y. y + k) e ∙ ap (λ j. j * s + k) (sym q)) ∙ ap (λ j. get_or (f j) k d) (sym q))
     (cases_lt i n)
-
--- a list of n zeros has the length n
-pub length-zeros : (n : ℕ) → length (zeros n) ≡ n
-length-zeros zero = refl
-length-zeros (suc n) = ap suc (length-zeros n)
 
 -- each of so many zeros is 0
 pub get-zeros : (n k : ℕ) → get_or (zeros n) k zero_ℚ ≡ zero_ℚ

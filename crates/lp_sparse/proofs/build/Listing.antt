@@ -3,8 +3,9 @@ use Rattle.std.proofs.Common.{◌≡◌, ℕ, zero, suc, ◌+◌, ◌<◌, Bool,
 use Rattle.std.proofs.Common.{◌∙◌, subst, arith, append_assoc}
 use Rattle.std.proofs.lemmas.List.{length_push, get_or_push, get_or_append_left, map_more, get_or-map, length-map, map-id}
 use Rattle.base_numbers.specs.Rational.{ℚ, zero_ℚ}
-use Rattle.lp_dictionary.specs.Build.{auxiliary_entry, zeros}
-use Rattle.lp_dictionary.proofs.listed.DictBuilds.{length-zeros}
+use Rattle.base_numbers.specs.Vector.{zeros}
+use Rattle.lp_dictionary.specs.Build.{auxiliary_entry}
+use Rattle.base_numbers.proofs.vector.Vectors.{length-zeros}
 use Rattle.lp_dictionary.specs.declared.entry.Entry.{Entry}
 use Rattle.lp_dictionary.specs.Entries.{pushed}
 use Rattle.lp_dictionary.specs.Keeps.{Keeps, Lists}
@@ -24,14 +25,3 @@ module _ {F : Type 0} (m : F → ℚ) where
       (lists_pushed (xs ++ q ∷ []) (pushed m es k x) (k + 1) s t (lists_pushed xs es k x q h e v)
       (ap (λ n. n + 1) e ∙ sym (length_push xs q)) w)
   lists_end false xs es k x s q t h e v w = lists_pushed xs es k s t h e w
-
-  -- one more number of a list, with its sign or the other
-  pub lists_more : (neg : Bool) (vs : List F) (i : ℕ) (es : List (Entry F)) (x y : F) → i < length vs → x ≡ get_or vs i x
-      → m y ≡ signed_by neg (m x) → Lists m (map (signed_by neg) (take i (map m vs))) es
-      → i ≡ length (map (signed_by neg) (take i (map m vs))) →
-      Lists m (map (signed_by neg) (take (i + 1) (map m vs))) (pushed m es i y)
-  lists_more neg vs i es x y l r v h e =
-      subst (λ us. Lists m us (pushed m es i y)) (sym (map_more (signed_by neg) (map m vs) i zero_ℚ
-      (subst (λ n. i < n) (sym (length-map vs m)) l) ∙ ap (λ u. map (signed_by neg) (take i (map m vs)) ++ signed_by neg u ∷ [])
-      (get_or-map m vs i x zero_ℚ l ∙ ap m (sym r))))
-      (lists_pushed (map (signed_by neg) (take i (map m vs))) es i y (signed_by neg (m x)) h e v)

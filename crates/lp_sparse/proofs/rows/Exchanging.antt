@@ -14,7 +14,7 @@ use Rattle.lp_dictionary.specs.Entries.{value_at, Rises}
 use Rattle.lp_dictionary.specs.Keeps.{Keeps}
 use Rattle.lp_sparse.specs.Rows.{row_at, numbers, CombinesRows, Exchanges, rows_operations, exchange_operations}
 use Rattle.lp_dictionary.proofs.kept.Lists.{value_behind, keeps_same}
-use Rattle.lp_sparse.proofs.place.RowsAt.{row_written, row_kept}
+use Rattle.lp_sparse.proofs.rows.RowsAt.{row_written, row_kept}
 
 module _ {F : Type 0} (m : F → ℚ) where
   -- a column with another number than 0 is below the bound

@@ -13,7 +13,7 @@ use Rattle.lp_sparse.specs.declared.row.SparseRow.{SparseRow}
 use Rattle.lp_dictionary.specs.Entries.{value_at, HasNoZero}
 use Rattle.lp_dictionary.specs.Keeps.{Keeps}
 use Rattle.lp_sparse.specs.Rows.{row_at, numbers, NoZeros, CombinesRows, rows_operations}
-use Rattle.lp_sparse.proofs.place.RowsAt.{row_written, row_kept}
+use Rattle.lp_sparse.proofs.rows.RowsAt.{row_written, row_kept}
 
 -- a product that fits leaves the decision to formula 4
 pub combination_later : (L : ℤ) (n : ℕ) (a b : ℕ → ℚ) (c : ℕ) (f y : ℚ) → f ≡ a c → y ≡ b c → first_wide L (product_operations f y) ≡ None

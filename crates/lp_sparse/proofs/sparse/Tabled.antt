@@ -19,7 +19,7 @@ use Rattle.lp_dictionary.specs.Entries.{value_at, Rises, HasNoZero}
 use Rattle.lp_sparse.specs.Entries.{left_out}
 use Rattle.lp_sparse.specs.Rows.{row_at, numbers, EachRises, NoZeros, Exchanges, rows_operations, exchange_operations}
 use Rattle.lp_sparse.specs.Named.{named_table}
-use Rattle.lp_sparse.proofs.place.RowsAt.{row_past}
+use Rattle.lp_sparse.proofs.rows.RowsAt.{row_past}
 use Rattle.lp_sparse.proofs.entries.Leaving.{left_out_rises, value_left, no_zero_left}
 
 -- names don't depend on entries: those of dictionaries with no entry but 0

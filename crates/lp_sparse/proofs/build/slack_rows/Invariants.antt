@@ -10,6 +10,6 @@ invariant-loop-i g l =
     let m = g.F.OrderedField.meaning in
     record {
       count : length l.slacks.items ≡ l.i;
-      rows : (k : ℕ) → k < l.i → Lists m (slack_entries l.auxiliary (get_or (map (λ r. map m r.coeffs.items) l.rows) k [])
+      rows : (k : ℕ) → k < l.i → Lists m (slack_entries l.auxiliary (get_or (map (λ r. r.coeffs) l.rows) k [])
           (get_or (map (λ r. m r.side) l.rows) k zero_ℚ)) (row_at l.slacks.items k);
     }

@@ -7,7 +7,7 @@ use Rattle.lp_dictionary.specs.PivotOperations.{combination_row_operations}
 use Rattle.lp_dictionary.specs.Entries.{value_at, Rises, HasNoZero}
 use Rattle.lp_dictionary.specs.Keeps.{Keeps}
 use Rattle.lp_sparse.specs.Rows.{numbers, rows_operations}
-use Rattle.lp_sparse.proofs.place.RowsAt.{row_read, row_kept}
+use Rattle.lp_sparse.proofs.rows.RowsAt.{row_read, row_kept}
 use Rattle.lp_sparse.proofs.rows.Answering.{fault_of_more}
 use Rattle.lp_sparse.proofs.rows.RowsOver.{rows_more, rows_past, no_zeros_more, fits_none, fits_more, fits_past, row_refused}
 use Rattle.lp_sparse.proofs.rows.combine_rows.Goals as goal

@@ -1,8 +1,8 @@
 use Rattle.std.proofs.Common.{◌≡◌, ◌+◌, ◌++◌, ℕ, List, length, ap, sym, ◌∙◌, subst, arith, ◌≤◌, length-append}
 use Rattle.base_numbers.specs.Rational.{ℚ}
-use Rattle.lp_dictionary.specs.Build.{zeros}
+use Rattle.base_numbers.specs.Vector.{zeros}
 use Rattle.lp_dictionary.specs.Entries.{spread}
-use Rattle.lp_dictionary.proofs.listed.DictBuilds.{length-zeros}
+use Rattle.base_numbers.proofs.vector.Vectors.{length-zeros}
 use Rattle.lp_dictionary.proofs.kept.Listing.{length-spread, lists_spread, lists_gap, spread_lists, lists_rise}
 use Rattle.lp_dictionary.proofs.coefficients.Coefficients.push_zeros.Goals as goal
 
