@@ -6,7 +6,7 @@ ghost use Rattle.lp_dictionary.specs.Formulas.{divided_row, combined_row};
 ghost use Rattle.lp_dictionary.specs.PivotOperations.{division_row_operations, combination_row_operations};
 ghost use Rattle.lp_dictionary.specs.Faults.{Refuses};
 ghost use Rattle.lp_dictionary.specs.Entries.{value_at, Rises, HasNoZero};
-ghost use Rattle.lp_sparse.specs.Entries.{IsRising};
+ghost use Rattle.lp_dictionary.specs.Entries.{IsRising};
 ghost use Rattle.lp_dictionary.specs.Keeps.{Keeps};
 ghost use Rattle.lp_sparse.specs.Rows.{row_at, numbers, EachRises, NoZeros, CombinesRows, Exchanges, rows_operations, exchange_operations};
 

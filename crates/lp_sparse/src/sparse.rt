@@ -9,8 +9,8 @@ use crate::row::SparseRow;
 use crate::rows::exchange;
 use base_fractions::OrderedField;
 use lp_dictionary::{
-    Entry, PivotFault, Problem, Tableau, goal_count, lowest_side, names_from, other_names, value_in,
-    zero_place,
+    Entry, PivotFault, Problem, Tableau, goal_count, lowest_side, names_from, other_names,
+    value_in, zero_place,
 };
 use std::alloc::{AllocError, Global};
 

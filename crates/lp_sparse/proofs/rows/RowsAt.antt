@@ -4,7 +4,6 @@ use Rattle.std.proofs.Common.{get_or-set_other}
 use Rattle.std.proofs.lemmas.List.{get_or-map, length-map, map-set, map_push, get_or_past, get_or_append_left, get_or_push}
 use Rattle.lp_dictionary.specs.declared.entry.Entry.{Entry}
 use Rattle.lp_sparse.specs.declared.row.SparseRow.{SparseRow}
-use Rattle.lp_dictionary.specs.Entries.{col_at}
 use Rattle.lp_sparse.specs.Rows.{row_at}
 
 module _ {F : Type 0} where

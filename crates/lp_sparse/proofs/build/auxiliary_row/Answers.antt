@@ -5,7 +5,8 @@ use Rattle.lp_dictionary.specs.Build.{auxiliary_entries}
 use Rattle.base_numbers.proofs.vector.Vectors.{length-zeros}
 use Rattle.lp_sparse.specs.Build.{end_pushed}
 use Rattle.lp_dictionary.specs.Keeps.{Lists}
-use Rattle.lp_sparse.proofs.build.Listing.{lists_zeros, lists_end}
+use Rattle.lp_dictionary.proofs.kept.Listing.{lists_zeros}
+use Rattle.lp_sparse.proofs.build.Listing.{lists_end}
 use Rattle.lp_sparse.proofs.build.auxiliary_row.Goals as goal
 
 pub returns : goal.returns

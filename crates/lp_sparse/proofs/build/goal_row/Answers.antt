@@ -1,4 +1,4 @@
-use Rattle.std.proofs.Common.{length, sym, subst}
+use Rattle.std.proofs.Common.{sym, subst}
 use Rattle.base_numbers.specs.Rational.{zero_ℚ}
 use Rattle.lp_dictionary.specs.Build.{goal_entries}
 use Rattle.lp_dictionary.specs.Keeps.{Lists}

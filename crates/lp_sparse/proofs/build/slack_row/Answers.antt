@@ -1,4 +1,4 @@
-use Rattle.std.proofs.Common.{◌≡◌, length, map, sym, ◌∙◌, subst}
+use Rattle.std.proofs.Common.{map, sym, ◌∙◌, subst}
 use Rattle.std.proofs.lemmas.List.{length-map}
 use Rattle.base_numbers.specs.Rational.{one_ℚ, neg_ℚ}
 use Rattle.lp_dictionary.specs.Build.{slack_entries}
