@@ -1,11 +1,11 @@
-//! The dense problem that a file writes.
+//! The problem that a file writes.
 ghost use Rattle.std.specs.Prelude.{IsTrue, IfOk};
 ghost use Rattle.lp_dictionary.specs.Exact.{IsShaped};
 
 use crate::read::{Line, Term, Written};
 use anyhow::bail;
 use base_fractions::{Frac, OrderedField};
-use lp_simplex::{Problem, Row};
+use lp_simplex::{Coefficients, Problem, Row};
 use std::alloc::Global;
 
 // The greatest column among terms.
@@ -33,7 +33,7 @@ fn whole(number: i64, line: usize) -> anyhow::Result<Frac> {
 }
 
 // One coefficient for each column.
-fn dense(alloc: Global, terms: &[Term], cols: u32) -> anyhow::Result<Vec<Frac>> {
+fn row_of(alloc: Global, terms: &[Term], cols: u32) -> anyhow::Result<Coefficients<Frac>> {
     let mut coeffs = Vec::with_capacity(alloc, cols as usize)?;
     for _ in 0..cols {
         coeffs.push(Frac::zero())?;
@@ -44,7 +44,7 @@ fn dense(alloc: Global, terms: &[Term], cols: u32) -> anyhow::Result<Vec<Frac>> 
             _ => bail!("line {}: x{} stands twice in a row", term.line, term.column),
         }
     }
-    Ok(coeffs)
+    Ok(Coefficients::of(alloc, &coeffs)?)
 }
 
 // Whether each row has one coefficient for each column, and the names are few enough.
@@ -64,11 +64,11 @@ pub fn problem_of(alloc: Global, written: &Written) -> anyhow::Result<Problem<Fr
     ensures { IfOk result IsShaped }
 {
     let cols = columns(written);
-    let goal = dense(alloc, &written.goal, cols)?;
+    let goal = row_of(alloc, &written.goal, cols)?;
     let mut rows = Vec::with_capacity(alloc, written.rows.len())?;
     for Line { terms, side, line } in &written.rows {
         rows.push(Row {
-            coeffs: dense(alloc, terms, cols)?,
+            coeffs: row_of(alloc, terms, cols)?,
             side: whole(*side, *line)?,
         })?;
     }

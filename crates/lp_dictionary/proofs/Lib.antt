@@ -3,3 +3,4 @@ pub mod Entries
 pub mod cells
 pub mod listed
 pub mod pivot_operations
+pub mod kept

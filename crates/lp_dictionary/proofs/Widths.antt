@@ -1,7 +1,6 @@
 -- The test for 0; what the operations of a field answer is said where fractions are.
 use Rattle.std.proofs.Common.{◌≡◌, ◌≢◌, true, false, ℤ, pos, negsuc, zero, suc, refl, ap}
 use Rattle.base_numbers.specs.Rational.{ℚ, zero_ℚ}
-use Rattle.base_numbers.proofs.rational.Parts.{num-zero}
 use Rattle.base_numbers.proofs.rational.Quotients.{zero_by_num}
 use Rattle.lp_dictionary.specs.Formulas.{is_zero, is_zero_num}
 pub use Rattle.base_fractions.proofs.operation.Widths.{first_wide_later, first_wide_sooner, first_wide_past, first_wide_here, one_answer}

@@ -1,16 +1,17 @@
 -- The entries of the first dictionary as lists, row after row.
-use Rattle.std.specs.Prelude.{ℕ, zero, suc, ◌+◌, Bool, true, false, cond, ltb, eqb, List, [], ◌∷◌, ◌++◌, length, map, get_or}
+use Rattle.std.specs.Prelude.{ℕ, suc, Bool, true, false, cond, ltb, List, [], ◌∷◌, ◌++◌, length, map, get_or}
 use Rattle.base_numbers.specs.Rational.{ℚ, zero_ℚ, one_ℚ, neg_ℚ}
+use Rattle.base_numbers.specs.Vector.{zeros}
 use Rattle.lp_dictionary.specs.Listed.{joined}
+
+-- the number, or the one with the other sign
+abbrev pub signed_by : Bool → ℚ → ℚ
+signed_by true q = neg_ℚ q
+signed_by false q = q
 
 -- the entries in the auxiliary variable's column, if there is one
 abbrev pub auxiliary_entry : Bool → ℚ → List ℚ
 auxiliary_entry aux x = cond aux (x ∷ []) []
-
--- n times 0
-abbrev pub zeros : ℕ → List ℚ
-zeros zero = []
-zeros (suc n) = zero_ℚ ∷ zeros n
 
 -- the row of a slack: the negated coefficients, 1 for the auxiliary variable, the side
 abbrev pub slack_entries : Bool → List ℚ → ℚ → List ℚ

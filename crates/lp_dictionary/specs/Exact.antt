@@ -1,24 +1,22 @@
 -- A problem of the code as a linear program over exact numbers, and the first dictionary's table.
 use Rattle.std.specs.Prelude.{◌≡◌, ℕ, ◌+◌, ◌<◌, length, map, All, Option, Some, None}
-use Rattle.base_numbers.specs.Rational.{ℚ, zero_ℚ}
+use Rattle.base_numbers.specs.Rational.{ℚ}
 use Rattle.lp_theory.specs.Problem as lp
 use Rattle.lp_theory.specs.Listed.{list_problem}
 use Rattle.lp_theory.specs.Search.{Search, none, found}
 use Rattle.lp_theory.specs.Simplex.{lowest}
-use Rattle.lp_theory.specs.Table.{Table, drop_table}
+use Rattle.lp_theory.specs.Table.{Table}
 use Rattle.lp_theory.specs.FirstTable.{first_table, plain_table}
-use Rattle.lp_dictionary.specs.declared.problem.Row.{Row}
 use Rattle.lp_dictionary.specs.declared.problem.Problem.{Problem}
 
 -- the linear program, where m gives the number that a value stands for
 abbrev pub exact : {F : Type 0} → (F → ℚ) → Problem F → lp.Problem
-exact m p = list_problem (length p.goal.items) (map (λ r. map m r.coeffs.items) p.rows.items) (map (λ r. m r.side) p.rows.items)
-    (map m p.goal.items)
+exact m p = list_problem (length p.goal) (map (λ r. r.coeffs) p.rows.items) (map (λ r. m r.side) p.rows.items) p.goal
 
 -- each row has one coefficient per entry of the goal, and rows and columns together are few enough for names of 32 bits
 pub record IsShaped {F : Type 0} (p : Problem F) : Type 0 where
-  pub rows : All (λ r. length r.coeffs.items ≡ length p.goal.items) p.rows.items
-  pub few : length p.rows.items + length p.goal.items < 4294967295
+  pub rows : All (λ r. length r.coeffs ≡ length p.goal) p.rows.items
+  pub few : length p.rows.items + length p.goal < 4294967295
 
 -- the first table, from the row of the least side where that is below 0
 abbrev pub start_from : lp.Problem → Search → Table

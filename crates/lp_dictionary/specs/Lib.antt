@@ -1,5 +1,7 @@
 pub mod Listed
 pub mod Formulas
+pub mod Entries
+pub mod Keeps
 pub mod PivotOperations
 pub mod Exact
 pub mod Faults

@@ -1,10 +1,11 @@
 //! The lists of the first dictionary.
 ghost use Rattle.std.specs.Prelude.{◌≡◌, ℕ, ◌+◌, ◌<◌, ◌≤◌, length, map, ◌++◌, ◌∷◌, [], get_or, vec_len, IfOk, OnOk};
-ghost use Rattle.base_numbers.specs.Rational.{one_ℚ, neg_ℚ};
 ghost use Rattle.lp_dictionary.specs.Exact.{exact, IsShaped};
-ghost use Rattle.lp_dictionary.specs.Build.{goals_of, width_of, other_name, zeros, slack_entries, auxiliary_entries, goal_entries};
+ghost use Rattle.base_numbers.specs.Vector.{zeros};
+ghost use Rattle.lp_dictionary.specs.Build.{goals_of, width_of, other_name, signed_by, slack_entries, auxiliary_entries, goal_entries};
 ghost use Rattle.lp_dictionary.specs.Build.{goals_entries, slacks_entries};
 
+use crate::coefficients::Coefficients;
 use crate::problem::{Problem, Row};
 use base_fractions::OrderedField;
 use std::alloc::{AllocError, Global};
@@ -41,6 +42,38 @@ pub fn goal_count(auxiliary: bool) -> usize
     if auxiliary { 2 } else { 1 }
 }
 
+/// The number, or the one with the other sign.
+pub fn signed<F: OrderedField>(value: F, negated: bool) -> F
+    ensures { F.meaning result ≡ signed_by negated (F.meaning value) }
+{
+    if negated { value.negate() } else { value }
+}
+
+/// Appends coefficients with their zeros, each with its sign or with the other one.
+fn push_spread<F: OrderedField>(
+    entries: &mut Vec<F>,
+    coefficients: &Coefficients<F>,
+    negated: bool,
+) -> Result<(), AllocError>
+    ensures { OnOk result (map F.meaning entries.new.items ≡ map F.meaning entries.old.items ++ map (signed_by negated) coefficients.now) }
+{
+    for col in 0..coefficients.len() {
+        entries.push(signed(coefficients.at(col), negated))?;
+    }
+    Ok(())
+}
+
+/// Appends coefficients with their zeros.
+fn push_coefficients<F: OrderedField>(
+    entries: &mut Vec<F>,
+    coefficients: &Coefficients<F>,
+) -> Result<(), AllocError>
+    ensures { OnOk result (map F.meaning entries.new.items ≡ map F.meaning entries.old.items ++ coefficients.now) }
+{
+    push_spread(entries, coefficients, false)?;
+    Ok(())
+}
+
 /// Appends the row of a slack.
 fn push_slack<F: OrderedField>(
     entries: &mut Vec<F>,
@@ -48,11 +81,9 @@ fn push_slack<F: OrderedField>(
     auxiliary: bool,
 ) -> Result<(), AllocError>
     ensures { OnOk result (map F.meaning entries.new.items ≡ map F.meaning entries.old.items
-        ++ slack_entries auxiliary (map F.meaning row.now.coeffs.items) (F.meaning row.now.side)) }
+        ++ slack_entries auxiliary row.now.coeffs (F.meaning row.now.side)) }
 {
-    for coeff in &row.coeffs {
-        entries.push(coeff.negate())?;
-    }
+    push_spread(entries, &row.coeffs, true)?;
     if auxiliary {
         entries.push(F::one())?;
     }
@@ -67,7 +98,7 @@ fn push_slacks<F: OrderedField>(
     auxiliary: bool,
 ) -> Result<(), AllocError>
     requires { entries.old.items ≡ [] }
-    ensures { OnOk result (map F.meaning entries.new.items ≡ slacks_entries auxiliary (map (λ r. map F.meaning r.coeffs.items) rows.now)
+    ensures { OnOk result (map F.meaning entries.new.items ≡ slacks_entries auxiliary (map (λ r. r.coeffs) rows.now)
         (map (λ r. F.meaning r.side) rows.now) (length rows.now)) }
 {
     for i in 0..rows.len() {
@@ -99,13 +130,13 @@ fn push_auxiliary<F: OrderedField>(entries: &mut Vec<F>, cols: usize) -> Result<
 /// Appends the row of the problem's goal.
 fn push_goal<F: OrderedField>(
     entries: &mut Vec<F>,
-    goal: &[F],
+    goal: &Coefficients<F>,
     auxiliary: bool,
 ) -> Result<(), AllocError>
     ensures { OnOk result (map F.meaning entries.new.items ≡ map F.meaning entries.old.items
-        ++ goal_entries auxiliary (map F.meaning goal.now)) }
+        ++ goal_entries auxiliary goal.now) }
 {
-    entries.extend_from_slice(goal)?;
+    push_coefficients(entries, goal)?;
     if auxiliary {
         entries.push(F::zero())?;
     }
@@ -116,11 +147,11 @@ fn push_goal<F: OrderedField>(
 /// Appends the rows of the goals.
 fn push_goals<F: OrderedField>(
     entries: &mut Vec<F>,
-    goal: &[F],
+    goal: &Coefficients<F>,
     auxiliary: bool,
 ) -> Result<(), AllocError>
     ensures { OnOk result (map F.meaning entries.new.items ≡ map F.meaning entries.old.items
-        ++ goals_entries auxiliary (map F.meaning goal.now)) }
+        ++ goals_entries auxiliary goal.now) }
 {
     if auxiliary {
         push_auxiliary(entries, goal.len())?;
@@ -135,9 +166,9 @@ pub fn first_entries<F: OrderedField>(
     auxiliary: bool,
 ) -> Result<Vec<F>, AllocError>
     ensures { IfOk result (λ v. map F.meaning v.items ≡ slacks_entries auxiliary
-        (map (λ r. map F.meaning r.coeffs.items) problem.now.rows.items)
+        (map (λ r. r.coeffs) problem.now.rows.items)
         (map (λ r. F.meaning r.side) problem.now.rows.items) (length problem.now.rows.items)
-        ++ goals_entries auxiliary (map F.meaning problem.now.goal.items)) }
+        ++ goals_entries auxiliary problem.now.goal) }
 {
     let rows = problem.rows.len().saturating_add(2);
     let stride = problem.goal.len().saturating_add(2);

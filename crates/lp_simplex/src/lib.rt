@@ -8,6 +8,6 @@ mod read;
 mod scan;
 mod step;
 
-pub use lp_dictionary::{Problem, Row, Tableau};
+pub use lp_dictionary::{Coefficients, Problem, Row, Tableau};
 pub use method::{solve, solve_watched};
 pub use outcome::{Outcome, SolveFault};

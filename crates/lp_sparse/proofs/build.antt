@@ -1,2 +1,3 @@
+pub mod Signed
 pub mod Listing
 pub mod Starting

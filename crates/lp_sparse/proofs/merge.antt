@@ -1,4 +1,3 @@
 pub mod SingleEntries
-pub mod Lists
 pub mod Gaps
 pub mod Merging

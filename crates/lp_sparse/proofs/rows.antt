@@ -1,3 +1,4 @@
+pub mod RowsAt
 pub mod Dividing
 pub mod Answering
 pub mod RowsOver

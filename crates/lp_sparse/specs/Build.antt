@@ -1,17 +1,19 @@
 -- The rows of the first dictionary.
-use Rattle.std.specs.Prelude.{ℕ, suc, ◌+◌, ◌<◌, Bool, true, false, cond, ltb, List, [], length, get_or}
-use Rattle.base_numbers.specs.Rational.{ℚ, zero_ℚ, neg_ℚ}
-use Rattle.lp_dictionary.specs.Build.{goals_of, slack_entries, auxiliary_entries, goal_entries}
-use Rattle.lp_sparse.specs.declared.entry.Entry.{Entry}
-use Rattle.lp_sparse.specs.declared.entry.SparseRow.{SparseRow}
-use Rattle.lp_sparse.specs.Entries.{pushed}
-use Rattle.lp_sparse.specs.Keeps.{Lists}
+use Rattle.std.specs.Prelude.{◌≡◌, ℕ, suc, ◌+◌, ◌<◌, Bool, true, false, cond, ltb, List, [], ◌∷◌, length, get_or}
+use Rattle.base_numbers.specs.Rational.{ℚ, zero_ℚ}
+use Rattle.lp_dictionary.specs.Build.{goals_of, signed_by, slack_entries, auxiliary_entries, goal_entries}
+use Rattle.lp_dictionary.specs.declared.entry.Entry.{Entry}
+use Rattle.lp_sparse.specs.declared.row.SparseRow.{SparseRow}
+use Rattle.lp_dictionary.specs.Entries.{pushed}
+use Rattle.lp_dictionary.specs.Keeps.{Lists}
 use Rattle.lp_sparse.specs.Rows.{row_at}
 
--- the number, or the one with the other sign
-abbrev pub signed_by : Bool → ℚ → ℚ
-signed_by true q = neg_ℚ q
-signed_by false q = q
+-- the entries stand at the columns of others, with their values or with those of the other sign
+abbrev pub AreSigned : {F : Type 0} → (F → ℚ) → Bool → List (Entry F) → List (Entry F) → Type 0
+AreSigned m negated [] [] = Unit {0}
+AreSigned m negated [] (y ∷ ys) = ⊥
+AreSigned m negated (x ∷ xs) [] = ⊥
+AreSigned m negated (x ∷ xs) (y ∷ ys) = (y.col ≡ x.col) × (m y.value ≡ signed_by negated (m x.value)) × AreSigned m negated xs ys
 
 -- the entries of a row's end at the column k: the auxiliary variable's, if there is one, and the constant
 abbrev pub end_pushed : {F : Type 0} → (F → ℚ) → Bool → List (Entry F) → ℕ → F → F → List (Entry F)

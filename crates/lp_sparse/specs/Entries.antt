@@ -1,31 +1,7 @@
--- Rows as lists of entries that are not zero, rising by column.
-use Rattle.std.specs.Prelude.{◌≢◌, ℕ, suc, ◌-◌, ◌<◌, ◌≤◌, cond, eqb, ltb, List, [], ◌∷◌, ◌++◌, Option, Some, None, map, get_or}
+-- Parts of lists of entries, and what they are without a column.
+use Rattle.std.specs.Prelude.{ℕ, ◌-◌, cond, eqb, ltb, List, [], ◌∷◌, Option, Some, None}
 use Rattle.base_numbers.specs.Rational.{ℚ, zero_ℚ}
-use Rattle.lp_dictionary.specs.Formulas.{is_zero}
-use Rattle.lp_sparse.specs.declared.entry.Entry.{Entry}
-
--- the number at a column: 0 where the list has no entry
-abbrev pub value_at : {F : Type 0} → (F → ℚ) → List (Entry F) → ℕ → ℚ
-value_at m [] k = zero_ℚ
-value_at m (e ∷ es) k = cond (eqb e.col k) (m e.value) (value_at m es k)
-
--- the columns rise strictly, from lo on and below n
-abbrev pub Rises : {F : Type 0} → ℕ → ℕ → List (Entry F) → Type 0
-Rises lo n [] = Unit {0}
-Rises lo n (e ∷ es) = (lo ≤ e.col) × (e.col < n) × Rises (suc e.col) n es
-
--- the columns rise strictly
-abbrev pub IsRising : {F : Type 0} → List (Entry F) → Type 0
-IsRising es = (n : ℕ) × Rises 0 n es
-
--- no entry is 0
-abbrev pub HasNoZero : {F : Type 0} → (F → ℚ) → List (Entry F) → Type 0
-HasNoZero m [] = Unit {0}
-HasNoZero m (e ∷ es) = (m e.value ≢ zero_ℚ) × HasNoZero m es
-
--- the column of the entry at a place
-abbrev pub col_at : {F : Type 0} → List (Entry F) → ℕ → ℕ
-col_at es i = get_or (map (λ e. e.col) es) i 0
+use Rattle.lp_dictionary.specs.declared.entry.Entry.{Entry}
 
 -- the number of a value that may be missing: 0 where it is
 abbrev pub or_zero : {F : Type 0} → (F → ℚ) → Option F → ℚ
@@ -41,10 +17,6 @@ head_value m (e ∷ es) k = cond (eqb e.col k) (m e.value) zero_ℚ
 abbrev pub behind : {F : Type 0} → List (Entry F) → ℕ → List (Entry F)
 behind [] k = []
 behind (e ∷ es) k = cond (eqb e.col k) es (e ∷ es)
-
--- the list with one more entry at its end, unless its value is 0
-abbrev pub pushed : {F : Type 0} → (F → ℚ) → List (Entry F) → ℕ → F → List (Entry F)
-pushed m es k x = cond (is_zero (m x)) es (es ++ record { col = k; value = x } ∷ [])
 
 -- an entry after a column before it was left out
 abbrev pub moved : {F : Type 0} → ℕ → Entry F → Entry F

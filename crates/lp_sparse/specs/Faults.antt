@@ -4,8 +4,8 @@ use Rattle.base_numbers.specs.Rational.{ℚ}
 use Rattle.base_fractions.specs.declared.wide.Wide.{Wide}
 use Rattle.lp_dictionary.specs.declared.tableau.PivotFault.{PivotFault}
 use Rattle.lp_dictionary.specs.declared.tableau.PivotFault.TheVariants as fault
-use Rattle.lp_sparse.specs.declared.entry.Entry.{Entry}
-use Rattle.lp_sparse.specs.Entries.{pushed}
+use Rattle.lp_dictionary.specs.declared.entry.Entry.{Entry}
+use Rattle.lp_dictionary.specs.Entries.{pushed}
 
 -- the answer is a value, which was pushed
 abbrev pub Pushes : {F : Type 0} → (F → ℚ) → List (Entry F) → ℕ → Result F (Wide F) → List (Entry F) → Type 0

@@ -1,5 +1,4 @@
 pub mod Entries
-pub mod Keeps
 pub mod Faults
 pub mod Rows
 pub mod Merge

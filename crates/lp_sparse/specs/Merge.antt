@@ -4,9 +4,10 @@ use Rattle.base_numbers.specs.Rational.{ℚ, ◌*ℚ◌}
 use Rattle.base_fractions.specs.Operation.{Operation, first_wide}
 use Rattle.lp_dictionary.specs.Formulas.{combined_row, product_operations, added_operations}
 use Rattle.lp_dictionary.specs.PivotOperations.{added_row_operations}
-use Rattle.lp_sparse.specs.declared.entry.Entry.{Entry}
-use Rattle.lp_sparse.specs.Entries.{value_at, Rises, head_value, behind, pushed}
-use Rattle.lp_sparse.specs.Keeps.{Keeps}
+use Rattle.lp_dictionary.specs.declared.entry.Entry.{Entry}
+use Rattle.lp_dictionary.specs.Entries.{value_at, Rises, pushed}
+use Rattle.lp_sparse.specs.Entries.{head_value, behind}
+use Rattle.lp_dictionary.specs.Keeps.{Keeps}
 use Rattle.lp_sparse.specs.Rows.{merged}
 
 -- formulas 3 and 4 where the pivot's row has 0: the product p of formula 3 in the pivot's column, else the entry itself

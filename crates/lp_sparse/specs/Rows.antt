@@ -5,10 +5,10 @@ use Rattle.base_fractions.specs.Operation.{Operation}
 use Rattle.lp_dictionary.specs.Listed.{joined}
 use Rattle.lp_dictionary.specs.Formulas.{divided_row, combined_row}
 use Rattle.lp_dictionary.specs.PivotOperations.{division_row_operations, combination_row_operations}
-use Rattle.lp_sparse.specs.declared.entry.Entry.{Entry}
-use Rattle.lp_sparse.specs.declared.entry.SparseRow.{SparseRow}
-use Rattle.lp_sparse.specs.Entries.{value_at, Rises, HasNoZero}
-use Rattle.lp_sparse.specs.Keeps.{Keeps}
+use Rattle.lp_dictionary.specs.declared.entry.Entry.{Entry}
+use Rattle.lp_sparse.specs.declared.row.SparseRow.{SparseRow}
+use Rattle.lp_dictionary.specs.Entries.{value_at, Rises, HasNoZero}
+use Rattle.lp_dictionary.specs.Keeps.{Keeps}
 
 -- the entries of a row by its number, none past the last row
 abbrev pub row_at : {F : Type 0} → List (SparseRow F) → ℕ → List (Entry F)

@@ -1,9 +1,9 @@
 -- That rows rise below a bound is known in one way only.
 use Rattle.std.specs.Prelude.{ℕ, suc, ◌<◌, ◌≤◌, List, [], ◌∷◌}
 use Rattle.std.specs.Coded.{Π_prop, Unit-prop, le_prop}
-use Rattle.lp_sparse.specs.declared.entry.Entry.{Entry}
-use Rattle.lp_sparse.specs.declared.entry.SparseRow.{SparseRow}
-use Rattle.lp_sparse.specs.Entries.{Rises}
+use Rattle.lp_dictionary.specs.declared.entry.Entry.{Entry}
+use Rattle.lp_sparse.specs.declared.row.SparseRow.{SparseRow}
+use Rattle.lp_dictionary.specs.Entries.{Rises}
 use Rattle.lp_sparse.specs.Rows.{row_at, EachRises}
 
 -- that a row rises below n has one proof at most

@@ -1,35 +1,31 @@
 //! The rows of the first dictionary.
 ghost use Rattle.std.specs.Prelude.{◌≡◌, ℕ, ◌+◌, ◌<◌, ◌≤◌, List, length, map, ◌++◌, [], get_or, IfOk, OnOk};
 ghost use Rattle.base_numbers.specs.Rational.{ℚ, zero_ℚ};
-ghost use Rattle.lp_dictionary.specs.Build.{goals_of, slack_entries, auxiliary_entries, goal_entries};
-ghost use Rattle.lp_sparse.specs.Keeps.{Lists};
+ghost use Rattle.lp_dictionary.specs.Build.{goals_of, signed_by, slack_entries, auxiliary_entries, goal_entries};
+ghost use Rattle.lp_dictionary.specs.Keeps.{Lists};
 ghost use Rattle.lp_sparse.specs.Rows.{row_at};
-ghost use Rattle.lp_sparse.specs.Build.{signed_by, end_pushed, IsFirst};
+ghost use Rattle.lp_sparse.specs.Build.{end_pushed, IsFirst};
 
-use crate::entry::{Entry, SparseRow};
-use crate::push::push_value;
+use crate::row::SparseRow;
 use base_fractions::OrderedField;
-use lp_dictionary::{Problem, Row};
+use lp_dictionary::{Coefficients, Entry, Problem, Row, push_value, signed};
 use std::alloc::{AllocError, Global};
 
-fn signed<F: OrderedField>(value: F, negated: bool) -> F
-    ensures { F.meaning result ≡ signed_by negated (F.meaning value) }
-{
-    if negated { value.negate() } else { value }
-}
-
-/// Entries for numbers at the columns from 0 on, or for those with the other sign.
+/// The entries of coefficients that are not zero, each with its sign or with the other one.
 fn entries_of<F: OrderedField>(
     alloc: Global,
-    values: &[F],
+    coefficients: &Coefficients<F>,
     negated: bool,
 ) -> Result<Vec<Entry<F>>, AllocError>
-    requires { length values.now < 4294967295 }
-    ensures { IfOk result (λ v. Lists F.meaning (map (signed_by negated) (map F.meaning values.now)) v.items) }
+    ensures { IfOk result (λ v. Lists F.meaning (map (signed_by negated) coefficients.now) v.items) }
 {
-    let mut entries = Vec::new(alloc);
-    for (k, value) in values.iter().enumerate() {
-        push_value(&mut entries, k as u32, signed(*value, negated))?;
+    let kept = coefficients.entries();
+    let mut entries = Vec::with_capacity(alloc, kept.len().saturating_add(2))?;
+    for entry in kept {
+        entries.push(Entry {
+            col: entry.col,
+            value: signed(entry.value, negated),
+        })?;
     }
     Ok(entries)
 }
@@ -59,8 +55,8 @@ fn slack_row<F: OrderedField>(
     row: &Row<F>,
     auxiliary: bool,
 ) -> Result<SparseRow<F>, AllocError>
-    requires { length row.now.coeffs.items < 4294967295 }
-    ensures { IfOk result (λ r. Lists F.meaning (slack_entries auxiliary (map F.meaning row.now.coeffs.items) (F.meaning row.now.side))
+    requires { length row.now.coeffs < 4294967295 }
+    ensures { IfOk result (λ r. Lists F.meaning (slack_entries auxiliary row.now.coeffs (F.meaning row.now.side))
         r.entries.items) }
 {
     let mut entries = entries_of(alloc, &row.coeffs, true)?;
@@ -82,11 +78,11 @@ fn auxiliary_row<F: OrderedField>(alloc: Global, cols: u32) -> Result<SparseRow<
 /// The row of the problem's goal.
 fn goal_row<F: OrderedField>(
     alloc: Global,
-    goal: &[F],
+    goal: &Coefficients<F>,
     auxiliary: bool,
 ) -> Result<SparseRow<F>, AllocError>
     requires { length goal.now < 4294967295 }
-    ensures { IfOk result (λ r. Lists F.meaning (goal_entries auxiliary (map F.meaning goal.now)) r.entries.items) }
+    ensures { IfOk result (λ r. Lists F.meaning (goal_entries auxiliary goal.now) r.entries.items) }
 {
     let mut entries = entries_of(alloc, goal, false)?;
     let cols = goal.len() as u32;
@@ -100,10 +96,10 @@ fn slack_rows<F: OrderedField>(
     rows: &[Row<F>],
     auxiliary: bool,
 ) -> Result<Vec<SparseRow<F>>, AllocError>
-    requires { (i : ℕ) → length (get_or (map (λ r. r.coeffs.items) rows.now) i []) < 4294967295 }
+    requires { (i : ℕ) → length (get_or (map (λ r. r.coeffs) rows.now) i []) < 4294967295 }
     ensures count { IfOk result (λ v. length v.items ≡ length rows.now) }
     ensures rows { IfOk result (λ v. (i : ℕ) → i < length rows.now →
-        Lists F.meaning (slack_entries auxiliary (get_or (map (λ r. map F.meaning r.coeffs.items) rows.now) i [])
+        Lists F.meaning (slack_entries auxiliary (get_or (map (λ r. r.coeffs) rows.now) i [])
         (get_or (map (λ r. F.meaning r.side) rows.now) i zero_ℚ)) (row_at v.items i)) }
 {
     let mut slacks = Vec::with_capacity(alloc, rows.len().saturating_add(2))?;
@@ -119,11 +115,11 @@ pub fn first_rows<F: OrderedField>(
     problem: &Problem<F>,
     auxiliary: bool,
 ) -> Result<Vec<SparseRow<F>>, AllocError>
-    requires rows { (i : ℕ) → length (get_or (map (λ r. r.coeffs.items) problem.now.rows.items) i []) < 4294967295 }
-    requires cols { length problem.now.goal.items < 4294967295 }
+    requires rows { (i : ℕ) → length (get_or (map (λ r. r.coeffs) problem.now.rows.items) i []) < 4294967295 }
+    requires cols { length problem.now.goal < 4294967295 }
     ensures count { IfOk result (λ v. length v.items ≡ length problem.now.rows.items + goals_of auxiliary) }
-    ensures rows { IfOk result (λ v. IsFirst F.meaning auxiliary (map (λ r. map F.meaning r.coeffs.items) problem.now.rows.items)
-        (map (λ r. F.meaning r.side) problem.now.rows.items) (map F.meaning problem.now.goal.items) v.items) }
+    ensures rows { IfOk result (λ v. IsFirst F.meaning auxiliary (map (λ r. r.coeffs) problem.now.rows.items)
+        (map (λ r. F.meaning r.side) problem.now.rows.items) problem.now.goal v.items) }
 {
     let mut rows = slack_rows(alloc, &problem.rows, auxiliary)?;
     if auxiliary {

@@ -4,8 +4,9 @@ ghost use Rattle.lp_theory.specs.Table.{skip};
 ghost use Rattle.lp_sparse.specs.Entries.{left_out};
 ghost use Rattle.lp_sparse.specs.Rows.{row_at};
 
-use crate::entry::{Entry, SparseRow};
+use crate::row::SparseRow;
 use base_fractions::OrderedField;
+use lp_dictionary::Entry;
 
 /// Leaves out a column of a row; later columns move one place down.
 fn leave_out<F: OrderedField>(row: &mut SparseRow<F>, col: u32)

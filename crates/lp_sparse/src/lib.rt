@@ -2,12 +2,11 @@
 #![tactic(auto)]
 
 mod build;
-mod entry;
 mod formulas;
 mod leave;
 mod merge;
-mod place;
 mod push;
+mod row;
 mod rows;
 mod sparse;
 mod unit;

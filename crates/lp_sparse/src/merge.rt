@@ -5,17 +5,17 @@ ghost use Rattle.base_fractions.specs.Operation.{first_wide};
 ghost use Rattle.lp_dictionary.specs.Formulas.{combined_row, added_operations};
 ghost use Rattle.lp_dictionary.specs.PivotOperations.{added_row_operations};
 ghost use Rattle.lp_dictionary.specs.Faults.{Refuses};
-ghost use Rattle.lp_sparse.specs.Entries.{value_at, Rises, HasNoZero, or_zero, head_value, behind};
-ghost use Rattle.lp_sparse.specs.Keeps.{Keeps};
+ghost use Rattle.lp_dictionary.specs.Entries.{value_at, Rises, HasNoZero};
+ghost use Rattle.lp_sparse.specs.Entries.{or_zero, head_value, behind};
+ghost use Rattle.lp_dictionary.specs.Keeps.{Keeps};
 ghost use Rattle.lp_sparse.specs.Merge.{StartsAt, MergesOn, MergesEntry};
 ghost use Rattle.lp_sparse.specs.Units.{IsUnit};
 
-use crate::entry::Entry;
 use crate::formulas::{kept_of, sum_of};
 use crate::push::push_answer;
 use crate::unit::unit_of;
 use base_fractions::OrderedField;
-use lp_dictionary::PivotFault;
+use lp_dictionary::{Entry, PivotFault};
 
 /// Appends the entries of a row from the place `i` on whose column is below `until`, with `product` in the pivot's column, and answers
 /// the place after them.

@@ -1,26 +1,10 @@
 //! Entries that are appended to a list.
 ghost use Rattle.std.specs.Prelude.{◌≡◌, OnOk, IfErr};
-ghost use Rattle.lp_sparse.specs.Entries.{pushed};
 ghost use Rattle.lp_sparse.specs.Faults.{Pushes, PassesOn};
 
-use crate::entry::{Entry, SparseRow};
+use crate::row::SparseRow;
 use base_fractions::{OrderedField, Wide};
-use lp_dictionary::PivotFault;
-use std::alloc::AllocError;
-
-/// Appends an entry, unless its value is 0.
-pub fn push_value<F: OrderedField>(
-    entries: &mut Vec<Entry<F>>,
-    col: u32,
-    value: F,
-) -> Result<(), AllocError>
-    ensures { OnOk result (entries.new.items ≡ pushed F.meaning entries.old.items col value) }
-{
-    if !value.is_zero() {
-        entries.push(Entry { col, value })?;
-    }
-    Ok(())
-}
+use lp_dictionary::{Entry, PivotFault, push_value};
 
 /// Appends the value that an operation answered, unless it is 0, or passes on that it was wide.
 pub fn push_answer<F: OrderedField>(

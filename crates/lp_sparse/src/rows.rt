@@ -5,17 +5,17 @@ ghost use Rattle.base_fractions.specs.Operation.{first_wide};
 ghost use Rattle.lp_dictionary.specs.Formulas.{divided_row, combined_row};
 ghost use Rattle.lp_dictionary.specs.PivotOperations.{division_row_operations, combination_row_operations};
 ghost use Rattle.lp_dictionary.specs.Faults.{Refuses};
-ghost use Rattle.lp_sparse.specs.Entries.{value_at, Rises, IsRising, HasNoZero};
-ghost use Rattle.lp_sparse.specs.Keeps.{Keeps};
+ghost use Rattle.lp_dictionary.specs.Entries.{value_at, Rises, HasNoZero};
+ghost use Rattle.lp_dictionary.specs.Entries.{IsRising};
+ghost use Rattle.lp_dictionary.specs.Keeps.{Keeps};
 ghost use Rattle.lp_sparse.specs.Rows.{row_at, numbers, EachRises, NoZeros, CombinesRows, Exchanges, rows_operations, exchange_operations};
 
-use crate::entry::{Entry, SparseRow};
 use crate::formulas::product_of;
 use crate::merge::merge;
-use crate::place::value_in;
 use crate::push::{push_answer, replace};
+use crate::row::SparseRow;
 use base_fractions::OrderedField;
-use lp_dictionary::{PivotFault, divided_by};
+use lp_dictionary::{Entry, PivotFault, divided_by, value_in};
 
 /// Formulas 1 and 2 on the pivot's row, whose entry at `col` is the pivot.
 pub fn divide_row<F: OrderedField>(

@@ -4,13 +4,13 @@ ghost use Rattle.lp_sparse.specs.Rows.{EachRises};
 ghost use Rattle.lp_sparse.specs.Unique.{EachRises-prop};
 
 use crate::build::first_rows;
-use crate::entry::{Entry, SparseRow};
 use crate::leave::leave_out_with_row;
-use crate::place::value_in;
+use crate::row::SparseRow;
 use crate::rows::exchange;
 use base_fractions::OrderedField;
 use lp_dictionary::{
-    PivotFault, Problem, Tableau, goal_count, lowest_side, names_from, other_names, zero_place,
+    Entry, PivotFault, Problem, Tableau, goal_count, lowest_side, names_from, other_names,
+    value_in, zero_place,
 };
 use std::alloc::{AllocError, Global};
 

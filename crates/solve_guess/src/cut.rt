@@ -5,7 +5,7 @@ use crate::halt::Halt;
 use crate::reached::entry;
 use crate::seen::Seen;
 use base_fractions::{Frac, OrderedField};
-use lp_simplex::Row;
+use lp_simplex::{Coefficients, Row};
 use std::alloc::{AllocError, Global};
 
 // So many zeros, with a 1 at a place.
@@ -17,13 +17,20 @@ fn unit(alloc: Global, columns: usize, place: usize) -> Result<Vec<Frac>, AllocE
     Ok(coeffs)
 }
 
-// Takes a multiplier of a column to the left side, where the column's rise is already counted on the right.
-fn lean(row: &mut Row<Frac>, column: usize, multiplier: Frac, rise: Frac) -> Result<(), Halt> {
-    if column < row.coeffs.len() {
-        row.coeffs[column] = row.coeffs[column].minus(multiplier)?;
-        row.side = row.side.add_product(multiplier.negate(), rise)?;
+// Takes a multiplier of a column to the left side, where the column's rise is already counted on the right, and gives the right
+// side then.
+fn lean(
+    coeffs: &mut [Frac],
+    side: Frac,
+    column: usize,
+    multiplier: Frac,
+    rise: Frac,
+) -> Result<Frac, Halt> {
+    if column >= coeffs.len() {
+        return Ok(side);
     }
-    Ok(())
+    coeffs[column] = coeffs[column].minus(multiplier)?;
+    Ok(side.add_product(multiplier.negate(), rise)?)
 }
 
 /// The cut of the unknown at a place of the list, as a row over the rises: its rise minus the sum of each multiplier times the
@@ -38,14 +45,13 @@ pub fn cut(
     distance: Frac,
     width: usize,
 ) -> Result<Row<Frac>, Halt> {
-    let mut row = Row {
-        coeffs: unit(alloc, width, place)?,
-        side: distance,
-    };
+    let mut coeffs = unit(alloc, width, place)?;
+    let mut side = distance;
     for (k, multiplier) in seen.multipliers.as_slice().iter().enumerate() {
         if let Some(column) = columns.at(seen.first.saturating_add(k)) {
-            lean(&mut row, column, *multiplier, entry(rises, column))?;
+            side = lean(&mut coeffs, side, column, *multiplier, entry(rises, column))?;
         }
     }
-    Ok(row)
+    let coeffs = Coefficients::of(alloc, &coeffs)?;
+    Ok(Row { coeffs, side })
 }

@@ -3,7 +3,7 @@
 use crate::halt::Halt;
 use crate::shaped::Shaped;
 use base_fractions::{Frac, OrderedField};
-use lp_simplex::Outcome;
+use lp_simplex::{Coefficients, Outcome};
 use lp_sparse::Sparse;
 use std::alloc::Global;
 
@@ -18,7 +18,10 @@ pub enum Furthest {
 /// listed unknown, at least 0, one row for each cut, and the sum of the rises as goal. Each side will be above 0, so that it begins
 /// with a dictionary that is feasible.
 pub fn master(alloc: Global, unknowns: usize) -> Result<Shaped, Halt> {
-    let goal = vec![in alloc; Frac::one(); unknowns]?;
+    let mut goal = Coefficients::new(alloc);
+    for _unknown in 0..unknowns {
+        goal.push(Frac::one())?;
+    }
     Shaped::new(alloc, goal)
 }
 

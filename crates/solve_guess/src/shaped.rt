@@ -6,7 +6,7 @@ ghost use Rattle.lp_dictionary.specs.Exact.{IsShaped};
 use crate::halt::Halt;
 use base_fractions::Frac;
 use base_limits::MOST_CELLS;
-use lp_simplex::{Outcome, Problem, Row, Tableau, solve};
+use lp_simplex::{Coefficients, Outcome, Problem, Row, Tableau, solve};
 use std::alloc::Global;
 
 /// A linear problem each of whose rows has one coefficient for each entry of the goal.
@@ -27,7 +27,7 @@ fn is_large(rows: usize, columns: usize) -> bool
 
 impl Shaped {
     /// That of a goal, without a row.
-    pub fn new(alloc: Global, goal: Vec<Frac>) -> Result<Shaped, Halt> {
+    pub fn new(alloc: Global, goal: Coefficients<Frac>) -> Result<Shaped, Halt> {
         if is_large(0, goal.len()) {
             return Err(Halt::GivenUp);
         }

@@ -1,2 +1,1 @@
-pub mod PlainProblem
 pub mod Reached

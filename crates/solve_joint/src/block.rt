@@ -15,13 +15,17 @@ use crate::row::{negated, row_over, template_coeffs};
 use crate::span::Span;
 use base_fractions::{Ext, Frac, OrderedField};
 use flow_systems::{Part, PartFault};
-use lp_simplex::Row;
+use lp_simplex::{Coefficients, Row};
 use std::alloc::{AllocError, Global};
 
 // Puts a row behind the others.
-fn push_row(rows: &mut Vec<Row<Frac>>, coeffs: Vec<Frac>, side: Frac) -> Result<(), AllocError>
-    ensures coeffs { OnOk result (map (λ r. r.coeffs.items) rows.new.items
-        ≡ map (λ r. r.coeffs.items) rows.old.items ++ coeffs.items ∷ []) }
+fn push_row(
+    rows: &mut Vec<Row<Frac>>,
+    coeffs: Coefficients<Frac>,
+    side: Frac,
+) -> Result<(), AllocError>
+    ensures coeffs { OnOk result (map (λ r. r.coeffs) rows.new.items
+        ≡ map (λ r. r.coeffs) rows.old.items ++ coeffs ∷ []) }
     ensures sides { OnOk result (map (λ r. r.side) rows.new.items ≡ map (λ r. r.side) rows.old.items ++ side ∷ []) }
 {
     rows.push(Row { coeffs, side })?;
@@ -40,8 +44,8 @@ pub fn push_source(
     requires numbers { IsTrue (are_numbers row.now) }
     requires fits { length span.now.list.now + (span.now.offset + (length row.now + length row.now)) ≤ span.now.cols }
     ensures { OnOk result ((n : ℕ) (ls : List Limit) → length row.now ≤ n →
-        AllStand span.now.cols (map (λ r. r.coeffs.items) rows.old.items) (map (λ r. r.side) rows.old.items) ls →
-        AllStand span.now.cols (map (λ r. r.coeffs.items) rows.new.items) (map (λ r. r.side) rows.new.items) (ls
+        AllStand span.now.cols (map (λ r. r.coeffs) rows.old.items) (map (λ r. r.side) rows.old.items) ls →
+        AllStand span.now.cols (map (λ r. r.coeffs) rows.new.items) (map (λ r. r.side) rows.new.items) (ls
         ++ source_limit (embedded (neg_ℚ one_ℚ) target span.now.list.now span.now.offset) n (extended bound) row.now [])) }
 {
     match bound {
@@ -66,8 +70,8 @@ pub fn push_guard(
 ) -> Result<(), AllocError>
     requires { length span.now.list.now + (span.now.offset + (length coeffs.now + length coeffs.now)) ≤ span.now.cols }
     ensures { OnOk result ((form : Affine) (ls : List Limit) → SameForm coeffs.now constant form
-        → AllStand span.now.cols (map (λ r. r.coeffs.items) rows.old.items) (map (λ r. r.side) rows.old.items) ls
-        → AllStand span.now.cols (map (λ r. r.coeffs.items) rows.new.items) (map (λ r. r.side) rows.new.items)
+        → AllStand span.now.cols (map (λ r. r.coeffs) rows.old.items) (map (λ r. r.side) rows.old.items) ls
+        → AllStand span.now.cols (map (λ r. r.coeffs) rows.new.items) (map (λ r. r.side) rows.new.items)
         (ls ++ guard_limits (embedded zero_ℚ 0 span.now.list.now span.now.offset) (form ∷ []))) }
 {
     let entries = row_over(alloc, span, 0, Frac::zero(), coeffs)?;
@@ -99,8 +103,8 @@ pub fn push_own_row(
 ) -> Result<(), AllocError>
     requires { length span.now.list.now + (span.now.offset + (length coeffs.now + length coeffs.now)) ≤ span.now.cols }
     ensures { OnOk result ((form : Affine) (ls : List Limit) → SameForm coeffs.now form.constant form →
-        AllStand span.now.cols (map (λ r. r.coeffs.items) rows.old.items) (map (λ r. r.side) rows.old.items) ls →
-        AllStand span.now.cols (map (λ r. r.coeffs.items) rows.new.items) (map (λ r. r.side) rows.new.items) (ls
+        AllStand span.now.cols (map (λ r. r.coeffs) rows.old.items) (map (λ r. r.side) rows.old.items) ls →
+        AllStand span.now.cols (map (λ r. r.coeffs) rows.new.items) (map (λ r. r.side) rows.new.items) (ls
         ++ own_limit_of (embedded one_ℚ target span.now.list.now span.now.offset) form side ∷ [])) }
 {
     let turned = negated(alloc, coeffs)?;

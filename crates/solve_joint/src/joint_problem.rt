@@ -17,22 +17,25 @@ ghost use Rattle.lang_tree.specs.declared.limits.TheConstants.{MOST_VARIABLES};
 
 use crate::based::Based;
 use crate::joint_rows::{all_rows, count_columns};
-use crate::row::push_zeros;
 use base_fractions::{Frac, OrderedField};
 use flow_systems::{Bounds, PartFault, Pick, System};
-use lp_simplex::Problem;
+use lp_simplex::{Coefficients, Problem};
 use solve_composition::Paths;
 use std::alloc::{AllocError, Global};
 
 // The sum of the rises: 1 for each unknown, and 0 for the columns behind them.
-fn goal(alloc: Global, unknowns: usize, more: usize) -> Result<Vec<Frac>, AllocError>
-    ensures { IfOk result (λ v. v.items ≡ ones unknowns ++ zeros more) }
+fn goal(
+    alloc: Global,
+    unknowns: usize,
+    more: usize,
+) -> Result<Coefficients<Frac>, AllocError>
+    ensures { IfOk result (λ v. v ≡ ones unknowns ++ zeros more) }
 {
-    let mut goal = Vec::with_capacity(alloc, unknowns.saturating_add(more))?;
+    let mut goal = Coefficients::new(alloc);
     for _unknown in 0..unknowns {
         goal.push(Frac::one())?;
     }
-    push_zeros(&mut goal, more)?;
+    goal.push_zeros(more)?;
     Ok(goal)
 }
 
@@ -59,11 +62,11 @@ pub fn joint_problem(
     requires rises { Rises 0 list.now }
     requires picked { ArePicked system.now pick.now list.now }
     ensures problem { IfOk result (λ p. MakeProblem (problem_of system.now pick.now base.now list.now)
-        (map (λ r. r.coeffs.items) p.rows.items)
-        (map (λ r. r.side) p.rows.items) p.goal.items) }
-    ensures shape { IfOk result (λ p. (r : ℕ) → r < length (map (λ r. r.coeffs.items) p.rows.items) →
-        length (get_or (map (λ r. r.coeffs.items) p.rows.items) r []) ≡ length p.goal.items) }
-    ensures few { IfOk result (λ p. length p.rows.items + length p.goal.items < 4294967295) }
+        (map (λ r. r.coeffs) p.rows.items)
+        (map (λ r. r.side) p.rows.items) p.goal) }
+    ensures shape { IfOk result (λ p. (r : ℕ) → r < length (map (λ r. r.coeffs) p.rows.items) →
+        length (get_or (map (λ r. r.coeffs) p.rows.items) r []) ≡ length p.goal) }
+    ensures few { IfOk result (λ p. length p.rows.items + length p.goal < 4294967295) }
     ensures columns { OnOk result (length list.now + split_columns system.now pick.now list.now
         ≤ MOST_UNKNOWNS * (2 * MOST_VARIABLES + 2 * MOST_ACTIONS + 1)) }
     ensures sides { OnOk result (first_wide long_limit (side_operations system.now pick.now base.now list.now) ≡ None) }

@@ -34,9 +34,9 @@ fn push_limits(
 ) -> Result<(), AllocError>
     requires edge { edge < length at.now.system.now.flow.edges }
     requires fits { length span.now.list.now + (span.now.offset + split_width at.now.system.now edge) ≤ span.now.cols }
-    ensures { OnOk result ((ls : List Limit) → AllStand span.now.cols (map (λ r. r.coeffs.items) rows.old.items) (map (λ r. r.side)
+    ensures { OnOk result ((ls : List Limit) → AllStand span.now.cols (map (λ r. r.coeffs) rows.old.items) (map (λ r. r.side)
         rows.old.items)
-        ls → AllStand span.now.cols (map (λ r. r.coeffs.items) rows.new.items) (map (λ r. r.side) rows.new.items)
+        ls → AllStand span.now.cols (map (λ r. r.coeffs) rows.new.items) (map (λ r. r.side) rows.new.items)
         ((ls ++ sources_of at.now.system.now at.now.base.now span.now.list.now span.now.offset (edge_at at.now.system.now edge).from)
         ++ guards_of at.now.system.now span.now.list.now span.now.offset edge)) }
 {
@@ -58,9 +58,9 @@ fn push_block(
     requires edge { edge < length at.now.system.now.flow.edges }
     requires unknown { unknown < length at.now.system.now.flow.points * length at.now.system.now.template }
     requires fits { length span.now.list.now + (span.now.offset + split_width at.now.system.now edge) ≤ span.now.cols }
-    ensures stands { OnOk result ((ls : List Limit) → AllStand span.now.cols (map (λ r. r.coeffs.items) rows.old.items)
+    ensures stands { OnOk result ((ls : List Limit) → AllStand span.now.cols (map (λ r. r.coeffs) rows.old.items)
         (map (λ r. r.side) rows.old.items) ls →
-        AllStand span.now.cols (map (λ r. r.coeffs.items) rows.new.items) (map (λ r. r.side) rows.new.items) (ls
+        AllStand span.now.cols (map (λ r. r.coeffs) rows.new.items) (map (λ r. r.side) rows.new.items) (ls
         ++ block_of at.now.system.now at.now.base.now span.now.list.now span.now.offset edge unknown)) }
     ensures side { OnOk result (first_wide long_limit (side_of at.now.system.now at.now.base.now edge (unknown % length
         at.now.system.now.template) unknown ∷ [])
@@ -101,7 +101,7 @@ pub fn all_rows(
     requires pick { length pick.now ≡ length at.now.system.now.flow.points * length at.now.system.now.template }
     requires picked { ArePicked at.now.system.now pick.now list.now }
     requires cols { cols ≡ length list.now + split_columns at.now.system.now pick.now list.now }
-    ensures { MatchResult result (λ rows. AllStand cols (map (λ r. r.coeffs.items) rows.items) (map (λ r. r.side) rows.items)
+    ensures { MatchResult result (λ rows. AllStand cols (map (λ r. r.coeffs) rows.items) (map (λ r. r.side) rows.items)
         (blocks_from at.now.system.now pick.now at.now.base.now list.now 0 list.now)
         × (first_wide long_limit (side_operations at.now.system.now pick.now at.now.base.now list.now) ≡ None))
         (λ f. IsSideFault (side_operations at.now.system.now pick.now at.now.base.now list.now) f) }

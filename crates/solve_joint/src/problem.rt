@@ -70,9 +70,9 @@ pub fn push_sources(
     requires point { point < length at.now.system.now.flow.points }
     requires fits { length span.now.list.now
         + (span.now.offset + (length at.now.system.now.flow.names + length at.now.system.now.flow.names)) ≤ span.now.cols }
-    ensures { OnOk result ((ls : List Limit) → AllStand span.now.cols (map (λ r. r.coeffs.items) rows.old.items)
+    ensures { OnOk result ((ls : List Limit) → AllStand span.now.cols (map (λ r. r.coeffs) rows.old.items)
         (map (λ r. r.side) rows.old.items) ls →
-        AllStand span.now.cols (map (λ r. r.coeffs.items) rows.new.items) (map (λ r. r.side) rows.new.items) (ls
+        AllStand span.now.cols (map (λ r. r.coeffs) rows.new.items) (map (λ r. r.side) rows.new.items) (ls
         ++ sources_of at.now.system.now at.now.base.now span.now.list.now span.now.offset point)) }
 {
     let template = at.system.template.as_slice();
@@ -95,9 +95,9 @@ pub fn push_guards(
 ) -> Result<(), AllocError>
     requires edge { edge < length at.now.system.now.flow.edges }
     requires fits { length span.now.list.now + (span.now.offset + split_width at.now.system.now edge) ≤ span.now.cols }
-    ensures { OnOk result ((ls : List Limit) → AllStand span.now.cols (map (λ r. r.coeffs.items) rows.old.items)
+    ensures { OnOk result ((ls : List Limit) → AllStand span.now.cols (map (λ r. r.coeffs) rows.old.items)
         (map (λ r. r.side) rows.old.items) ls →
-        AllStand span.now.cols (map (λ r. r.coeffs.items) rows.new.items) (map (λ r. r.side) rows.new.items)
+        AllStand span.now.cols (map (λ r. r.coeffs) rows.new.items) (map (λ r. r.side) rows.new.items)
         (ls ++ guards_of at.now.system.now span.now.list.now span.now.offset edge)) }
 {
     for g in 0..at.paths.guards(edge) {
@@ -128,9 +128,9 @@ pub fn push_own(
     requires unknown { unknown < length at.now.system.now.flow.points * length at.now.system.now.template }
     requires edge { edge < length at.now.system.now.flow.edges }
     requires fits { length span.now.list.now + (span.now.offset + split_width at.now.system.now edge) ≤ span.now.cols }
-    ensures stands { OnOk result ((ls : List Limit) → AllStand span.now.cols (map (λ r. r.coeffs.items) rows.old.items)
+    ensures stands { OnOk result ((ls : List Limit) → AllStand span.now.cols (map (λ r. r.coeffs) rows.old.items)
         (map (λ r. r.side) rows.old.items) ls →
-        AllStand span.now.cols (map (λ r. r.coeffs.items) rows.new.items) (map (λ r. r.side) rows.new.items) (ls
+        AllStand span.now.cols (map (λ r. r.coeffs) rows.new.items) (map (λ r. r.side) rows.new.items) (ls
         ++ own_of at.now.system.now at.now.base.now span.now.list.now span.now.offset edge (unknown % length at.now.system.now.template)
         unknown ∷ [])) }
     ensures side { OnOk result (first_wide long_limit (side_of at.now.system.now at.now.base.now edge (unknown % length

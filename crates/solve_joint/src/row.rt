@@ -1,56 +1,42 @@
 //! Rows of a joint problem: a coefficient on a rise, and the split columns of one listed unknown.
 
-ghost use Rattle.std.specs.Prelude.{◌≡◌, ◌==◌, ◌+◌, ◌<◌, ◌≤◌, ◌++◌, ◌∷◌, [], ℕ, cond, IfOk, OnOk, IsTrue, length, map};
-ghost use Rattle.base_numbers.specs.Vector.{zeros};
-ghost use Rattle.base_numbers.specs.Rational.{zero_ℚ, neg_ℚ, whole};
+ghost use Rattle.std.specs.Prelude.{◌≡◌, ◌+◌, ◌≤◌, ◌++◌, IfOk, OnOk, IsTrue, length, map};
+ghost use Rattle.base_numbers.specs.Rational.{neg_ℚ, whole};
 ghost use Rattle.lang_tree.specs.Numbers.{are_numbers};
 ghost use Rattle.theory_transformers.specs.JointProblems.{split_list};
-ghost use Rattle.solve_joint.specs.Rows.{on_number, on_numbers, dense_row};
+ghost use Rattle.solve_joint.specs.Rows.{on_numbers, dense_row};
 
 use crate::span::Span;
 use base_fractions::{Frac, OrderedField};
 use flow_systems::fraction;
+use lp_simplex::Coefficients;
 use std::alloc::{AllocError, Global};
-
-// A coefficient at one unknown, and 0 at the others.
-fn at_unknown(unknown: u32, target: u32, coefficient: Frac) -> Frac
-    ensures { result ≡ on_number coefficient target unknown }
-{
-    if unknown == target {
-        coefficient
-    } else {
-        Frac::zero()
-    }
-}
 
 // A coefficient at the rise of one listed unknown, and 0 at the others.
 fn push_rises(
-    row: &mut Vec<Frac>,
+    row: &mut Coefficients<Frac>,
     list: &[u32],
     target: u32,
     coefficient: Frac,
 ) -> Result<(), AllocError>
-    ensures { OnOk result (row.new.items ≡ row.old.items ++ on_numbers coefficient target list.now) }
+    ensures { OnOk result (row.new ≡ row.old ++ on_numbers coefficient target list.now) }
 {
+    let mut zeros = 0;
     for unknown in list {
-        row.push(at_unknown(*unknown, target, coefficient))?;
+        if *unknown == target {
+            row.push_zeros(zeros)?;
+            row.push(coefficient)?;
+            zeros = 0;
+        } else {
+            zeros += 1;
+        }
     }
-    Ok(())
-}
-
-/// Puts so many zeros behind the others.
-pub fn push_zeros(row: &mut Vec<Frac>, count: usize) -> Result<(), AllocError>
-    ensures { OnOk result (row.new.items ≡ row.old.items ++ zeros count) }
-{
-    for _column in 0..count {
-        row.push(Frac::zero())?;
-    }
-    Ok(())
+    row.push_zeros(zeros)
 }
 
 // Each coefficient and then its negation.
-fn push_split(row: &mut Vec<Frac>, coeffs: &[Frac]) -> Result<(), AllocError>
-    ensures { OnOk result (row.new.items ≡ row.old.items ++ split_list coeffs.now) }
+fn push_split(row: &mut Coefficients<Frac>, coeffs: &[Frac]) -> Result<(), AllocError>
+    ensures { OnOk result (row.new ≡ row.old ++ split_list coeffs.now) }
 {
     for coefficient in coeffs {
         row.push(*coefficient)?;
@@ -59,7 +45,7 @@ fn push_split(row: &mut Vec<Frac>, coeffs: &[Frac]) -> Result<(), AllocError>
     Ok(())
 }
 
-/// A row over all columns: first the rises of the list, with a coefficient on that of one unknown, and in the span of a listed
+/// A row over all columns, which takes memory for what isn't zero alone: first the rises of the list, with a coefficient on that of one unknown, and in the span of a listed
 /// unknown the split columns of coefficients.
 pub fn row_over(
     alloc: Global,
@@ -67,17 +53,17 @@ pub fn row_over(
     target: u32,
     coefficient: Frac,
     coeffs: &[Frac],
-) -> Result<Vec<Frac>, AllocError>
+) -> Result<Coefficients<Frac>, AllocError>
     requires { length span.now.list.now + (span.now.offset + (length coeffs.now + length coeffs.now)) ≤ span.now.cols }
-    ensures { IfOk result (λ row. row.items ≡ dense_row span.now.cols (on_numbers coefficient target span.now.list.now) span.now.offset
+    ensures { IfOk result (λ row. row ≡ dense_row span.now.cols (on_numbers coefficient target span.now.list.now) span.now.offset
         coeffs.now) }
 {
-    let mut row = Vec::with_capacity(alloc, span.cols)?;
+    let mut row = Coefficients::new(alloc);
     push_rises(&mut row, span.list, target, coefficient)?;
-    push_zeros(&mut row, span.offset)?;
+    row.push_zeros(span.offset)?;
     push_split(&mut row, coeffs)?;
     let rest = span.cols - span.list.len() - span.offset - coeffs.len() - coeffs.len();
-    push_zeros(&mut row, rest)?;
+    row.push_zeros(rest)?;
     Ok(row)
 }
 

@@ -45,18 +45,18 @@ fn solved<W: Watch>(
     problem: &Problem<Frac>,
     watch: &mut W,
 ) -> Result<Outcome<Frac>, PartFault>
-    requires rows { (r : ℕ) → r < length (map (λ r. r.coeffs.items) problem.now.rows.items) →
-        length (get_or (map (λ r. r.coeffs.items) problem.now.rows.items) r []) ≡ length problem.now.goal.items }
-    requires few { length problem.now.rows.items + length problem.now.goal.items < 4294967295 }
+    requires rows { (r : ℕ) → r < length (map (λ r. r.coeffs) problem.now.rows.items) →
+        length (get_or (map (λ r. r.coeffs) problem.now.rows.items) r []) ≡ length problem.now.goal }
+    requires few { length problem.now.rows.items + length problem.now.goal < 4294967295 }
     ensures { MatchResult result (λ o. IsOutcomeOf (λ q. q)
-        (list_problem (length problem.now.goal.items) (map (λ r. r.coeffs.items) problem.now.rows.items)
-        (map (λ r. r.side) problem.now.rows.items) problem.now.goal.items)
-        (lp (list_problem (length problem.now.goal.items) (map (λ r. r.coeffs.items) problem.now.rows.items)
-        (map (λ r. r.side) problem.now.rows.items) problem.now.goal.items)) o
-        × RunFits (list_problem (length problem.now.goal.items) (map (λ r. r.coeffs.items) problem.now.rows.items)
-        (map (λ r. r.side) problem.now.rows.items) problem.now.goal.items))
-        (λ f. IsRunFault (list_problem (length problem.now.goal.items) (map (λ r. r.coeffs.items) problem.now.rows.items)
-        (map (λ r. r.side) problem.now.rows.items) problem.now.goal.items) f) }
+        (list_problem (length problem.now.goal) (map (λ r. r.coeffs) problem.now.rows.items)
+        (map (λ r. r.side) problem.now.rows.items) problem.now.goal)
+        (lp (list_problem (length problem.now.goal) (map (λ r. r.coeffs) problem.now.rows.items)
+        (map (λ r. r.side) problem.now.rows.items) problem.now.goal)) o
+        × RunFits (list_problem (length problem.now.goal) (map (λ r. r.coeffs) problem.now.rows.items)
+        (map (λ r. r.side) problem.now.rows.items) problem.now.goal))
+        (λ f. IsRunFault (list_problem (length problem.now.goal) (map (λ r. r.coeffs) problem.now.rows.items)
+        (map (λ r. r.side) problem.now.rows.items) problem.now.goal) f) }
 {
     match solve_watched::<Frac, Sparse<Frac>, W>(alloc, problem, watch) {
         Ok(outcome) => Ok(outcome),

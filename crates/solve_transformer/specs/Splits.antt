@@ -30,7 +30,7 @@ split_limit w l = record { coeffs = pairs (first_entries w l.coeffs); side = l.s
 
 -- a row of the code
 abbrev pub limit_of : Row ℚ → Limit
-limit_of row = record { coeffs = row.coeffs.items; side = row.side }
+limit_of row = record { coeffs = row.coeffs; side = row.side }
 
 -- the guards and the row's form that are those of the edge and the row
 pub record IsSource (system : Equations) (z : Vector) (edge : Edge) (row : List ℤ) (w : ℕ) (template : List (List ℤ)) (source : List Ext)

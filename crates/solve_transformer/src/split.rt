@@ -8,6 +8,7 @@ ghost use Rattle.solve_transformer.specs.Splits.{pairs};
 
 use base_fractions::{Frac, OrderedField};
 use flow_systems::fraction;
+use lp_dictionary::Coefficients;
 use std::alloc::{AllocError, Global};
 
 /// Each coefficient and its negation: columns of any sign as two columns each.
@@ -15,10 +16,10 @@ use std::alloc::{AllocError, Global};
 /// # Errors
 ///
 /// Want of memory.
-pub fn split_coeffs(alloc: Global, coeffs: &[Frac]) -> Result<Vec<Frac>, AllocError>
-    ensures { IfOk result (λ list. list.items ≡ pairs coeffs.now) }
+pub fn split_coeffs(alloc: Global, coeffs: &[Frac]) -> Result<Coefficients<Frac>, AllocError>
+    ensures { IfOk result (λ list. list ≡ pairs coeffs.now) }
 {
-    let mut list = Vec::with_capacity(alloc, coeffs.len().saturating_mul(2))?;
+    let mut list = Coefficients::new(alloc);
     for coeff in coeffs {
         list.push(*coeff)?;
         list.push(coeff.negate())?;
@@ -43,11 +44,15 @@ fn row_entry(row: &[i64], column: usize) -> Frac
 /// # Errors
 ///
 /// Want of memory.
-pub fn split_row(alloc: Global, row: &[i64], width: usize) -> Result<Vec<Frac>, AllocError>
+pub fn split_row(
+    alloc: Global,
+    row: &[i64],
+    width: usize,
+) -> Result<Coefficients<Frac>, AllocError>
     requires { IsTrue (are_numbers row.now) }
-    ensures { IfOk result (λ list. list.items ≡ pairs (first_entries width (map whole row.now))) }
+    ensures { IfOk result (λ list. list ≡ pairs (first_entries width (map whole row.now))) }
 {
-    let mut list = Vec::with_capacity(alloc, width.saturating_mul(2))?;
+    let mut list = Coefficients::new(alloc);
     for column in 0..width {
         let coeff = row_entry(row, column);
         list.push(coeff)?;

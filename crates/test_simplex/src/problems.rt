@@ -4,7 +4,7 @@ ghost use Rattle.lp_dictionary.specs.Exact.{IsShaped};
 
 use base_fractions::{Op, OrderedField};
 use lp_dictionary::Dict;
-use lp_simplex::{Outcome, Problem, Row, SolveFault, solve};
+use lp_simplex::{Coefficients, Outcome, Problem, Row, SolveFault, solve};
 use lp_sparse::Sparse;
 use std::alloc::Global;
 use std::test::Fail;
@@ -28,17 +28,21 @@ pub enum Expected<'a> {
 }
 
 // The values of a field that the numbers write.
-fn values<F: OrderedField>(alloc: Global, numbers: &[Number]) -> Result<Vec<F>, Fail>
-    ensures { IfOk result (λ v. length v.items ≡ length numbers.now) }
+fn values<F: OrderedField>(alloc: Global, numbers: &[Number]) -> Result<Coefficients<F>, Fail>
+    ensures { IfOk result (λ v. length v ≡ length numbers.now) }
 {
-    let mut values = Vec::new(alloc);
+    let mut values = Coefficients::new(alloc);
     for number in numbers {
         values.push(F::make(number.0, number.1).ok_or("a number that fits")?)?;
     }
     Ok(values)
 }
 
-fn add_row<F: OrderedField>(problem: &mut Problem<F>, coeffs: Vec<F>, side: F) -> Result<(), Fail>
+fn add_row<F: OrderedField>(
+    problem: &mut Problem<F>,
+    coeffs: Coefficients<F>,
+    side: F,
+) -> Result<(), Fail>
     requires { IsShaped problem.old }
     ensures { OnOk result (IsShaped problem.new) }
 {

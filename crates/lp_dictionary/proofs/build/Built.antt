@@ -1,10 +1,10 @@
 -- Lists that grow at their end, in the loops that build the first dictionary.
-use Rattle.std.proofs.Common.{◌≡◌, ℕ, zero, suc, ◌+◌, ◌<◌, Bool, List, [], ◌∷◌, ◌++◌, length, map, take, get_or, refl, ap, ap₂, sym, ◌∙◌}
-use Rattle.std.proofs.Common.{subst, arith, append_assoc, add-one, length-append}
-use Rattle.std.proofs.lemmas.List.{map_push, map_more, get_or-map, length-map}
-use Rattle.base_numbers.specs.Rational.{ℚ, zero_ℚ, neg_ℚ}
-use Rattle.lp_dictionary.specs.Listed.{joined}
-use Rattle.lp_dictionary.specs.Build.{zeros, slack_entries, slacks_entries}
+use Rattle.std.proofs.Common.{◌≡◌, ℕ, zero, suc, ◌+◌, Bool, List, [], ◌∷◌, ◌++◌, map, get_or, refl, ap, ap₂, sym, ◌∙◌}
+use Rattle.std.proofs.Common.{append_assoc, add-one}
+use Rattle.std.proofs.lemmas.List.{map_push}
+use Rattle.base_numbers.specs.Rational.{ℚ, zero_ℚ}
+use Rattle.base_numbers.specs.Vector.{zeros}
+use Rattle.lp_dictionary.specs.Build.{slack_entries, slacks_entries}
 use Rattle.lp_dictionary.proofs.listed.Joins.{joined-suc, joined-zero}
 
 zeros_push : (n : ℕ) → zeros (suc n) ≡ zeros n ++ zero_ℚ ∷ []
@@ -14,13 +14,6 @@ zeros_push (suc n) = ap (λ xs. zero_ℚ ∷ xs) (zeros_push n)
 -- one zero more is a zero at the end
 pub zeros_more : (n : ℕ) → zeros (n + 1) ≡ zeros n ++ zero_ℚ ∷ []
 zeros_more n = ap zeros (add-one n) ∙ zeros_push n
-
--- one more negated coefficient
-pub negated_more : {F : Type 0} (m : F → ℚ) (xs : List F) (i : ℕ) (x y : F) → i < length xs → x ≡ get_or xs i x → m y ≡ neg_ℚ (m x) →
-    map neg_ℚ (take (i + 1) (map m xs)) ≡ map neg_ℚ (take i (map m xs)) ++ m y ∷ []
-negated_more m xs i x y l e f =
-    map_more neg_ℚ (map m xs) i zero_ℚ (subst (λ n. i < n) (sym (length-map xs m)) l)
-    ∙ ap (λ v. map neg_ℚ (take i (map m xs)) ++ v ∷ []) (ap neg_ℚ (get_or-map m xs i x zero_ℚ l ∙ ap m (sym e)) ∙ sym f)
 
 -- one more entry of a list whose meaning is a first part and what was appended
 pub appended_more : {F : Type 0} (m : F → ℚ) (xs ys : List F) (us vs ws : List ℚ) (y : F) → ys ≡ xs ++ y ∷ [] → map m xs ≡ us ++ vs

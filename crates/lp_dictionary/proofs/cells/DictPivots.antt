@@ -1,16 +1,14 @@
 -- The table of a dictionary after a pivot.
-use Rattle.std.proofs.Common.{◌≡◌, ◌≢◌, ℕ, suc, ◌+◌, ◌*◌, ◌<◌, ◌≤◌, ⊎_elim, Bool, true, false, cond, eqb, ltb, ℤ, List, [], ◌++◌, length}
-use Rattle.std.proofs.Common.{get_or, set, take, drop, Option, Some, None, refl, ap, ap₂, sym, ◌∙◌, subst, arith, get_or-set_same}
-use Rattle.std.proofs.Common.{get_or-set_other, lt-ltb, le-ltb}
+use Rattle.std.proofs.Common.{◌≡◌, ℕ, suc, ◌+◌, ◌*◌, ◌<◌, ◌≤◌, ⊎_elim, Bool, true, false, cond, eqb, ltb, List, ◌++◌, length}
+use Rattle.std.proofs.Common.{get_or, set, take, drop, refl, ap, ap₂, sym, ◌∙◌, subst, arith, get_or-set_same}
+use Rattle.std.proofs.Common.{get_or-set_other, lt-ltb}
 use Rattle.std.proofs.lemmas.List.{length-set, take_at, get_or_default}
 use Rattle.std.proofs.lemmas.Bool.{cases_eq, eq-eqb, ne_eqb, eqb-true}
 use Rattle.base_numbers.specs.Rational.{ℚ, one_ℚ, neg_ℚ, ◌+ℚ◌, ◌*ℚ◌, ◌/ℚ◌}
 use Rattle.lp_theory.specs.Table.{Table, Agree, pivot_row_entry, pivot_other_entry, pivot_table}
-use Rattle.base_fractions.specs.Operation.{Operation, first_wide}
-use Rattle.lp_dictionary.specs.Listed.{joined}
 use Rattle.lp_dictionary.specs.Formulas.{divided_row, combined_row, divided, combined}
-use Rattle.lp_dictionary.specs.PivotOperations.{other_row_operations, pivot_operations}
-use Rattle.lp_dictionary.specs.Cells.{cell, row_from, goal_name, cells_table}
+use Rattle.lp_dictionary.specs.PivotOperations.{pivot_operations}
+use Rattle.lp_dictionary.specs.Cells.{row_from, goal_name, cells_table}
 use Rattle.lp_dictionary.specs.Rows.{Exchanges, exchange_operations}
 
 -- a number that is read, at the default 0

@@ -1,23 +1,22 @@
 -- The lists of the first dictionary make its table.
-use Rattle.std.proofs.Common.{◌≡◌, ◌≢◌, ℕ, zero, suc, ◌+◌, ◌-◌, ◌*◌, ◌<◌, ◌≤◌, ⊎_elim, Bool, true, false, cond, eqb, ltb, List, [], ◌∷◌}
+use Rattle.std.proofs.Common.{◌≡◌, ℕ, zero, suc, ◌+◌, ◌*◌, ◌<◌, ◌≤◌, ⊎_elim, Bool, true, false, cond, eqb, ltb, List, [], ◌∷◌}
 use Rattle.std.proofs.Common.{◌++◌, length, map, get_or, Option, Some, None, refl, ap, ap₂, sym, ◌∙◌, subst, arith, lt-ltb, le-ltb}
 use Rattle.std.proofs.Common.{length-append, true≢false}
 use Rattle.std.specs.Prelude.{is_some, All}
 use Rattle.std.proofs.lemmas.List.{length-map, get_or_append_left}
 use Rattle.std.proofs.lemmas.List.Elements.{All-head, All-tail}
 use Rattle.std.proofs.lemmas.Bool.{cases_lt, cases_eq, eq-eqb, ne_eqb}
-use Rattle.base_numbers.specs.Rational.{ℚ, zero_ℚ, one_ℚ, neg_ℚ}
+use Rattle.base_numbers.specs.Rational.{ℚ, zero_ℚ, neg_ℚ}
 use Rattle.lp_theory.specs.Problem as lp
 use Rattle.lp_theory.specs.Listed.{list_problem}
 use Rattle.lp_theory.specs.Simplex.{lowest, slack_name, aux_row, main_row}
-use Rattle.lp_theory.specs.Table.{Table, Agree}
+use Rattle.lp_theory.specs.Table.{Agree}
 use Rattle.lp_theory.specs.FirstTable.{first_entry, first_table, plain_table}
 use Rattle.lp_theory.proofs.first_table.FirstTables.{entry_slack, entry_aux, entry_main}
 use Rattle.lp_dictionary.specs.declared.problem.Row.{Row}
-use Rattle.lp_dictionary.specs.Listed.{joined}
 use Rattle.lp_dictionary.specs.Build.{goals_of, width_of, other_name, slack_entries, auxiliary_entries, goal_entries, goals_entries}
 use Rattle.lp_dictionary.specs.Build.{slacks_entries}
-use Rattle.lp_dictionary.specs.Cells.{cell, row_from, goal_name, cells_table}
+use Rattle.lp_dictionary.specs.Cells.{row_from, goal_name, cells_table}
 use Rattle.lp_dictionary.specs.Exact.{search_of, start_from, start_table}
 use Rattle.lp_dictionary.proofs.cells.RowLoops.{row_end}
 use Rattle.lp_dictionary.proofs.listed.DictBuilds.{get_behind, joined_length, get_joined, slack_long, slack_entry_long, slack_short}
@@ -187,8 +186,8 @@ module _ (W : ℕ) (A : List (List ℚ)) (b c : List ℚ) (rows_are : (i : ℕ) 
   start_sized m bs ns xs false h n e = sym (length-map xs m) ∙ ap length e ∙ short_length ∙ sym (ap₂ (λ r w. (r + 1) * suc w) h n)
 
 -- the rows of a shaped problem have one coefficient per entry of the goal
-pub shaped_rows : {F : Type 0} (m : F → ℚ) (W : ℕ) (rs : List (Row F)) → All (λ r. length r.coeffs.items ≡ W) rs → (i : ℕ)
-    → i < length (map (λ r. m r.side) rs) → length (get_or (map (λ r. map m r.coeffs.items) rs) i []) ≡ W
+pub shaped_rows : {F : Type 0} (m : F → ℚ) (W : ℕ) (rs : List (Row F)) → All (λ r. length r.coeffs ≡ W) rs → (i : ℕ)
+    → i < length (map (λ r. m r.side) rs) → length (get_or (map (λ r. r.coeffs) rs) i []) ≡ W
 shaped_rows m W [] h i l = absurd (omega (arith, l))
-shaped_rows m W (r ∷ rs) h zero l = length-map r.coeffs.items m ∙ All-head (λ r. length r.coeffs.items ≡ W) r rs h
-shaped_rows m W (r ∷ rs) h (suc i) l = shaped_rows m W rs (All-tail (λ r. length r.coeffs.items ≡ W) r rs h) i (omega (arith, l))
+shaped_rows m W (r ∷ rs) h zero l = All-head (λ r. length r.coeffs ≡ W) r rs h
+shaped_rows m W (r ∷ rs) h (suc i) l = shaped_rows m W rs (All-tail (λ r. length r.coeffs ≡ W) r rs h) i (omega (arith, l))

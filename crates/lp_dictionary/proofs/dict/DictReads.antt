@@ -1,8 +1,8 @@
 -- Reads of entries by row and column, and the entries of a dictionary's table.
-use Rattle.std.proofs.Common.{◌≡◌, ℕ, suc, ◌+◌, ◌*◌, ◌<◌, ◌≤◌, List, length, get_or, take, drop, ◌++◌, ap, sym, ◌∙◌, subst, arith}
+use Rattle.std.proofs.Common.{◌≡◌, ℕ, suc, ◌+◌, ◌*◌, ◌<◌, ◌≤◌, List, length, get_or, ap, sym, ◌∙◌, subst}
 use Rattle.base_numbers.specs.Rational.{ℚ}
 use Rattle.lp_theory.proofs.FlatTables.{place_in}
-use Rattle.lp_dictionary.specs.Cells.{cell, row_from}
+use Rattle.lp_dictionary.specs.Cells.{row_from}
 use Rattle.lp_dictionary.proofs.cells.Cells.{cell_read}
 
 -- the entry at a row and a column, where a row has s entries

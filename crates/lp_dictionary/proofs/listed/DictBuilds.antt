@@ -1,11 +1,13 @@
 -- The table of the first dictionary.
-use Rattle.std.proofs.Common.{◌≡◌, ◌≢◌, ℕ, zero, suc, ◌+◌, ◌-◌, ◌*◌, ◌<◌, ◌≤◌, ⊎_elim, Bool, true, false, cond, eqb, ltb, List, [], ◌∷◌}
-use Rattle.std.proofs.Common.{◌++◌, length, map, get_or, refl, ap, ap₂, sym, ◌∙◌, subst, arith, lt-ltb, le-ltb, length-append}
+use Rattle.std.proofs.Common.{◌≡◌, ℕ, zero, suc, ◌+◌, ◌*◌, ◌<◌, ⊎_elim, true, false, cond, eqb, ltb, List, [], ◌∷◌}
+use Rattle.std.proofs.Common.{◌++◌, length, map, get_or, refl, ap, ap₂, sym, ◌∙◌, arith, lt-ltb, le-ltb, length-append}
 use Rattle.std.proofs.lemmas.List.{length-map, get_or-map, get_or_append_left, get_or-append-add}
 use Rattle.std.proofs.lemmas.Bool.{cases_lt, cases_eq, eq-eqb, ne_eqb}
 use Rattle.base_numbers.specs.Rational.{ℚ, zero_ℚ, one_ℚ, neg_ℚ}
 use Rattle.lp_dictionary.specs.Listed.{joined}
-use Rattle.lp_dictionary.specs.Build.{auxiliary_entry, zeros, slack_entries, auxiliary_entries, goal_entries, goals_entries, slacks_entries}
+use Rattle.base_numbers.specs.Vector.{zeros}
+use Rattle.base_numbers.proofs.vector.Vectors.{length-zeros}
+use Rattle.lp_dictionary.specs.Build.{slack_entries, auxiliary_entries, goal_entries}
 use Rattle.lp_dictionary.proofs.cells.RowLoops.{row_end}
 
 -- an entry past the first part of a list is one of its second part
@@ -36,12 +38,8 @@ get_joined s (suc n) f h i k d l b =
     (ap (λ y. y + k) e ∙ ap (λ j. j * s + k) (sym q)) ∙ ap (λ j. get_or (f j) k d) (sym q))
     (cases_lt i n)
 
--- a list of n zeros has the length n
-pub length-zeros : (n : ℕ) → length (zeros n) ≡ n
-length-zeros zero = refl
-length-zeros (suc n) = ap suc (length-zeros n)
-
-get-zeros : (n k : ℕ) → get_or (zeros n) k zero_ℚ ≡ zero_ℚ
+-- each of so many zeros is 0
+pub get-zeros : (n k : ℕ) → get_or (zeros n) k zero_ℚ ≡ zero_ℚ
 get-zeros zero k = refl
 get-zeros (suc n) zero = refl
 get-zeros (suc n) (suc k) = get-zeros n k

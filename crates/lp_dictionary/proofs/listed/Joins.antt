@@ -1,6 +1,6 @@
 -- The first wide operation of lists that are joined.
-use Rattle.std.proofs.Common.{◌≡◌, ℕ, zero, suc, ◌+◌, ◌<◌, ◌≤◌, ⊎_elim, ℤ, List, [], ◌∷◌, ◌++◌, length, get_or, Option, Some, None, refl}
-use Rattle.std.proofs.Common.{ap, ap₂, sym, ◌∙◌, subst, arith, add-one}
+use Rattle.std.proofs.Common.{◌≡◌, ℕ, zero, suc, ◌+◌, ◌<◌, ◌≤◌, ⊎_elim, ℤ, List, [], ◌++◌, Option, Some, None, refl}
+use Rattle.std.proofs.Common.{ap, ap₂, sym, ◌∙◌, arith, add-one}
 use Rattle.std.proofs.lemmas.Bool.{cases_lt}
 use Rattle.base_fractions.specs.Operation.{Operation, first_wide}
 use Rattle.lp_dictionary.specs.Listed.{joined}

@@ -1,17 +1,16 @@
 -- One more entry in the loops over a row.
-use Rattle.std.proofs.Common.{◌≡◌, ◌≢◌, ℕ, suc, ◌+◌, ◌*◌, ◌<◌, ◌≤◌, ◌⊎◌, inl, inr, ⊎_elim, Bool, true, false, cond, eqb, ℤ, List, [], ◌∷◌}
-use Rattle.std.proofs.Common.{◌++◌, length, get_or, set, Option, Some, None, Result, refl, ap, ap₂, sym, ◌∙◌, subst, subst₂, arith}
+use Rattle.std.proofs.Common.{◌≡◌, ◌≢◌, ℕ, ◌+◌, ◌<◌, ◌≤◌, ◌⊎◌, inl, inr, ⊎_elim, Bool, true, false, cond, eqb, ℤ, List, [], ◌∷◌}
+use Rattle.std.proofs.Common.{◌++◌, length, get_or, set, Some, None, refl, ap, ap₂, sym, ◌∙◌, arith}
 use Rattle.base_numbers.specs.Rational.{ℚ, zero_ℚ, ◌+ℚ◌, ◌*ℚ◌}
 use Rattle.base_numbers.proofs.rational.Laws.{zero-*ℚ, +ℚ_idr}
-use Rattle.base_fractions.specs.declared.wide.Wide.{Wide}
-use Rattle.base_fractions.specs.Operation.{Operation, first_wide, operation_of}
+use Rattle.base_fractions.specs.Operation.{Operation, first_wide}
 use Rattle.lp_dictionary.specs.Listed.{joined}
 use Rattle.std.proofs.lemmas.Bool.{eqb-true, eqb-false}
 use Rattle.base_fractions.specs.declared.wide.Op.TheVariants.{Add, Mul}
 use Rattle.lp_dictionary.specs.Formulas.{is_zero, unless_zero, divided, divided_operations, combined, product_operations, added}
 use Rattle.lp_dictionary.specs.Formulas.{added_operations, divided_row, combined_row, added_row}
 use Rattle.lp_dictionary.specs.PivotOperations.{division_row_operations, added_row_operations, combination_row_operations}
-use Rattle.lp_dictionary.specs.Cells.{cell, row_from}
+use Rattle.lp_dictionary.specs.Cells.{row_from}
 use Rattle.lp_dictionary.specs.Rows.{SetsRow}
 use Rattle.lp_dictionary.proofs.Widths.{is_zero_yes, first_wide_sooner, first_wide_later}
 use Rattle.lp_dictionary.proofs.cells.Cells.{cell_read, cell_written, cell_kept, sets_more}

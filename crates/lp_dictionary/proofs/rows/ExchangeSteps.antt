@@ -1,12 +1,12 @@
 -- The division of the pivot's row and then the other rows make the exchange.
-use Rattle.std.proofs.Common.{◌≡◌, ◌≢◌, ℕ, ◌+◌, ◌*◌, ◌<◌, Bool, true, false, cond, eqb, ℤ, List, [], ◌++◌, Option, Some, None, refl, ap}
-use Rattle.std.proofs.Common.{sym, ◌∙◌, subst, arith}
+use Rattle.std.proofs.Common.{◌≡◌, ◌≢◌, ℕ, ◌+◌, ◌*◌, ◌<◌, Bool, true, false, cond, eqb, ℤ, List, [], ◌++◌, Some, None, refl, ap}
+use Rattle.std.proofs.Common.{sym, ◌∙◌}
 use Rattle.base_numbers.specs.Rational.{ℚ}
 use Rattle.base_fractions.specs.Operation.{Operation, first_wide}
 use Rattle.lp_dictionary.specs.Listed.{joined}
-use Rattle.lp_dictionary.specs.Formulas.{divided_row, combined_row}
+use Rattle.lp_dictionary.specs.Formulas.{divided_row}
 use Rattle.lp_dictionary.specs.PivotOperations.{division_row_operations, combination_row_operations}
-use Rattle.lp_dictionary.specs.Cells.{cell, row_from}
+use Rattle.lp_dictionary.specs.Cells.{row_from}
 use Rattle.lp_dictionary.specs.Rows.{SetsRow, CombinesRows, Exchanges, rows_operations, exchange_operations}
 use Rattle.lp_dictionary.proofs.Widths.{first_wide_later, first_wide_sooner}
 use Rattle.std.proofs.lemmas.Bool.{eqb-false}

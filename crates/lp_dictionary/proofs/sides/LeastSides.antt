@@ -1,12 +1,11 @@
 -- The least side so far, one row further, and at the end.
-use Rattle.std.proofs.Common.{◌≡◌, ℕ, zero, suc, ◌+◌, ◌<◌, ◌≤◌, ⊎_elim, Bool, true, false, Option, Some, None, List, [], length, map}
-use Rattle.std.proofs.Common.{get_or, refl, ap, sym, ◌∙◌, subst, subst₂, arith, true≢false}
+use Rattle.std.proofs.Common.{◌≡◌, ℕ, ◌+◌, ◌<◌, ⊎_elim, Option, Some, None, length}
+use Rattle.std.proofs.Common.{get_or, ap, sym, ◌∙◌, subst, arith}
 use Rattle.std.proofs.lemmas.Bool.{cases_lt}
-use Rattle.std.proofs.lemmas.List.{get_or-map, length-map}
+use Rattle.std.proofs.lemmas.List.{get_or-map}
 use Rattle.base_numbers.specs.Rational.{ℚ, zero_ℚ, lt_ℚ, ◌≤ℚ◌, ◌<ℚ◌}
 use Rattle.base_numbers.proofs.rational.Laws.{≤ℚ_refl, ≤ℚ_trans, le_of_lt_ℚ, lt_of_lt_of_le_ℚ, <ℚ_trans}
 use Rattle.lp_theory.specs.Problem as lp
-use Rattle.lp_theory.specs.Search.{none, found, least}
 use Rattle.lp_theory.specs.Simplex.{lowest}
 use Rattle.lp_theory.proofs.search.Searches.{lt_does, least_is}
 use Rattle.lp_theory.proofs.search.Runs.{least_none, least_same, not_below}

@@ -31,24 +31,20 @@ rows_counted m p n e =
     let f = length-map p.rows.items (λ (r : Row _). m r.side) in
     omega (arith, e, f, k)
 
--- the columns that are counted are the entries of the goal
-pub cols_counted : {F : Type 0} (p : Problem F) (n : ℕ) → n ≡ vec_len p.goal → n ≡ length p.goal.items
-cols_counted p n e = let k = p.goal.ok.0 in omega (arith, e, k)
-
 module _ {F : Type 0} (m : F → ℚ) (L : ℤ) (p : Problem F) (made : ℕ) (T₀ T : Table) (end : End) (pivots : ℕ)
     (b : BeginsPhase (exact m p) false made T₀) (e : EndsPhase L (exact m p) false T end pivots) (rows cols : ℕ)
-    (q : rows ≡ vec_len p.rows) (w : cols ≡ vec_len p.goal) (o : Outcome F) where
+    (q : rows ≡ vec_len p.rows) (w : cols ≡ length p.goal) (o : Outcome F) where
   -- at a best point, what is read is the outcome of the second phase
   pub best_counted : end ≡ AtBest → ReadsBest m T rows cols o → IsOutcomeOf m (exact m p) (main_outcome (exact m p)) o
   best_counted is r =
       best_end L (exact m p) made T₀ T pivots b (subst (λ x. EndsPhase L (exact m p) false T x pivots) is e) m rows cols o
-      (rows_counted m p rows q) (cols_counted p cols w) r
+      (rows_counted m p rows q) w r
 
   -- and at a ray
   pub ray_counted : (c : ℕ) → end ≡ AtRay c → ReadsRay m T rows cols c o → IsOutcomeOf m (exact m p) (main_outcome (exact m p)) o
   ray_counted c is r =
       unbounded_end L (exact m p) made T₀ T c pivots b (subst (λ x. EndsPhase L (exact m p) false T x pivots) is e) m rows cols o
-      (rows_counted m p rows q) (cols_counted p cols w) r
+      (rows_counted m p rows q) w r
 
 module _ (L : ℤ) (P : lp.Problem) (r : ℕ) (T : Table) (c : ℕ) (least : lowest P ≡ found r) (table : Agree (first_table P) T)
     (cols : c ≡ P.cols) where

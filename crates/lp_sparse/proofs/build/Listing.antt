@@ -1,69 +1,25 @@
 -- Lists of entries that grow at their end with the numbers of a dense row.
-use Rattle.std.proofs.Common.{◌≡◌, ℕ, zero, suc, ◌+◌, ◌<◌, Bool, true, false, List, [], ◌∷◌, ◌++◌, length, map, take, get_or, refl, ap, sym}
-use Rattle.std.proofs.Common.{◌∙◌, subst, arith, append_assoc}
-use Rattle.std.proofs.lemmas.List.{length_push, get_or_push, get_or_append_left, map_more, get_or-map, length-map, map-id}
-use Rattle.base_numbers.specs.Rational.{ℚ, zero_ℚ}
-use Rattle.lp_dictionary.specs.Build.{auxiliary_entry, zeros}
-use Rattle.lp_dictionary.proofs.listed.DictBuilds.{length-zeros}
-use Rattle.lp_sparse.specs.declared.entry.Entry.{Entry}
-use Rattle.lp_sparse.specs.Entries.{pushed}
-use Rattle.lp_sparse.specs.Keeps.{Keeps, Lists}
-use Rattle.lp_sparse.specs.Build.{signed_by, end_pushed}
-use Rattle.lp_sparse.proofs.merge.Lists.{keeps_none, keeps_gap, keeps_same, keeps_pushed, no_zero_pushed}
-
-get_zero : (n k : ℕ) → get_or (zeros n) k zero_ℚ ≡ zero_ℚ
-get_zero zero k = refl
-get_zero (suc n) zero = refl
-get_zero (suc n) (suc k) = get_zero n k
+use Rattle.std.proofs.Common.{◌≡◌, ℕ, ◌+◌, Bool, true, false, List, [], ◌∷◌, ◌++◌, length, map, ap, sym}
+use Rattle.std.proofs.Common.{◌∙◌, subst, append_assoc}
+use Rattle.std.proofs.lemmas.List.{length_push, map-id}
+use Rattle.base_numbers.specs.Rational.{ℚ}
+use Rattle.lp_dictionary.specs.Build.{auxiliary_entry, signed_by}
+use Rattle.lp_dictionary.specs.declared.entry.Entry.{Entry}
+use Rattle.lp_dictionary.specs.Entries.{pushed}
+use Rattle.lp_dictionary.specs.Keeps.{Lists}
+use Rattle.lp_sparse.specs.Build.{end_pushed}
+use Rattle.lp_dictionary.proofs.kept.Listing.{lists_pushed}
 
 -- numbers that keep their sign stay as they are
 pub signed_none : (xs : List ℚ) → map (signed_by false) xs ≡ xs
 signed_none xs = map-id xs
 
 module _ {F : Type 0} (m : F → ℚ) where
-  -- no number
-  lists_none : Lists m [] []
-  lists_none = record { keeps = keeps_none m (λ k. get_or [] k zero_ℚ); no_zero = tt }
-
-  -- numbers that are all 0
-  pub lists_zeros : (n : ℕ) → Lists m (zeros n) []
-  lists_zeros n = record {
-    keeps = subst (λ k. Keeps m (λ j. get_or (zeros n) j zero_ℚ) k []) (sym (length-zeros n))
-        (keeps_gap m (λ j. get_or (zeros n) j zero_ℚ) 0 n [] (keeps_none m (λ j. get_or (zeros n) j zero_ℚ)) (omega arith)
-        (λ q l b. get_zero n q));
-    no_zero = tt;
-  }
-
-  -- one more number
-  lists_pushed : (xs : List ℚ) (es : List (Entry F)) (k : ℕ) (x : F) (q : ℚ) → Lists m xs es → k ≡ length xs → m x ≡ q
-      → Lists m (xs ++ q ∷ []) (pushed m es k x)
-  lists_pushed xs es k x q h e v =
-      let f = λ (j : ℕ). get_or (xs ++ q ∷ []) j zero_ℚ in
-      let same : Keeps m f (length xs) es = keeps_same m (λ j. get_or xs j zero_ℚ) f (length xs) es h.keeps
-      (λ j l. sym (get_or_append_left xs (q ∷ []) zero_ℚ j l)) in
-      let at : Keeps m f k es = subst (λ n. Keeps m f n es) (sym e) same in
-      record {
-        keeps = subst (λ n. Keeps m f n (pushed m es k x)) (ap (λ n. n + 1) e ∙ sym (length_push xs q))
-            (keeps_pushed m f k x es at (v ∙ sym (get_or_push xs q zero_ℚ k (sym e))));
-        no_zero = no_zero_pushed m es k x h.no_zero;
-      }
-
   -- the end of a row
   pub lists_end : (aux : Bool) (xs : List ℚ) (es : List (Entry F)) (k : ℕ) (x s : F) (q t : ℚ) → Lists m xs es → k ≡ length xs → m x ≡ q
       → m s ≡ t → Lists m (xs ++ (auxiliary_entry aux q ++ t ∷ [])) (end_pushed m aux es k x s)
   lists_end true xs es k x s q t h e v w =
       subst (λ ys. Lists m ys (pushed m (pushed m es k x) (k + 1) s)) (append_assoc xs (q ∷ []) (t ∷ []))
-      (lists_pushed (xs ++ q ∷ []) (pushed m es k x) (k + 1) s t (lists_pushed xs es k x q h e v)
+      (lists_pushed m (xs ++ q ∷ []) (pushed m es k x) (k + 1) s t (lists_pushed m xs es k x q h e v)
       (ap (λ n. n + 1) e ∙ sym (length_push xs q)) w)
-  lists_end false xs es k x s q t h e v w = lists_pushed xs es k s t h e w
-
-  -- one more number of a list, with its sign or the other
-  pub lists_more : (neg : Bool) (vs : List F) (i : ℕ) (es : List (Entry F)) (x y : F) → i < length vs → x ≡ get_or vs i x
-      → m y ≡ signed_by neg (m x) → Lists m (map (signed_by neg) (take i (map m vs))) es
-      → i ≡ length (map (signed_by neg) (take i (map m vs))) →
-      Lists m (map (signed_by neg) (take (i + 1) (map m vs))) (pushed m es i y)
-  lists_more neg vs i es x y l r v h e =
-      subst (λ us. Lists m us (pushed m es i y)) (sym (map_more (signed_by neg) (map m vs) i zero_ℚ
-      (subst (λ n. i < n) (sym (length-map vs m)) l) ∙ ap (λ u. map (signed_by neg) (take i (map m vs)) ++ signed_by neg u ∷ [])
-      (get_or-map m vs i x zero_ℚ l ∙ ap m (sym r))))
-      (lists_pushed (map (signed_by neg) (take i (map m vs))) es i y (signed_by neg (m x)) h e v)
+  lists_end false xs es k x s q t h e v w = lists_pushed m xs es k s t h e w

@@ -13,13 +13,13 @@ use Rattle.lp_dictionary.specs.Cells.{cells_table}
 use Rattle.lp_dictionary.proofs.cells.RowLoops.{row_end}
 use Rattle.lp_dictionary.proofs.listed.DictBuilds.{get_behind, joined_length, get_joined, slack_long, slack_short, goal_long, goal_short}
 use Rattle.lp_dictionary.proofs.listed.DictBuilds.{auxiliary_length}
-use Rattle.lp_sparse.specs.declared.entry.SparseRow.{SparseRow}
-use Rattle.lp_sparse.specs.Entries.{Rises, HasNoZero}
-use Rattle.lp_sparse.specs.Keeps.{Lists}
+use Rattle.lp_sparse.specs.declared.row.SparseRow.{SparseRow}
+use Rattle.lp_dictionary.specs.Entries.{Rises, HasNoZero}
+use Rattle.lp_dictionary.specs.Keeps.{Lists}
 use Rattle.lp_sparse.specs.Rows.{row_at, numbers, EachRises, NoZeros}
 use Rattle.lp_sparse.specs.Build.{first_list, IsFirst}
 use Rattle.lp_sparse.specs.Named.{named_table}
-use Rattle.lp_sparse.proofs.place.RowsAt.{row_pushed, row_before, row_past}
+use Rattle.lp_sparse.proofs.rows.RowsAt.{row_pushed, row_before, row_past}
 
 module _ (aux : Bool) (A : List (List ℚ)) (b c : List ℚ) where
   list_slack : (i : ℕ) → i < length b → first_list aux A b c i ≡ slack_entries aux (get_or A i []) (get_or b i zero_ℚ)
@@ -176,8 +176,8 @@ module _ (W : ℕ) (A : List (List ℚ)) (b c : List ℚ) (rows_are : (i : ℕ) 
         (cases_lt i (length b + goals_of aux))
 
 -- the rows of a shaped problem are short
-pub short_rows : {F : Type 0} (W K : ℕ) (rs : List (Row F)) → All (λ r. length r.coeffs.items ≡ W) rs → W < K → (i : ℕ)
-    → length (get_or (map (λ r. r.coeffs.items) rs) i []) < K
+pub short_rows : {F : Type 0} (W K : ℕ) (rs : List (Row F)) → All (λ r. length r.coeffs ≡ W) rs → W < K → (i : ℕ)
+    → length (get_or (map (λ r. r.coeffs) rs) i []) < K
 short_rows W K [] h l i = omega (arith, l)
-short_rows W K (r ∷ rs) h l zero = let e = All-head (λ r. length r.coeffs.items ≡ W) r rs h in omega (arith, e, l)
-short_rows W K (r ∷ rs) h l (suc i) = short_rows W K rs (All-tail (λ r. length r.coeffs.items ≡ W) r rs h) l i
+short_rows W K (r ∷ rs) h l zero = let e = All-head (λ r. length r.coeffs ≡ W) r rs h in omega (arith, e, l)
+short_rows W K (r ∷ rs) h l (suc i) = short_rows W K rs (All-tail (λ r. length r.coeffs ≡ W) r rs h) l i

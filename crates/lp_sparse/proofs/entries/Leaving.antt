@@ -8,11 +8,12 @@ use Rattle.std.proofs.lemmas.List.Edits.{get_or-remove_below, get_or-remove_abov
 use Rattle.base_numbers.specs.Rational.{ℚ}
 use Rattle.lp_theory.specs.Table.{skip}
 use Rattle.lp_theory.proofs.TableDrops.{skip_below, skip_above}
-use Rattle.lp_sparse.specs.declared.entry.Entry.{Entry}
-use Rattle.lp_sparse.specs.declared.entry.SparseRow.{SparseRow}
-use Rattle.lp_sparse.specs.Entries.{value_at, Rises, HasNoZero, moved, left_out}
+use Rattle.lp_dictionary.specs.declared.entry.Entry.{Entry}
+use Rattle.lp_sparse.specs.declared.row.SparseRow.{SparseRow}
+use Rattle.lp_dictionary.specs.Entries.{value_at, Rises, HasNoZero}
+use Rattle.lp_sparse.specs.Entries.{moved, left_out}
 use Rattle.lp_sparse.specs.Rows.{row_at}
-use Rattle.lp_sparse.proofs.merge.Lists.{head_on, head_off}
+use Rattle.lp_dictionary.proofs.kept.Lists.{head_on, head_off}
 
 -- where a column other than z moves to
 abbrev place : ℕ → ℕ → ℕ

@@ -6,10 +6,11 @@ use Rattle.base_numbers.specs.Rational.{ℚ, zero_ℚ}
 use Rattle.base_fractions.specs.Operation.{Operation, first_wide}
 use Rattle.lp_dictionary.specs.Listed.{joined}
 use Rattle.lp_dictionary.proofs.listed.Joins.{joined_fits_more}
-use Rattle.lp_sparse.specs.declared.entry.Entry.{Entry}
-use Rattle.lp_sparse.specs.Entries.{value_at, Rises, head_value, behind}
+use Rattle.lp_dictionary.specs.declared.entry.Entry.{Entry}
+use Rattle.lp_dictionary.specs.Entries.{value_at, Rises}
+use Rattle.lp_sparse.specs.Entries.{head_value, behind}
 use Rattle.lp_sparse.specs.Merge.{StartsAt, Left}
-use Rattle.lp_sparse.proofs.merge.Lists.{value_before}
+use Rattle.lp_dictionary.proofs.kept.Lists.{value_before}
 
 -- lists of operations that are passed over
 pub joined_gap : (L : ℤ) (r k : ℕ) (f : ℕ → List Operation) → first_wide L (joined r f) ≡ None → r ≤ k

@@ -8,13 +8,14 @@ use Rattle.base_fractions.specs.Operation.{Operation, first_wide}
 use Rattle.lp_dictionary.specs.Formulas.{combined, combined_row, added_operations}
 use Rattle.lp_dictionary.specs.PivotOperations.{added_row_operations}
 use Rattle.lp_dictionary.proofs.listed.Joins.{joined_fits_more, joined_wide_at, joined_fits_none}
-use Rattle.lp_sparse.specs.declared.entry.Entry.{Entry}
-use Rattle.lp_sparse.specs.Entries.{head_value, behind, pushed}
-use Rattle.lp_sparse.specs.Keeps.{Keeps}
+use Rattle.lp_dictionary.specs.declared.entry.Entry.{Entry}
+use Rattle.lp_dictionary.specs.Entries.{pushed}
+use Rattle.lp_sparse.specs.Entries.{head_value, behind}
+use Rattle.lp_dictionary.specs.Keeps.{Keeps}
 use Rattle.lp_sparse.specs.Rows.{merged}
 use Rattle.lp_sparse.specs.Merge.{kept, StartsAt, Left, Merging, MergesOn}
 use Rattle.lp_sparse.proofs.merge.SingleEntries.{combined_none, merged_kept}
-use Rattle.lp_sparse.proofs.merge.Lists.{keeps_none, keeps_gap, keeps_pushed}
+use Rattle.lp_dictionary.proofs.kept.Lists.{keeps_none, keeps_gap, keeps_pushed}
 use Rattle.lp_sparse.proofs.merge.Gaps.{joined_gap, left_to, left_zero, left_head, left_behind, left_none, starts_value, starts_behind}
 use Rattle.lp_sparse.proofs.merge.Gaps.{starts_before}
 

@@ -6,8 +6,8 @@ use Rattle.base_fractions.specs.Operation.{Operation, first_wide, operation_of, 
 use Rattle.lp_dictionary.specs.declared.tableau.PivotFault.{PivotFault}
 use Rattle.lp_dictionary.specs.declared.tableau.PivotFault.TheVariants as fault
 use Rattle.lp_dictionary.specs.Faults.{Refuses}
-use Rattle.lp_sparse.specs.declared.entry.Entry.{Entry}
-use Rattle.lp_sparse.specs.Entries.{pushed}
+use Rattle.lp_dictionary.specs.declared.entry.Entry.{Entry}
+use Rattle.lp_dictionary.specs.Entries.{pushed}
 use Rattle.lp_sparse.specs.Faults.{Pushes, PassesOn}
 
 module _ {F : Type 0} (m : F → ℚ) (L : ℤ) where

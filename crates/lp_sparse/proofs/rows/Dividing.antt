@@ -8,10 +8,10 @@ use Rattle.lp_dictionary.specs.Formulas.{divided, divided_row, divided_operation
 use Rattle.lp_dictionary.specs.PivotOperations.{division_row_operations}
 use Rattle.lp_dictionary.proofs.Entries.{divided_zero}
 use Rattle.lp_dictionary.proofs.listed.Joins.{joined_fits_more, joined_wide_at, joined_fits_none}
-use Rattle.lp_sparse.specs.declared.entry.Entry.{Entry}
-use Rattle.lp_sparse.specs.Entries.{pushed}
-use Rattle.lp_sparse.specs.Keeps.{Keeps}
-use Rattle.lp_sparse.proofs.merge.Lists.{keeps_none, keeps_gap, keeps_pushed}
+use Rattle.lp_dictionary.specs.declared.entry.Entry.{Entry}
+use Rattle.lp_dictionary.specs.Entries.{pushed}
+use Rattle.lp_dictionary.specs.Keeps.{Keeps}
+use Rattle.lp_dictionary.proofs.kept.Lists.{keeps_none, keeps_gap, keeps_pushed}
 use Rattle.lp_sparse.specs.Merge.{Left}
 use Rattle.lp_sparse.proofs.merge.Gaps.{joined_gap, left_to, left_zero, left_head, left_behind, left_none}
 

@@ -8,13 +8,13 @@ use Rattle.lp_dictionary.specs.PivotOperations.{division_row_operations, combina
 use Rattle.lp_dictionary.proofs.Widths.{first_wide_later, first_wide_sooner}
 use Rattle.lp_dictionary.proofs.listed.Joins.{joined_same}
 use Rattle.lp_dictionary.proofs.pivot_operations.RowSteps.{combination_same, combined_same}
-use Rattle.lp_sparse.specs.declared.entry.Entry.{Entry}
-use Rattle.lp_sparse.specs.declared.entry.SparseRow.{SparseRow}
-use Rattle.lp_sparse.specs.Entries.{value_at, Rises}
-use Rattle.lp_sparse.specs.Keeps.{Keeps}
+use Rattle.lp_dictionary.specs.declared.entry.Entry.{Entry}
+use Rattle.lp_sparse.specs.declared.row.SparseRow.{SparseRow}
+use Rattle.lp_dictionary.specs.Entries.{value_at, Rises}
+use Rattle.lp_dictionary.specs.Keeps.{Keeps}
 use Rattle.lp_sparse.specs.Rows.{row_at, numbers, CombinesRows, Exchanges, rows_operations, exchange_operations}
-use Rattle.lp_sparse.proofs.merge.Lists.{value_behind, keeps_same}
-use Rattle.lp_sparse.proofs.place.RowsAt.{row_written, row_kept}
+use Rattle.lp_dictionary.proofs.kept.Lists.{value_behind, keeps_same}
+use Rattle.lp_sparse.proofs.rows.RowsAt.{row_written, row_kept}
 
 module _ {F : Type 0} (m : F → ℚ) where
   -- a column with another number than 0 is below the bound

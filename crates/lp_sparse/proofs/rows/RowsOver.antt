@@ -8,12 +8,12 @@ use Rattle.lp_dictionary.specs.Formulas.{product_operations, combined_row}
 use Rattle.lp_dictionary.specs.PivotOperations.{added_row_operations, combination_row_operations}
 use Rattle.lp_dictionary.proofs.Widths.{first_wide_later}
 use Rattle.lp_dictionary.proofs.listed.Joins.{joined_fits_more, joined_wide_at, joined_fits_none}
-use Rattle.lp_sparse.specs.declared.entry.Entry.{Entry}
-use Rattle.lp_sparse.specs.declared.entry.SparseRow.{SparseRow}
-use Rattle.lp_sparse.specs.Entries.{value_at, HasNoZero}
-use Rattle.lp_sparse.specs.Keeps.{Keeps}
+use Rattle.lp_dictionary.specs.declared.entry.Entry.{Entry}
+use Rattle.lp_sparse.specs.declared.row.SparseRow.{SparseRow}
+use Rattle.lp_dictionary.specs.Entries.{value_at, HasNoZero}
+use Rattle.lp_dictionary.specs.Keeps.{Keeps}
 use Rattle.lp_sparse.specs.Rows.{row_at, numbers, NoZeros, CombinesRows, rows_operations}
-use Rattle.lp_sparse.proofs.place.RowsAt.{row_written, row_kept}
+use Rattle.lp_sparse.proofs.rows.RowsAt.{row_written, row_kept}
 
 -- a product that fits leaves the decision to formula 4
 pub combination_later : (L : ℤ) (n : ℕ) (a b : ℕ → ℚ) (c : ℕ) (f y : ℚ) → f ≡ a c → y ≡ b c → first_wide L (product_operations f y) ≡ None

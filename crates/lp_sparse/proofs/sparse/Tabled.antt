@@ -14,11 +14,12 @@ use Rattle.lp_dictionary.specs.PivotOperations.{pivot_operations}
 use Rattle.lp_dictionary.specs.Rows as dense
 use Rattle.lp_dictionary.proofs.cells.DictPivots.{row_entry, other_entry, pivot_agrees}
 use Rattle.lp_dictionary.proofs.cells.DictLeaves.{leave_agrees}
-use Rattle.lp_sparse.specs.declared.entry.SparseRow.{SparseRow}
-use Rattle.lp_sparse.specs.Entries.{value_at, Rises, HasNoZero, left_out}
+use Rattle.lp_sparse.specs.declared.row.SparseRow.{SparseRow}
+use Rattle.lp_dictionary.specs.Entries.{value_at, Rises, HasNoZero}
+use Rattle.lp_sparse.specs.Entries.{left_out}
 use Rattle.lp_sparse.specs.Rows.{row_at, numbers, EachRises, NoZeros, Exchanges, rows_operations, exchange_operations}
 use Rattle.lp_sparse.specs.Named.{named_table}
-use Rattle.lp_sparse.proofs.place.RowsAt.{row_past}
+use Rattle.lp_sparse.proofs.rows.RowsAt.{row_past}
 use Rattle.lp_sparse.proofs.entries.Leaving.{left_out_rises, value_left, no_zero_left}
 
 -- names don't depend on entries: those of dictionaries with no entry but 0

@@ -1,10 +1,12 @@
 -- Rows with one entry for each column.
-use Rattle.std.proofs.Common.{◌≡◌, ◌∙◌, ℕ, zero, suc, ◌+◌, ◌<◌, List, [], ◌∷◌, ◌++◌, length, get_or, take, refl, ap, sym, append_assoc}
+use Rattle.std.proofs.Common.{◌≡◌, ◌≢◌, ◌∙◌, cond, ℕ, zero, suc, ◌+◌, ◌<◌, List, [], ◌∷◌, ◌++◌, length, get_or, take, refl, ap, sym, append_assoc}
 use Rattle.std.proofs.Common.{arith}
-use Rattle.std.proofs.lemmas.List.{take_more}
+use Rattle.std.proofs.lemmas.List.{take_more, map_more, append-nil}
+use Rattle.std.proofs.lemmas.Bool.{eq-eqb, ne_eqb}
 use Rattle.base_numbers.specs.Vector.{zeros}
 use Rattle.base_numbers.specs.Rational.{ℚ, zero_ℚ, one_ℚ, neg_ℚ}
 use Rattle.theory_transformers.specs.JointProblems.{ones, split_list}
+use Rattle.solve_joint.specs.Rows.{on_number, on_numbers}
 
 -- one zero more extends the zeros
 pub zeros_more : (n : ℕ) → zeros (n + 1) ≡ zeros n ++ zero_ℚ ∷ []
@@ -29,6 +31,30 @@ split_more coeffs i x y first l e f =
     ∙ ap (λ zs. first ++ zs) (ap (λ z. split_list (take i coeffs) ++ x ∷ (z ∷ [])) f
     ∙ ap (λ zs. split_list (take i coeffs) ++ zs) (sym (split_pair x)) ∙ sym (split-append (take i coeffs) (x ∷ []))
     ∙ ap (λ z. split_list (take i coeffs ++ z ∷ [])) e ∙ ap split_list (sym (take_more coeffs i x l)))
+
+-- one more listed unknown extends the rises
+rises_more : (c : ℚ) (target : ℕ) (list : List ℕ) (i u : ℕ) (x : ℚ) (first : List ℚ) → i < length list → u ≡ get_or list i u
+    → on_number c target u ≡ x → (first ++ on_numbers c target (take i list)) ++ x ∷ [] ≡ first ++ on_numbers c target (take (i + 1) list)
+rises_more c target list i u x first l e f =
+    append_assoc first (on_numbers c target (take i list)) (x ∷ [])
+    ∙ ap (λ xs. first ++ xs) (ap (λ y. on_numbers c target (take i list) ++ y ∷ []) (sym f ∙ ap (on_number c target) e)
+    ∙ sym (map_more (on_number c target) list i u l))
+
+-- the rise of the target, behind the zeros before it
+pub rises_on : (c : ℚ) (target : ℕ) (list : List ℕ) (i u n : ℕ) (row mid new first : List ℚ) → i < length list → u ≡ get_or list i u
+    → u ≡ target → row ++ zeros n ≡ first ++ on_numbers c target (take i list) → mid ≡ row ++ zeros n → new ≡ mid ++ c ∷ []
+    → new ++ zeros 0 ≡ first ++ on_numbers c target (take (i + 1) list)
+rises_on c target list i u n row mid new first l e q h f k =
+    append-nil new ∙ k ∙ ap (λ xs. xs ++ c ∷ []) (f ∙ h)
+    ∙ rises_more c target list i u c first l e (ap (λ b. cond b c zero_ℚ) (eq-eqb u target q))
+
+-- one more unknown that is not the target
+pub rises_off : (c : ℚ) (target : ℕ) (list : List ℕ) (i u n : ℕ) (row first : List ℚ) → i < length list → u ≡ get_or list i u
+    → u ≢ target → row ++ zeros n ≡ first ++ on_numbers c target (take i list)
+    → row ++ zeros (n + 1) ≡ first ++ on_numbers c target (take (i + 1) list)
+rises_off c target list i u n row first l e d h =
+    ap (λ xs. row ++ xs) (zeros_more n) ∙ sym (append_assoc row (zeros n) (zero_ℚ ∷ [])) ∙ ap (λ xs. xs ++ zero_ℚ ∷ []) h
+    ∙ rises_more c target list i u zero_ℚ first l e (ap (λ b. cond b c zero_ℚ) (ne_eqb u target d))
 
 -- a one more extends the ones
 pub ones_more : (n : ℕ) → ones (n + 1) ≡ ones n ++ one_ℚ ∷ []

@@ -32,7 +32,7 @@ use Rattle.solve_joint.specs.Problems.{problem_of}
 use Rattle.solve_joint.specs.Layouts.{columns_from, rises_from, layout_of, trace_at, AreBounded}
 use Rattle.solve_joint.specs.Readings.{point_read, point_operations, ray_read, ray_operations, IsReadable, ReadsOutcome}
 use Rattle.solve_joint.specs.Joints.{word_of, entries_of, IsReadFrom, reading_operations, JoinedMeans}
-use Rattle.solve_joint.proofs.solve.PlainProblem.{map_itself}
+use Rattle.std.proofs.lemmas.List.{map-id}
 use Rattle.solve_joint.proofs.blocks.Translated.{columns_are}
 use Rattle.solve_joint.proofs.layouts.NumberReads.{numbers_are}
 use Rattle.solve_joint.proofs.blocks.WordReads.{words_are}
@@ -90,7 +90,7 @@ tabled (suc n) f (x ∷ xs) e h = ap₂ (λ y ys. y ∷ ys) (h 0 (omega arith))
     (tabled n (λ k. f (suc k)) xs (omega (arith, e)) (λ j l. h (suc j) (omega (arith, l))))
 
 listed_is : (n : ℕ) (f : ℕ → ℚ) (xs : List ℚ) → IsListed (λ q. q) n f xs → xs ≡ tabulate n f
-listed_is n f xs h = tabled n f xs h.size (λ j l. ap (λ ys. get_or ys j zero_ℚ) (sym (map_itself xs)) ∙ h.each j l)
+listed_is n f xs h = tabled n f xs h.size (λ j l. ap (λ ys. get_or ys j zero_ℚ) (sym (map-id xs)) ∙ h.each j l)
 
 -- ---- from the outcome to the answer
 module _ (system : System) (pick : List (Option ℕ)) (base : List Ext) (list : List ℕ) (rises : Rises 0 list) where

@@ -53,7 +53,7 @@ problem_is system z edge row = refl
 
 -- ---- every row is as long as the goal
 row_long : (rows : List (Row ℚ)) (limits : List Limit) (w : ℕ) → map limit_of rows ≡ map (split_limit w) limits → (k : ℕ) (d : Row ℚ)
-    → k < length rows → length (get_or rows k d).coeffs.items ≡ w + w
+    → k < length rows → length (get_or rows k d).coeffs ≡ w + w
 row_long [] limits w h k d l = absurd (omega (arith, l))
 row_long (r ∷ rows) [] w h k d l = absurd cc
 row_long (r ∷ rows) (m ∷ limits) w h zero d l =
@@ -81,12 +81,12 @@ module _ (system : Equations) (z : Vector) (edge : Edge) (row : List ℤ) (w : �
   module _ (p : Problem ℚ) (h : map limit_of p.rows.items ≡ map (split_limit w)
       (source_limits (λ r u. u) system.variables (bounds_at source) template)
       ++ map (split_limit w) (guard_limits (λ u. u) (guard_forms system.variables edge.actions)))
-      (g : p.goal.items ≡ pairs form.coeffs) where
+      (g : p.goal ≡ pairs form.coeffs) where
     -- it is the problem of the edge and the row
     pub built_exact : exact (λ (q : ℚ). q) p ≡ whole_problem system z edge row
     built_exact =
         exact_is p w (edge_limits system z edge) (end_form system.variables edge.actions row).coeffs
-        (limits_are (map limit_of p.rows.items) h) (goal_is p.goal.items g)
+        (limits_are (map limit_of p.rows.items) h) (goal_is p.goal g)
         (subst (λ m. AllWithin m (edge_limits system z edge)) (sym s.columns) (edge_within system z edge))
         (subst (λ m. length (end_form system.variables edge.actions row).coeffs ≤ m) (sym s.columns)
         (end_form_width system.variables edge.actions row))
@@ -94,9 +94,9 @@ module _ (system : Equations) (z : Vector) (edge : Edge) (row : List ℤ) (w : �
         s.columns
         ∙ problem_is system z edge row
 
-    goal_long : length p.goal.items ≡ w + w
+    goal_long : length p.goal ≡ w + w
     goal_long =
-        ap (λ (xs : List ℚ). length xs) (goal_is p.goal.items g) ∙ length-pairs
+        ap (λ (xs : List ℚ). length xs) (goal_is p.goal g) ∙ length-pairs
         (first_entries w (end_form system.variables edge.actions row).coeffs)
         ∙ ap (λ n. n + n) (length-first_entries w (end_form system.variables edge.actions row).coeffs)
 

@@ -1,6 +1,6 @@
 -- The problem that the code builds is that of the edge and the row.
 use Rattle.std.proofs.Common.{◌≡◌, ◌∙◌, ℕ, zero, suc, ◌+◌, ◌≤◌, List, [], ◌∷◌, length, get_or, map, refl, ap, ap₂, arith}
-use Rattle.std.proofs.lemmas.List.{length-map, map-id}
+use Rattle.std.proofs.lemmas.List.{length-map}
 use mathlib.Core.Path.{fun_ext}
 use Rattle.base_numbers.specs.Rational.{ℚ}
 use Rattle.lp_theory.specs.Problem as lp
@@ -54,10 +54,9 @@ split_is w limits goal h l =
     (fun_ext (λ j. at-pairs w goal j l))
 
 -- ---- the lists of the code
-rows_coeffs : (rows : List (Row ℚ)) → map (λ (r : Row ℚ). map (λ (q : ℚ). q) r.coeffs.items) rows
-    ≡ map (λ (l : Limit). l.coeffs) (map limit_of rows)
+rows_coeffs : (rows : List (Row ℚ)) → map (λ (r : Row ℚ). r.coeffs) rows ≡ map (λ (l : Limit). l.coeffs) (map limit_of rows)
 rows_coeffs [] = refl
-rows_coeffs (r ∷ rows) = ap₂ (λ x xs. x ∷ xs) (map-id r.coeffs.items) (rows_coeffs rows)
+rows_coeffs (r ∷ rows) = ap (λ xs. r.coeffs ∷ xs) (rows_coeffs rows)
 
 rows_sides : (rows : List (Row ℚ)) → map (λ (r : Row ℚ). r.side) rows ≡ map (λ (l : Limit). l.side) (map limit_of rows)
 rows_sides [] = refl
@@ -65,13 +64,11 @@ rows_sides (r ∷ rows) = ap (λ xs. r.side ∷ xs) (rows_sides rows)
 
 -- a problem whose rows and goal are split limits and a split goal is exactly their split problem
 pub exact_is : (p : Problem ℚ) (w : ℕ) (limits : List Limit) (goal : List ℚ) → map limit_of p.rows.items ≡ map (split_limit w) limits
-    → p.goal.items ≡ pairs (first_entries w goal) → AllWithin w limits → length goal ≤ w →
+    → p.goal ≡ pairs (first_entries w goal) → AllWithin w limits → length goal ≤ w →
     exact (λ (q : ℚ). q) p ≡ split_problem (limits_problem w limits goal)
 exact_is p w limits goal h g within l =
-    ap₂ (λ A b. list_problem (length p.goal.items) A b (map (λ (q : ℚ). q) p.goal.items))
+    ap₂ (λ A b. list_problem (length p.goal) A b p.goal)
     (rows_coeffs p.rows.items ∙ ap (map (λ (x : Limit). x.coeffs)) h) (rows_sides p.rows.items ∙ ap (map (λ (x : Limit). x.side)) h)
-    ∙ ap (λ c. list_problem (length p.goal.items) (map (λ (x : Limit). x.coeffs) (map (split_limit w) limits))
-    (map (λ (x : Limit). x.side) (map (split_limit w) limits)) c) (map-id p.goal.items)
     ∙ ap (λ c. list_problem (length c) (map (λ (x : Limit). x.coeffs) (map (split_limit w) limits))
     (map (λ (x : Limit). x.side) (map (split_limit w) limits)) c) g
     ∙ split_is w limits goal within l

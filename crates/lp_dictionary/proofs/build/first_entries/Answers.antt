@@ -1,5 +1,4 @@
-use Rattle.std.proofs.Common.{◌≡◌, ◌++◌, length, map, ap, ap₂, sym, ◌∙◌}
-use Rattle.base_numbers.specs.Rational.{ℚ}
+use Rattle.std.proofs.Common.{◌++◌, length, map, ap, ◌∙◌}
 use Rattle.lp_dictionary.specs.declared.problem.Row.{Row}
 use Rattle.lp_dictionary.specs.Build.{goals_entries, slacks_entries}
 use Rattle.lp_dictionary.proofs.build.first_entries.Goals as goal
@@ -8,6 +7,6 @@ pub returns : goal.returns
 returns g c =
     let m = g.F.OrderedField.meaning in
     c.in_ok-push_goals.ensures
-    ∙ ap₂ (λ x y. x ++ goals_entries c.args.auxiliary (map m y)) c.in_ok-push_slacks.ensures c.deref-2.ensures.value
-    ∙ ap (λ x. slacks_entries c.args.auxiliary (map (λ (r : Row _). map m r.coeffs.items) x) (map (λ (r : Row _). m r.side) x) (length x)
-    ++ goals_entries c.args.auxiliary (map m c.args.problem.now.goal.items)) c.deref.ensures.value
+    ∙ ap (λ x. x ++ goals_entries c.args.auxiliary c.args.problem.now.goal) c.in_ok-push_slacks.ensures
+    ∙ ap (λ x. slacks_entries c.args.auxiliary (map (λ (r : Row _). r.coeffs) x) (map (λ (r : Row _). m r.side) x) (length x)
+    ++ goals_entries c.args.auxiliary c.args.problem.now.goal) c.deref.ensures.value

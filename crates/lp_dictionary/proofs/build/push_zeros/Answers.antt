@@ -1,5 +1,5 @@
-use Rattle.std.proofs.Common.{◌≡◌, ◌+◌, ◌++◌, ◌∷◌, [], map, ap, sym, ◌∙◌}
-use Rattle.lp_dictionary.specs.Build.{zeros}
+use Rattle.std.proofs.Common.{◌+◌, ◌++◌, ◌∷◌, [], map, ap, sym, ◌∙◌}
+use Rattle.base_numbers.specs.Vector.{zeros}
 use Rattle.lp_dictionary.proofs.build.Built.{zeros_more, appended_more}
 use Rattle.lp_dictionary.proofs.build.push_zeros.Goals as goal
 

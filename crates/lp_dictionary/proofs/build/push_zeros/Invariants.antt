@@ -1,5 +1,5 @@
 use Rattle.std.proofs.Common.{◌≡◌, ◌++◌, map}
-use Rattle.lp_dictionary.specs.Build.{zeros}
+use Rattle.base_numbers.specs.Vector.{zeros}
 use Rattle.lp_dictionary.proofs.build.push_zeros.Given as goal
 
 abbrev pub invariant-loop-k : goal.invariant-loop-k

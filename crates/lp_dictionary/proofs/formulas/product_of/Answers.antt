@@ -1,4 +1,4 @@
-use Rattle.std.proofs.Common.{◌≡◌, ◌≢◌, true≢false, sym, ◌∙◌}
+use Rattle.std.proofs.Common.{◌≢◌, true≢false, sym, ◌∙◌}
 use Rattle.base_numbers.specs.Rational.{zero_ℚ}
 use Rattle.lp_dictionary.proofs.Entries.{product_zero, product_made}
 use Rattle.lp_dictionary.proofs.formulas.product_of.Goals as goal

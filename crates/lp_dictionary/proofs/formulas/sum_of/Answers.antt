@@ -1,4 +1,4 @@
-use Rattle.std.proofs.Common.{◌≡◌, ◌≢◌, true≢false, sym, ◌∙◌}
+use Rattle.std.proofs.Common.{◌≢◌, true≢false, sym, ◌∙◌}
 use Rattle.std.proofs.lemmas.Result.{err_from_is_err_and}
 use Rattle.base_numbers.specs.Rational.{zero_ℚ}
 use Rattle.lp_dictionary.proofs.Entries.{added_at, added_zero, added_refused, added_off}

@@ -1,11 +1,11 @@
 use Rattle.std.proofs.Common.{◌≡◌, ℕ, ◌+◌, ◌<◌, ◌≤◌, ◌⊎◌, ℤ, List, length, get_or, set, Some, None, refl, ap, sym, ◌∙◌, arith}
 use Rattle.std.proofs.lemmas.Result.{err_from_is_err_and, on_ok_weaker, IfErr-weaker}
-use Rattle.base_numbers.specs.Rational.{ℚ, zero_ℚ, ◌*ℚ◌}
+use Rattle.base_numbers.specs.Rational.{ℚ, ◌*ℚ◌}
 use Rattle.base_fractions.specs.Operation.{first_wide, operation_of}
-use Rattle.lp_dictionary.specs.Formulas.{combined_row, product_operations}
+use Rattle.lp_dictionary.specs.Formulas.{product_operations}
 use Rattle.lp_dictionary.specs.PivotOperations.{added_row_operations, combination_row_operations}
 use Rattle.lp_dictionary.specs.Cells.{row_from}
-use Rattle.lp_dictionary.proofs.cells.Cells.{cell_read, sets_none}
+use Rattle.lp_dictionary.proofs.cells.Cells.{cell_read}
 use Rattle.lp_dictionary.proofs.pivot_operations.RowSteps.{combined_still, combination_still, combined_after, combined_later}
 use Rattle.lp_dictionary.proofs.pivot_operations.RowSteps.{combined_sooner}
 use Rattle.lp_dictionary.proofs.rows.combine_row.Goals as goal

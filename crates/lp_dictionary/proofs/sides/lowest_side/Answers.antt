@@ -1,6 +1,6 @@
-use Rattle.std.proofs.Common.{◌≡◌, ◌<◌, length, map, subst, sym, ◌∙◌, arith}
+use Rattle.std.proofs.Common.{◌≡◌, ◌<◌, length, subst, sym, arith}
 use Rattle.std.proofs.lemmas.List.{length-map}
-use Rattle.base_numbers.specs.Rational.{ℚ, ◌≤ℚ◌, ◌<ℚ◌}
+use Rattle.base_numbers.specs.Rational.{◌≤ℚ◌}
 use Rattle.base_numbers.proofs.compare.Compared.{test_lt, test_not_lt}
 use Rattle.lp_dictionary.specs.declared.problem.Row.{Row}
 use Rattle.lp_dictionary.specs.Exact.{exact}

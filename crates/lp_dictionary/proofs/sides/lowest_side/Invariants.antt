@@ -1,4 +1,3 @@
-use Rattle.std.proofs.Common.{◌≡◌}
 use Rattle.lp_dictionary.specs.Exact.{exact}
 use Rattle.lp_dictionary.specs.Sides.{IsLeastSoFar}
 use Rattle.lp_dictionary.proofs.sides.lowest_side.Given as goal

@@ -15,7 +15,7 @@ use Rattle.lp_simplex.specs.Answers.{EndsPhase, EntersRefused, RefusesRun}
 use Rattle.lp_simplex.proofs.method.Begins.{first_pivot, two_goals, begins_main}
 use Rattle.lp_simplex.proofs.method.Ends.{shown_end, cols_apart_end, multipliers_end, lp_main_is, lp_empty_is, refused_first, fits_empty}
 use Rattle.lp_simplex.proofs.method.Ends.{not_left}
-use Rattle.lp_simplex.proofs.method.Counted.{rows_counted, cols_counted, begins_entered, first_fits, refused_entered, run_left}
+use Rattle.lp_simplex.proofs.method.Counted.{rows_counted, begins_entered, first_fits, refused_entered, run_left}
 use Rattle.lp_simplex.proofs.method.Counted.{refused_left}
 use Rattle.lp_simplex.proofs.method.both_phases.Goals as goal
 
@@ -28,7 +28,7 @@ enter_auxiliary-requires-clause-row g c =
 pub enter_auxiliary-requires-clause-col : goal.enter_auxiliary-requires-clause-col
 enter_auxiliary-requires-clause-col g c =
     let P = exact g.F.OrderedField.meaning c.args.problem.now in
-    let cols = cols_counted c.args.problem.now c.len-cols.result c.len-cols.ensures in
+    let cols = c.len-cols.ensures in
     let l = (lowest_is P c.args.row c.requires.least).below in
     let w = (first_pivot P c.args.row (g.T.Tableau.table c.args.tableau.now) l c.requires.table).1 in
     omega (arith, w, cols)
@@ -37,7 +37,7 @@ pub enter_auxiliary-requires-clause-entry : goal.enter_auxiliary-requires-clause
 enter_auxiliary-requires-clause-entry g c =
     let P = exact g.F.OrderedField.meaning c.args.problem.now in
     let T = g.T.Tableau.table c.args.tableau.now in
-    let cols = cols_counted c.args.problem.now c.len-cols.result c.len-cols.ensures in
+    let cols = c.len-cols.ensures in
     let l = (lowest_is P c.args.row c.requires.least).below in
     subst (λ x. T.entry c.args.row x ≢ zero_ℚ) (sym cols) (first_pivot P c.args.row T l c.requires.table).2
 
@@ -47,7 +47,7 @@ returns-in_err-enter_auxiliary-clause-refused g c =
     let L = g.F.OrderedField.LIMIT in
     let P = exact m c.args.problem.now in
     let T = g.T.Tableau.table c.args.tableau.now in
-    let cols = cols_counted c.args.problem.now c.len-cols.result c.len-cols.ensures in
+    let cols = c.len-cols.ensures in
     let l = (lowest_is P c.args.row c.requires.least).below in
     let q = err_from_is_err_and c.from_residual.result c.from_residual.ensures.1 in
     rw (q.1, q.2)
@@ -59,7 +59,7 @@ pub run_phase-requires-clause-begins : goal.run_phase-requires-clause-begins
 run_phase-requires-clause-begins g c =
     let L = g.F.OrderedField.LIMIT in
     let P = exact g.F.OrderedField.meaning c.args.problem.now in
-    let cols = cols_counted c.args.problem.now c.len-cols.result c.len-cols.ensures in
+    let cols = c.len-cols.ensures in
     begins_entered L P c.args.row (g.T.Tableau.table c.args.tableau.now) c.len-cols.result c.requires.least c.requires.table cols
     (g.T.Tableau.table c.enter_auxiliary.new.tableau) c.in_ok-enter_auxiliary.ensures.entered
 
@@ -68,7 +68,7 @@ returns-in_err-ended-clause-refused g c =
     let m = g.F.OrderedField.meaning in
     let L = g.F.OrderedField.LIMIT in
     let P = exact m c.args.problem.now in
-    let cols = cols_counted c.args.problem.now c.len-cols.result c.len-cols.ensures in
+    let cols = c.len-cols.ensures in
     let q = err_from_is_err_and c.from_residual-in_err-ended.result c.from_residual-in_err-ended.ensures.1 in
     rw (q.1, q.2)
     (refused_entered L P c.args.row (g.T.Tableau.table c.args.tableau.now) c.len-cols.result c.requires.least c.requires.table cols
@@ -85,7 +85,7 @@ leave_first-requires-clause-auxiliary g c =
     let L = g.F.OrderedField.LIMIT in
     let P = exact g.F.OrderedField.meaning c.args.problem.now in
     let U = g.T.Tableau.table c.run_phase.new.tableau in
-    let cols = cols_counted c.args.problem.now c.len-cols.result c.len-cols.ensures in
+    let cols = c.len-cols.ensures in
     let begins = begins_entered L P c.args.row (g.T.Tableau.table c.args.tableau.now) c.len-cols.result c.requires.least c.requires.table
     cols (g.T.Tableau.table c.enter_auxiliary.new.tableau) c.in_ok-enter_auxiliary.ensures.entered in
     let w = subst (λ x. EndsPhase L P true U x c.in_ok-ended.ended.pivots) c.in-Left.is c.in_ok-ended.ensures.ends in
@@ -108,7 +108,7 @@ goal_multipliers-requires g c =
     let P = exact m c.args.problem.now in
     let U = g.T.Tableau.table c.run_phase.new.tableau in
     let rows = rows_counted m c.args.problem.now c.len-rows.result c.len-rows.ensures in
-    let cols = cols_counted c.args.problem.now c.len-cols.result c.len-cols.ensures in
+    let cols = c.len-cols.ensures in
     let begins = begins_entered L P c.args.row (g.T.Tableau.table c.args.tableau.now) c.len-cols.result c.requires.least c.requires.table
     cols (g.T.Tableau.table c.enter_auxiliary.new.tableau) c.in_ok-enter_auxiliary.ensures.entered in
     let e = c.in_ok-ended.ensures.ends in
@@ -140,7 +140,7 @@ returns-in-Left-clause-fits g c =
     let P = exact g.F.OrderedField.meaning c.args.problem.now in
     let U = g.T.Tableau.table c.run_phase.new.tableau in
     let w = subst (λ x. EndsPhase L P true U x c.in_ok-ended.ended.pivots) c.in-Left.is c.in_ok-ended.ensures.ends in
-    let cols = cols_counted c.args.problem.now c.len-cols.result c.len-cols.ensures in
+    let cols = c.len-cols.ensures in
     let run = run_left L P c.args.row (g.T.Tableau.table c.args.tableau.now) c.len-cols.result c.requires.least c.requires.table cols
     c.in_ok-enter_auxiliary.ensures.fits U c.in_ok-ended.ended.pivots w in
     on_ok_weaker c.second_phase.result (λ q. run ∙ q) c.second_phase.ensures.fits
@@ -151,7 +151,7 @@ returns-in-Left-clause-refused g c =
     let L = g.F.OrderedField.LIMIT in
     let P = exact m c.args.problem.now in
     let U = g.T.Tableau.table c.run_phase.new.tableau in
-    let cols = cols_counted c.args.problem.now c.len-cols.result c.len-cols.ensures in
+    let cols = c.len-cols.ensures in
     let w = subst (λ x. EndsPhase L P true U x c.in_ok-ended.ended.pivots) c.in-Left.is c.in_ok-ended.ensures.ends in
     IfErr-weaker c.second_phase.result (λ e. RefusesRun m L (whole_phase P (main_phase P)) e) (λ e. RefusesRun m L (run_operations P) e)
     (λ e q. refused_left L P c.args.row (g.T.Tableau.table c.args.tableau.now) c.len-cols.result c.requires.least c.requires.table cols
@@ -165,7 +165,7 @@ returns-in_ok-goal_multipliers-in_default g c =
     let T = g.T.Tableau.table c.args.tableau.now in
     let U = g.T.Tableau.table c.run_phase.new.tableau in
     let rows = rows_counted m c.args.problem.now c.len-rows.result c.len-rows.ensures in
-    let cols = cols_counted c.args.problem.now c.len-cols.result c.len-cols.ensures in
+    let cols = c.len-cols.ensures in
     let begins = begins_entered L P c.args.row (g.T.Tableau.table c.args.tableau.now) c.len-cols.result c.requires.least c.requires.table
     cols (g.T.Tableau.table c.enter_auxiliary.new.tableau) c.in_ok-enter_auxiliary.ensures.entered in
     let e = c.in_ok-ended.ensures.ends in

@@ -17,10 +17,9 @@ pub best-requires-clause-cols_apart : goal.best-requires-clause-cols_apart
 best-requires-clause-cols_apart g c =
     let m = g.F.OrderedField.meaning in
     let P = exact m c.args.problem.now in
-    let kg = c.args.problem.now.goal.ok.0 in
     let w = c.in_ok-ended.ensures.ends.width in
     let cols : c.len-cols.result ≡ (g.T.Tableau.table c.run_phase.new.tableau).width =
-    let f = c.len-cols.ensures in omega (arith, f, kg, w) in
+    let f = c.len-cols.ensures in omega (arith, f, w) in
     cols_apart_end g.F.OrderedField.LIMIT P false c.args.made (g.T.Tableau.table c.args.tableau.now)
     (g.T.Tableau.table c.run_phase.new.tableau) c.in_ok-ended.ended.end c.in_ok-ended.ended.pivots c.requires.begins
     c.in_ok-ended.ensures.ends c.len-cols.result cols

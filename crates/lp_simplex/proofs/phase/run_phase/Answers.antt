@@ -6,7 +6,7 @@ use Rattle.lp_dictionary.specs.Build.{width_of}
 use Rattle.lp_dictionary.specs.Exact.{exact}
 use Rattle.lp_simplex.specs.Choices.{StepRefused}
 use Rattle.lp_simplex.proofs.phase.LoopSteps.{stands_first, refuses, capped_next, made_best, made_ray, made_next, made_less, made_left}
-use Rattle.lp_simplex.proofs.method.Counted.{rows_counted, cols_counted}
+use Rattle.lp_simplex.proofs.method.Counted.{rows_counted}
 use Rattle.lp_simplex.proofs.phase.run_phase.Goals as goal
 
 wide_by : (b : Bool) (n : ℕ) → n + bool_byte b ≡ width_of b n
@@ -18,13 +18,13 @@ loop-col-init g c =
     let m = g.F.OrderedField.meaning in
     let p = c.args.problem.now in
     let rows = rows_counted m p c.len-rows.result c.len-rows.ensures in
-    let cols = cols_counted p c.len.result c.len.ensures in
+    let cols = c.len.ensures in
     record {
       stands = stands_first g.F.OrderedField.LIMIT (exact m p) c.args.auxiliary c.args.made (g.T.Tableau.table c.args.tableau.now)
           c.requires.begins;
       fresh = c.requires.fresh;
       rows = rows;
-      width = ap₂ (λ x y. x + y) cols c.from.ensures ∙ wide_by c.args.auxiliary (length p.goal.items);
+      width = ap₂ (λ x y. x + y) cols c.from.ensures ∙ wide_by c.args.auxiliary (length p.goal);
     }
 
 pub returns-in_err-make_step-clause-refused : goal.returns-in_err-make_step-clause-refused

@@ -1,10 +1,12 @@
 use Rattle.std.proofs.Common.{true, [], ap, sym, ◌∙◌, subst}
 use Rattle.base_numbers.specs.Rational.{zero_ℚ, one_ℚ, neg_ℚ}
-use Rattle.lp_dictionary.specs.Build.{zeros, auxiliary_entries}
-use Rattle.lp_dictionary.proofs.listed.DictBuilds.{length-zeros}
+use Rattle.base_numbers.specs.Vector.{zeros}
+use Rattle.lp_dictionary.specs.Build.{auxiliary_entries}
+use Rattle.base_numbers.proofs.vector.Vectors.{length-zeros}
 use Rattle.lp_sparse.specs.Build.{end_pushed}
-use Rattle.lp_sparse.specs.Keeps.{Lists}
-use Rattle.lp_sparse.proofs.build.Listing.{lists_zeros, lists_end}
+use Rattle.lp_dictionary.specs.Keeps.{Lists}
+use Rattle.lp_dictionary.proofs.kept.Listing.{lists_zeros}
+use Rattle.lp_sparse.proofs.build.Listing.{lists_end}
 use Rattle.lp_sparse.proofs.build.auxiliary_row.Goals as goal
 
 pub returns : goal.returns

@@ -1,18 +1,26 @@
-use Rattle.std.proofs.Common.{◌+◌, ◌≤◌, length, map, take, sym, ◌∙◌, subst, arith}
-use Rattle.std.proofs.lemmas.List.{length-map, length-take-le}
-use Rattle.lp_sparse.specs.Build.{signed_by}
-use Rattle.lp_sparse.specs.Keeps.{Lists}
-use Rattle.lp_sparse.proofs.build.Listing.{lists_more}
+use Rattle.std.proofs.Common.{◌++◌, ◌∷◌, [], ◌∙◌, ap, sym, subst, subst₂, take}
+use Rattle.std.proofs.lemmas.List.{take_more, take_all}
+use Rattle.lp_dictionary.specs.declared.entry.Entry.{Entry}
+use Rattle.lp_sparse.specs.Build.{AreSigned}
+use Rattle.lp_sparse.proofs.build.Signed.{signed_push, lists_signed}
 use Rattle.lp_sparse.proofs.build.entries_of.Goals as goal
 
-pub loop-k-preserved : goal.loop-k-preserved
-loop-k-preserved g c =
+pub loop-entry-preserved : goal.loop-entry-preserved
+loop-entry-preserved g c =
     let m = g.F.OrderedField.meaning in
-    let vs = c.args.values.now in
-    let k = c.loop-k.k in
-    let within : c.loop-k.k ≤ length (map g.F.OrderedField.meaning c.args.values.now) =
-    let e = length-map vs m in let l = c.loop-k-test.true in omega (arith, e, l) in
-    let e = length-map (take k (map m vs)) (signed_by c.args.negated) ∙ length-take-le k (map m vs) within in
-    subst (λ es. Lists m (map (signed_by c.args.negated) (take (k + 1) (map m vs))) es) (sym c.in_ok-push_value.ensures)
-    (lists_more m c.args.negated vs k c.loop-k.entries.items c.index-values-k.result c.signed.result c.loop-k-test.true c.index-values-k.is
-    c.signed.ensures c.loop-k.invariant (sym e))
+    let b = c.args.negated in
+    let kept = c.entries-kept.result.now in
+    let i = c.loop-entry.entry-index in
+    let x = c.entry-item.result in
+    let y : Entry _ = record { col = x.col; value = c.signed.result } in
+    subst₂ (AreSigned m b) (ap (λ e. take i kept ++ e ∷ []) c.entry-item.is ∙ sym (take_more kept i x c.loop-entry-test.true))
+    (sym c.in_ok-push.ensures.items)
+    (signed_push m b (take i kept) c.loop-entry.entries.items x y c.loop-entry.invariant (λ _. x.col) c.signed.ensures)
+
+pub returns : goal.returns
+returns g c =
+    let m = g.F.OrderedField.meaning in
+    let kept = c.entries-kept.result.now in
+    lists_signed m c.args.negated c.args.coefficients.now kept c.loop-entry.entries.items c.entries-kept.ensures
+    (subst (λ xs. AreSigned m c.args.negated xs c.loop-entry.entries.items) (take_all c.loop-entry.entry-index kept c.loop-entry-test.false)
+    c.loop-entry.invariant)

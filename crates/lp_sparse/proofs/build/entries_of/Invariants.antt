@@ -1,9 +1,6 @@
-use Rattle.std.proofs.Common.{map, take}
-use Rattle.lp_sparse.specs.Build.{signed_by}
-use Rattle.lp_sparse.specs.Keeps.{Lists}
+use Rattle.std.proofs.Common.{take}
+use Rattle.lp_sparse.specs.Build.{AreSigned}
 use Rattle.lp_sparse.proofs.build.entries_of.Given as goal
 
-abbrev pub invariant-loop-k : goal.invariant-loop-k
-invariant-loop-k g l =
-    let m = g.F.OrderedField.meaning in
-    Lists m (map (signed_by l.negated) (take l.k (map m l.values))) l.entries.items
+abbrev pub invariant-loop-entry : goal.invariant-loop-entry
+invariant-loop-entry g l = AreSigned g.F.OrderedField.meaning l.negated (take l.entry-index l.kept) l.entries.items

@@ -2,7 +2,7 @@ use Rattle.std.proofs.Common.{◌≡◌, ◌<◌, ⊎_elim, set, length, ap, sym
 use Rattle.std.proofs.lemmas.Bool.{cases_lt}
 use Rattle.lp_sparse.specs.Entries.{left_out}
 use Rattle.lp_sparse.specs.Rows.{row_at}
-use Rattle.lp_sparse.proofs.place.RowsAt.{row_read, row_written, row_kept}
+use Rattle.lp_sparse.proofs.rows.RowsAt.{row_read, row_written, row_kept}
 use Rattle.lp_sparse.proofs.leave.leave_out_of_each.Goals as goal
 
 pub loop-i-preserved : goal.loop-i-preserved

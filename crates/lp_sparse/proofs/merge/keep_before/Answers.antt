@@ -1,9 +1,9 @@
 use Rattle.std.proofs.Common.{◌+◌, drop, eqb, get_or, ap, sym, ◌∙◌, subst, arith}
 use Rattle.std.proofs.lemmas.List.{drop_more, get_or_default}
-use Rattle.lp_sparse.specs.declared.entry.Entry.{Entry}
-use Rattle.lp_sparse.specs.Entries.{HasNoZero}
+use Rattle.lp_dictionary.specs.declared.entry.Entry.{Entry}
+use Rattle.lp_dictionary.specs.Entries.{HasNoZero}
 use Rattle.lp_sparse.specs.Merge.{kept, Merging}
-use Rattle.lp_sparse.proofs.merge.Lists.{no_zero_pushed}
+use Rattle.lp_dictionary.proofs.kept.Lists.{no_zero_pushed}
 use Rattle.lp_sparse.proofs.merge.Merging.{merging_kept}
 use Rattle.lp_sparse.proofs.merge.keep_before.Goals as goal
 

@@ -1,5 +1,5 @@
 use Rattle.std.proofs.Common.{◌-◌, ◌≤◌, length, drop}
-use Rattle.lp_sparse.specs.Entries.{HasNoZero}
+use Rattle.lp_dictionary.specs.Entries.{HasNoZero}
 use Rattle.lp_sparse.specs.Merge.{MergesOn}
 use Rattle.lp_sparse.proofs.merge.keep_before.Given as goal
 

@@ -3,9 +3,10 @@ use Rattle.std.proofs.lemmas.List.{drop_all}
 use Rattle.std.proofs.lemmas.Result.{err_from_is_err_and}
 use Rattle.lp_dictionary.specs.Formulas.{added_operations}
 use Rattle.lp_dictionary.specs.PivotOperations.{added_row_operations}
-use Rattle.lp_sparse.specs.Entries.{value_at, HasNoZero, head_value, pushed}
+use Rattle.lp_dictionary.specs.Entries.{value_at, HasNoZero, pushed}
+use Rattle.lp_sparse.specs.Entries.{head_value}
 use Rattle.lp_sparse.specs.Merge.{Merging}
-use Rattle.lp_sparse.proofs.merge.Lists.{no_zero_pushed}
+use Rattle.lp_dictionary.proofs.kept.Lists.{no_zero_pushed}
 use Rattle.lp_sparse.proofs.merge.Gaps.{left_all}
 use Rattle.lp_sparse.proofs.rows.Answering.{fault_of_more}
 use Rattle.lp_sparse.proofs.merge.Merging.{merging_none, merging_before, merging_entry, entry_refused, merging_last}

@@ -1,5 +1,5 @@
 use Rattle.std.proofs.Common.{ℕ, ◌≤◌, length, drop}
-use Rattle.lp_sparse.specs.Entries.{value_at, Rises, HasNoZero}
+use Rattle.lp_dictionary.specs.Entries.{value_at, Rises, HasNoZero}
 use Rattle.lp_sparse.specs.Merge.{Merging}
 use Rattle.lp_sparse.proofs.merge.merge.Given as goal
 

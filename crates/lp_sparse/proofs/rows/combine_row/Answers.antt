@@ -4,9 +4,9 @@ use Rattle.base_fractions.specs.Operation.{first_wide, operation_of}
 use Rattle.lp_dictionary.specs.Formulas.{combined_row}
 use Rattle.lp_dictionary.specs.PivotOperations.{added_row_operations, combination_row_operations}
 use Rattle.lp_dictionary.proofs.pivot_operations.RowSteps.{combined_still, combination_still, combined_sooner}
-use Rattle.lp_sparse.specs.Entries.{value_at, Rises}
-use Rattle.lp_sparse.specs.Keeps.{Keeps}
-use Rattle.lp_sparse.proofs.merge.Lists.{keeps_same, keeps_itself}
+use Rattle.lp_dictionary.specs.Entries.{value_at, Rises}
+use Rattle.lp_dictionary.specs.Keeps.{Keeps}
+use Rattle.lp_dictionary.proofs.kept.Lists.{keeps_same, keeps_itself}
 use Rattle.lp_sparse.proofs.rows.Answering.{fault_of_more}
 use Rattle.lp_sparse.proofs.rows.RowsOver.{combination_later}
 use Rattle.lp_sparse.proofs.rows.combine_row.Goals as goal

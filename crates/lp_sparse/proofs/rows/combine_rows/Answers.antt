@@ -4,10 +4,10 @@ use Rattle.base_fractions.specs.Operation.{first_wide}
 use Rattle.lp_dictionary.specs.Formulas.{combined_row}
 use Rattle.lp_dictionary.specs.Faults.{Refuses}
 use Rattle.lp_dictionary.specs.PivotOperations.{combination_row_operations}
-use Rattle.lp_sparse.specs.Entries.{value_at, Rises, HasNoZero}
-use Rattle.lp_sparse.specs.Keeps.{Keeps}
+use Rattle.lp_dictionary.specs.Entries.{value_at, Rises, HasNoZero}
+use Rattle.lp_dictionary.specs.Keeps.{Keeps}
 use Rattle.lp_sparse.specs.Rows.{numbers, rows_operations}
-use Rattle.lp_sparse.proofs.place.RowsAt.{row_read, row_kept}
+use Rattle.lp_sparse.proofs.rows.RowsAt.{row_read, row_kept}
 use Rattle.lp_sparse.proofs.rows.Answering.{fault_of_more}
 use Rattle.lp_sparse.proofs.rows.RowsOver.{rows_more, rows_past, no_zeros_more, fits_none, fits_more, fits_past, row_refused}
 use Rattle.lp_sparse.proofs.rows.combine_rows.Goals as goal

@@ -1,6 +1,6 @@
 use Rattle.std.proofs.Common.{◌≡◌, ℕ, ◌≤◌, None}
 use Rattle.base_fractions.specs.Operation.{first_wide}
-use Rattle.lp_sparse.specs.Entries.{value_at, Rises}
+use Rattle.lp_dictionary.specs.Entries.{value_at, Rises}
 use Rattle.lp_sparse.specs.Rows.{row_at, numbers, EachRises, NoZeros, CombinesRows, rows_operations}
 use Rattle.lp_sparse.proofs.rows.combine_rows.Given as goal
 

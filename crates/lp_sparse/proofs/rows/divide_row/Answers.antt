@@ -4,9 +4,9 @@ use Rattle.std.proofs.lemmas.Result.{err_from_is_err_and}
 use Rattle.base_fractions.specs.Operation.{Answers}
 use Rattle.lp_dictionary.specs.Formulas.{divided, divided_operations}
 use Rattle.lp_dictionary.specs.PivotOperations.{division_row_operations}
-use Rattle.lp_sparse.specs.declared.entry.Entry.{Entry}
-use Rattle.lp_sparse.specs.Entries.{value_at, HasNoZero}
-use Rattle.lp_sparse.proofs.merge.Lists.{no_zero_pushed}
+use Rattle.lp_dictionary.specs.declared.entry.Entry.{Entry}
+use Rattle.lp_dictionary.specs.Entries.{value_at, HasNoZero}
+use Rattle.lp_dictionary.proofs.kept.Lists.{no_zero_pushed}
 use Rattle.lp_sparse.proofs.merge.Gaps.{left_all}
 use Rattle.lp_sparse.proofs.rows.Answering.{pushed_value, passed_fault, fault_of_more}
 use Rattle.lp_sparse.proofs.rows.Dividing.{Dividing, dividing_none, dividing_more, dividing_refused, dividing_end}

@@ -1,5 +1,5 @@
 use Rattle.std.proofs.Common.{ℕ, drop}
-use Rattle.lp_sparse.specs.Entries.{value_at, Rises, HasNoZero}
+use Rattle.lp_dictionary.specs.Entries.{value_at, Rises, HasNoZero}
 use Rattle.lp_sparse.proofs.rows.Dividing.{Dividing}
 use Rattle.lp_sparse.proofs.rows.divide_row.Given as goal
 

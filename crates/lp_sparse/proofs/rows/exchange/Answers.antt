@@ -4,10 +4,10 @@ use Rattle.base_fractions.specs.Operation.{first_wide}
 use Rattle.lp_dictionary.specs.Formulas.{divided_row}
 use Rattle.lp_dictionary.specs.Faults.{Refuses}
 use Rattle.lp_dictionary.specs.PivotOperations.{division_row_operations}
-use Rattle.lp_sparse.specs.Entries.{value_at, Rises, HasNoZero}
-use Rattle.lp_sparse.specs.Keeps.{Keeps}
+use Rattle.lp_dictionary.specs.Entries.{value_at, Rises, HasNoZero}
+use Rattle.lp_dictionary.specs.Keeps.{Keeps}
 use Rattle.lp_sparse.specs.Rows.{row_at, numbers, rows_operations, exchange_operations}
-use Rattle.lp_sparse.proofs.place.RowsAt.{row_read}
+use Rattle.lp_sparse.proofs.rows.RowsAt.{row_read}
 use Rattle.lp_sparse.proofs.rows.Answering.{fault_of_more}
 use Rattle.lp_sparse.proofs.rows.RowsOver.{no_zeros_more}
 use Rattle.lp_sparse.proofs.rows.Exchanging.{col_below, exchange_made, exchange_later, exchange_sooner}

@@ -13,10 +13,10 @@ row_over-requires c =
 
 pub returns : goal.returns
 returns c = on_ok_both c.push_row.result c.push_row.ensures.coeffs c.push_row.ensures.sides
-    (λ e f form ls h s. stand_more c.args.span.now.cols _ _ _ _ ls c.in_ok-entries.entries.items c.args.side _ e f
+    (λ e f form ls h s. stand_more c.args.span.now.cols _ _ _ _ ls c.in_ok-entries.entries c.args.side _ e f
     (own_stands c.args.span.now.cols c.args.target c.args.span.now.list.now c.args.span.now.offset c.args.coeffs.now
     c.in_ok-turned.turned.items
-    c.in_ok-entries.entries.items c.one.result c.args.side form c.requires h.entries c.one.ensures.value c.in_ok-turned.ensures
+    c.in_ok-entries.entries c.one.result c.args.side form c.requires h.entries c.one.ensures.value c.in_ok-turned.ensures
     (c.in_ok-entries.ensures ∙ ap (λ u. dense_row c.args.span.now.cols (on_numbers c.one.result c.args.target c.args.span.now.list.now)
     c.args.span.now.offset u)
     c.as_slice.ensures.value)) s)

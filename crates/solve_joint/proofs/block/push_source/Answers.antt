@@ -12,10 +12,10 @@ returns-in_ok-entries-in-Fin c = on_ok_both c.push_row.result c.push_row.ensures
       source_finite (embedded (neg_ℚ one_ℚ) c.args.target c.args.span.now.list.now c.args.span.now.offset) n c.in-Fin.side
           c.args.row.now,
     )
-    (stand_more c.args.span.now.cols _ _ _ _ ls c.in_ok-entries-in-Fin.entries.items c.in-Fin.side _ e f
+    (stand_more c.args.span.now.cols _ _ _ _ ls c.in_ok-entries-in-Fin.entries c.in-Fin.side _ e f
     (source_stands c.args.span.now.cols c.args.target c.args.span.now.list.now c.args.span.now.offset n c.args.row.now
     c.in_ok-coeffs-in-Fin.coeffs.items
-    c.in_ok-entries-in-Fin.entries.items c.negate-minus_one.result c.in-Fin.side c.requires.fits l c.in_ok-coeffs-in-Fin.ensures
+    c.in_ok-entries-in-Fin.entries c.negate-minus_one.result c.in-Fin.side c.requires.fits l c.in_ok-coeffs-in-Fin.ensures
     (c.negate-minus_one.ensures.value ∙ ap neg_ℚ c.one.ensures.value)
     (c.in_ok-entries-in-Fin.ensures ∙ ap (λ u. dense_row c.args.span.now.cols (on_numbers c.negate-minus_one.result c.args.target
     c.args.span.now.list.now)

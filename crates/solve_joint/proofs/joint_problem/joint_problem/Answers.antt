@@ -16,7 +16,7 @@ returns-clause-problem c =
     let more = split_columns c.args.system.now c.args.pick.now c.args.list.now in
     let cols = c.count_columns-cols.result in
     let left : cols - n ≡ more = omega (arith, c.count_columns-cols.ensures.count) in
-    made_problem c.args.system.now c.args.pick.now c.args.base.now c.args.list.now cols _ _ c.in_ok-goal.goal.items c.requires.rises
+    made_problem c.args.system.now c.args.pick.now c.args.base.now c.args.list.now cols _ _ c.in_ok-goal.goal c.requires.rises
     c.requires.picked c.count_columns-cols.ensures.count c.in_ok-rows.ensures.0
     (c.in_ok-goal.ensures ∙ ap (λ m. ones n ++ zeros m) left)
 
@@ -28,7 +28,7 @@ returns-clause-shape c =
     let a = length-append (ones n) (zeros (cols - n)) in
     let o = length-ones n in
     let z = length-zeros (cols - n) in
-    let e : length c.in_ok-goal.goal.items ≡ cols = omega (arith, c.count_columns-cols.ensures.count, size, a, o, z) in
+    let e : length c.in_ok-goal.goal ≡ cols = omega (arith, c.count_columns-cols.ensures.count, size, a, o, z) in
     λ r l. row_length cols _ _ _ c.in_ok-rows.ensures.0 r l ∙ sym e
 
 pub returns-clause-few : goal.returns-clause-few
@@ -44,7 +44,7 @@ returns-clause-few c =
     let z = length-zeros (cols - n) in
     let rows = c.in_ok-rows.rows.items in
     let k = counted cols _ _ _ c.in_ok-rows.ensures.0 in
-    let m = length-map rows (λ r. r.coeffs.items) in
+    let m = length-map rows (λ r. r.coeffs) in
     let f = few_rows system pick c.args.base.now list 0 list c.requires.picked in
     let l = few_listed system pick list c.requires.rises c.requires.picked in
     let k0 = k.0 in

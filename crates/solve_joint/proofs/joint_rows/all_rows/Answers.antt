@@ -70,6 +70,6 @@ loop-unknown-preserved c =
     (subst (λ e. first_wide long_limit (side_of system base e (u % length system.template) u ∷ []) ≡ None) edge
     c.in_ok-push_block.ensures.side)
     (λ ls s. subst
-    (λ e. AllStand c.args.cols (map (λ r. r.coeffs.items) c.push_block.new.rows.items) (map (λ r. r.side) c.push_block.new.rows.items)
+    (λ e. AllStand c.args.cols (map (λ r. r.coeffs) c.push_block.new.rows.items) (map (λ r. r.side) c.push_block.new.rows.items)
     (ls ++ block_of system base list c.loop-unknown.offset e u))
     edge (c.in_ok-push_block.ensures.stands ls s))

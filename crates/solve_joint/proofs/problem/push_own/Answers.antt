@@ -51,7 +51,7 @@ returns-clause-stands c =
     } in
     let rows = c.push_own_row.new.rows.items in
     let span = c.args.span.now in
-    λ ls h. subst (λ r. AllStand span.cols (map (λ r. r.coeffs.items) rows) (map (λ r. r.side) rows)
+    λ ls h. subst (λ r. AllStand span.cols (map (λ r. r.coeffs) rows) (map (λ r. r.side) rows)
     (ls ++ own_of system c.args.at.now.base.now span.list.now span.offset edge r c.args.unknown ∷ [])) c.own_row-row.ensures.value
     (rw (sym side) (c.in_ok-push_own_row.ensures form ls same h))
 

@@ -39,7 +39,7 @@ loop-i-preserved c =
     row bound
     c.loop-i.invariant l e f
     (λ ls s. subst
-    (λ rs. AllStand c.args.span.now.cols (map (λ r. r.coeffs.items) c.push_source.new.rows.items) (map (λ r. r.side)
+    (λ rs. AllStand c.args.span.now.cols (map (λ r. r.coeffs) c.push_source.new.rows.items) (map (λ r. r.side)
     c.push_source.new.rows.items)
     (ls ++ source_limit (embedded (neg_ℚ one_ℚ) (c.args.point * length rs + i) c.args.span.now.list.now c.args.span.now.offset) n bound
     row []))

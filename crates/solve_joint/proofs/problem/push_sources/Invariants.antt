@@ -10,5 +10,5 @@ invariant-loop-i l =
     AreSources l.span.cols (λ r. embedded (neg_ℚ one_ℚ) (l.point * length l.at.system.now.template + r) l.span.list.now l.span.offset)
     (length l.at.system.now.flow.names)
     (vector_of (length l.at.system.now.template) l.at.base.now l.point) l.at.system.now.template
-    (map (λ r. r.coeffs.items) l.initial.rows.items) (map (λ r. r.side) l.initial.rows.items) (map (λ r. r.coeffs.items) l.rows.items)
+    (map (λ r. r.coeffs) l.initial.rows.items) (map (λ r. r.side) l.initial.rows.items) (map (λ r. r.coeffs) l.rows.items)
     (map (λ r. r.side) l.rows.items) l.i

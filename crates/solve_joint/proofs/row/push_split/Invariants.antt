@@ -3,4 +3,4 @@ use Rattle.theory_transformers.specs.JointProblems.{split_list}
 use Rattle.solve_joint.proofs.row.push_split.Given as goal
 
 abbrev pub invariant-loop-coefficient : goal.invariant-loop-coefficient
-invariant-loop-coefficient l = l.row.items ≡ l.initial.row.items ++ split_list (take l.coefficient-index l.coeffs)
+invariant-loop-coefficient l = l.row ≡ l.initial.row ++ split_list (take l.coefficient-index l.coeffs)

@@ -9,9 +9,9 @@ use Rattle.solve_transformer.proofs.split.split_row.Goals as goal
 pub loop-column-preserved : goal.loop-column-preserved
 loop-column-preserved c =
     pairs_range (λ k. get_or (map whole c.args.row.now) k zero_ℚ) c.loop-column.column c.row_entry-coeff.result c.negate.result
-    c.loop-column.list.items c.push.new.self.items c.push-in-loop-column.new.self.items c.loop-column.invariant
+    c.loop-column.list c.push.new.self c.push-in-loop-column.new.self c.loop-column.invariant
     c.row_entry-coeff.ensures
-    c.in_ok-push.ensures.items c.negate.ensures.value c.in_ok-push-2.ensures.items
+    c.in_ok-push.ensures.pushed c.negate.ensures.value c.in_ok-push-2.ensures.pushed
 
 pub returns : goal.returns
 returns c =

@@ -7,8 +7,8 @@ returns g c =
     let p = c.args.problem.now in
     let items = c.in_ok-push.ensures.items in
     record {
-      rows = subst (λ rs. All (λ r. length r.coeffs.items ≡ length p.goal.items) rs) (sym items)
-          (All-push (λ r. length r.coeffs.items ≡ length p.goal.items) p.rows.items (record { coeffs = c.args.coeffs; side = c.args.side })
+      rows = subst (λ rs. All (λ r. length r.coeffs ≡ length p.goal) rs) (sym items)
+          (All-push (λ r. length r.coeffs ≡ length p.goal) p.rows.items (record { coeffs = c.args.coeffs; side = c.args.side })
           c.requires.rows (omega arith));
       few = omega (arith, ap length items);
     }

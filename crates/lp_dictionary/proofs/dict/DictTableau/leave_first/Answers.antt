@@ -1,4 +1,4 @@
-use Rattle.std.proofs.Common.{◌≡◌, ◌+◌, ◌-◌, ◌*◌, ◌<◌, ◌++◌, suc, length, get_or, take, drop, sym, ap, ap₂, ◌∙◌, subst, arith}
+use Rattle.std.proofs.Common.{◌≡◌, ◌+◌, ◌-◌, ◌*◌, ◌<◌, suc, length, get_or, take, sym, ap, ap₂, ◌∙◌, subst, arith}
 use Rattle.lp_theory.specs.Table.{Agree}
 use Rattle.lp_theory.specs.Run.{place_of, leave_table}
 use Rattle.lp_dictionary.specs.Cells.{cells_table}

@@ -1,4 +1,4 @@
-use Rattle.std.proofs.Common.{◌≡◌, ◌+◌, ◌<◌, ◌++◌, suc, length, take, drop, sym, ap, ◌∙◌, subst, arith}
+use Rattle.std.proofs.Common.{◌≡◌, ◌+◌, suc, length, sym, ap, ◌∙◌, subst, arith}
 use Rattle.std.proofs.Common.{set}
 use Rattle.lp_theory.specs.Table.{Agree, pivot_table}
 use Rattle.base_fractions.specs.Operation.{first_wide}

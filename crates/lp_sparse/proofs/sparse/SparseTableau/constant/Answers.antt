@@ -1,6 +1,6 @@
 use Rattle.std.proofs.Common.{◌<◌, suc, length, sym, ◌∙◌, subst, arith}
-use Rattle.lp_sparse.specs.Entries.{Rises}
-use Rattle.lp_sparse.proofs.place.RowsAt.{row_is}
+use Rattle.lp_dictionary.specs.Entries.{Rises}
+use Rattle.lp_sparse.proofs.rows.RowsAt.{row_is}
 use Rattle.lp_sparse.proofs.sparse.SparseTableau.constant.Goals as goal
 
 pub value_in-requires : goal.value_in-requires

@@ -1,13 +1,13 @@
 use Rattle.std.proofs.Common.{◌≡◌, ◌≢◌, ℕ, ◌<◌, ⊎_elim, length, ap, sym, ◌∙◌, arith}
 use Rattle.std.proofs.lemmas.Bool.{cases_lt}
 use Rattle.std.proofs.lemmas.List.{get_or_default}
-use Rattle.lp_sparse.specs.declared.entry.Entry.{Entry}
-use Rattle.lp_sparse.specs.Entries.{col_at}
-use Rattle.lp_sparse.proofs.merge.Lists.{cols_rise, value_read, value_none}
-use Rattle.lp_sparse.proofs.place.RowsAt.{col_read}
-use Rattle.lp_sparse.proofs.place.value_in.Goals as goal
-use Rattle.lp_sparse.proofs.place.value_in.Goals.{else-place-entries-via-then-place-entries+else-entries-place}
-use Rattle.lp_sparse.proofs.place.value_in.Goals.{else-place-entries-via-else-place-entries}
+use Rattle.lp_dictionary.specs.declared.entry.Entry.{Entry}
+use Rattle.lp_dictionary.specs.Entries.{col_at}
+use Rattle.lp_dictionary.proofs.kept.Lists.{cols_rise, value_read, value_none}
+use Rattle.lp_dictionary.proofs.kept.Lists.{col_read}
+use Rattle.lp_dictionary.proofs.place.value_in.Goals as goal
+use Rattle.lp_dictionary.proofs.place.value_in.Goals.{else-place-entries-via-then-place-entries+else-entries-place}
+use Rattle.lp_dictionary.proofs.place.value_in.Goals.{else-place-entries-via-else-place-entries}
 
 pub returns-then-entries-place : goal.returns-then-entries-place
 returns-then-entries-place g c =

@@ -2,16 +2,11 @@
 use Rattle.std.proofs.Common.{◌≡◌, ◌≢◌, ℕ, ◌<◌, ◌≤◌, ◌∷◌, ◌++◌, List, [], length, map, get_or, set, ap, sym, ◌∙◌, subst, get_or-set_same}
 use Rattle.std.proofs.Common.{get_or-set_other}
 use Rattle.std.proofs.lemmas.List.{get_or-map, length-map, map-set, map_push, get_or_past, get_or_append_left, get_or_push}
-use Rattle.lp_sparse.specs.declared.entry.Entry.{Entry}
-use Rattle.lp_sparse.specs.declared.entry.SparseRow.{SparseRow}
-use Rattle.lp_sparse.specs.Entries.{col_at}
+use Rattle.lp_dictionary.specs.declared.entry.Entry.{Entry}
+use Rattle.lp_sparse.specs.declared.row.SparseRow.{SparseRow}
 use Rattle.lp_sparse.specs.Rows.{row_at}
 
 module _ {F : Type 0} where
-  -- the column of the entry that was read
-  pub col_read : (es : List (Entry F)) (i : ℕ) (e : Entry F) → i < length es → col_at es i ≡ (get_or es i e).col
-  col_read es i e l = get_or-map (λ (x : Entry F). x.col) es i e 0 l
-
   abbrev entries_of : SparseRow F → List (Entry F)
   entries_of r = r.entries.items
 

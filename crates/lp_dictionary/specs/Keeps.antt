@@ -1,8 +1,8 @@
 -- What a list of entries stands for.
 use Rattle.std.specs.Prelude.{◌≡◌, ℕ, ◌<◌, List, length, get_or}
 use Rattle.base_numbers.specs.Rational.{ℚ, zero_ℚ}
-use Rattle.lp_sparse.specs.declared.entry.Entry.{Entry}
-use Rattle.lp_sparse.specs.Entries.{value_at, Rises, HasNoZero}
+use Rattle.lp_dictionary.specs.declared.entry.Entry.{Entry}
+use Rattle.lp_dictionary.specs.Entries.{value_at, Rises, HasNoZero}
 
 -- the list rises, and has the numbers of f at the columns below n
 pub record Keeps {F : Type 0} (m : F → ℚ) (f : ℕ → ℚ) (n : ℕ) (es : List (Entry F)) : Type 0 where

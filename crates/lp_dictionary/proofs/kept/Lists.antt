@@ -6,9 +6,9 @@ use Rattle.std.proofs.lemmas.Bool.{cases_lt, cases_eq, eq-eqb, ne_eqb}
 use Rattle.base_numbers.specs.Rational.{ℚ, zero_ℚ}
 use Rattle.base_numbers.proofs.rational.Quotients.{zero_by_num}
 use Rattle.lp_dictionary.specs.Formulas.{is_zero, is_zero_num}
-use Rattle.lp_sparse.specs.declared.entry.Entry.{Entry}
-use Rattle.lp_sparse.specs.Entries.{value_at, Rises, HasNoZero, col_at, pushed}
-use Rattle.lp_sparse.specs.Keeps.{Keeps}
+use Rattle.lp_dictionary.specs.declared.entry.Entry.{Entry}
+use Rattle.lp_dictionary.specs.Entries.{value_at, Rises, HasNoZero, col_at, pushed}
+use Rattle.lp_dictionary.specs.Keeps.{Keeps}
 
 -- a number whose test for 0 holds, and one whose test doesn't
 zero_from : (q : ℚ) → is_zero q ≡ true → q ≡ zero_ℚ
@@ -41,6 +41,10 @@ module _ {F : Type 0} where
     omega (arith, r.1, h, b),
     rises_push (suc e.col) n n' k x es r.2 (omega (arith, r.1, h)) h b,
   )
+
+  -- the column of the entry that was read
+  pub col_read : (es : List (Entry F)) (i : ℕ) (e : Entry F) → i < length es → col_at es i ≡ (get_or es i e).col
+  col_read es i e l = get_or-map (λ (x : Entry F). x.col) es i e 0 l
 
   -- a later entry has a later column
   cols_above : (lo n i : ℕ) (es : List (Entry F)) → Rises lo n es → i < length es → lo ≤ col_at es i

@@ -1,9 +1,9 @@
 use Rattle.std.proofs.Common.{◌≡◌, ◌+◌, ◌-◌, ◌/◌, ◌<◌, ⊎_elim, length, ap, arith}
 use Rattle.std.proofs.lemmas.Bool.{cases_lt}
-use Rattle.lp_sparse.specs.Entries.{col_at}
-use Rattle.lp_sparse.proofs.merge.Lists.{cols_rise}
-use Rattle.lp_sparse.proofs.place.RowsAt.{col_read}
-use Rattle.lp_sparse.proofs.place.place_of.Goals as goal
+use Rattle.lp_dictionary.specs.Entries.{col_at}
+use Rattle.lp_dictionary.proofs.kept.Lists.{cols_rise}
+use Rattle.lp_dictionary.proofs.kept.Lists.{col_read}
+use Rattle.lp_dictionary.proofs.place.place_of.Goals as goal
 
 pub loop-low-preserved-then-entries-middle : goal.loop-low-preserved-then-entries-middle
 loop-low-preserved-then-entries-middle g c =

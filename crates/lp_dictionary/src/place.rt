@@ -1,6 +1,6 @@
 //! Entries by column.
 ghost use Rattle.std.specs.Prelude.{◌≡◌, ℕ, ◌<◌, ◌≤◌, length};
-ghost use Rattle.lp_sparse.specs.Entries.{value_at, col_at, IsRising};
+ghost use Rattle.lp_dictionary.specs.Entries.{value_at, col_at, IsRising};
 
 use crate::entry::Entry;
 use base_fractions::OrderedField;

@@ -1,6 +1,6 @@
 use Rattle.std.proofs.Common.{ℕ, ◌-◌, ◌<◌, ◌≤◌, length}
-use Rattle.lp_sparse.specs.Entries.{col_at}
-use Rattle.lp_sparse.proofs.place.place_of.Given as goal
+use Rattle.lp_dictionary.specs.Entries.{col_at}
+use Rattle.lp_dictionary.proofs.place.place_of.Given as goal
 
 abbrev pub invariant-loop-low : goal.invariant-loop-low
 invariant-loop-low g l = record {
