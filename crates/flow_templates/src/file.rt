@@ -1,7 +1,7 @@
 //! Row files.
 
-ghost use Rattle.std.specs.Prelude.{◌≡◌, ◌≢◌, ◌≤◌, ◌+◌, ◌++◌, ℤ, List, Result, length, map, nat_le, option_to_list, OnOk, IfOk, IfErr, IsTrue};
-ghost use Rattle.std.specs.Prelude.{Ok, Err};
+ghost use Rattle.std.specs.Prelude.{◌≡◌, ◌≢◌, ◌≤◌, ◌+◌, ◌++◌, ℤ, List, Result, length, map, nat_le, option_to_list, OnOk, IfOk, IfErr};
+ghost use Rattle.std.specs.Prelude.{IsTrue, Ok, Err};
 ghost use Rattle.std.specs.List.{list_all};
 ghost use Rattle.base_limits.specs.declared.limits.TheConstants.{MOST_TEXT_BYTES};
 ghost use Rattle.flow_templates.specs.declared.fault.RowFault.{RowFault};
