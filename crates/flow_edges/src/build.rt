@@ -20,10 +20,10 @@ use lang_tree::{Block, Program};
 use std::alloc::Global;
 
 /// The greatest number of edges.
-const MOST_EDGES: u32 = 256;
+const MOST_EDGES: u32 = 8192;
 
 /// The greatest number of actions of an edge.
-const MOST_ACTIONS: usize = 256;
+const MOST_ACTIONS: usize = 1024;
 
 /// The points and the edges of the program: exactly its paths, one edge for each way of choosing, in order of their
 /// points and, for one point, in order of the choices.
