@@ -17,3 +17,7 @@ pub const MOST_CELLS: u64 = 134217728;
 
 /// How many loops a generated program has at most.
 pub const MOST_LOOPS: u32 = 500;
+
+/// How many statements a text of the language has at most, which is what generated programs are written in: one of `MOST_LOOPS` loops
+/// has 2,003.
+pub const MOST_STATEMENTS: u32 = 2048;

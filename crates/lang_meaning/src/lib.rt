@@ -6,8 +6,6 @@
 
 mod fault;
 mod laws;
-mod limits;
 
 pub use fault::{Limit, ParseFault};
 pub use laws::{expressions_within_limits, one_expression, one_meaning, programs_within_limits};
-pub use limits::MOST_STATEMENTS;

@@ -12,8 +12,9 @@ ghost use Rattle.lang_meaning.specs.Gives.{Gives};
 ghost use Rattle.lang_reader.specs.Views.{state_of};
 
 use crate::names::NameTable;
+use base_limits::MOST_STATEMENTS;
 use lang_grammar::Demand;
-use lang_meaning::{Limit, MOST_STATEMENTS, ParseFault};
+use lang_meaning::{Limit, ParseFault};
 use lang_tokens::line_of;
 use lang_tree::{Form, MOST_VARIABLES, Name, Names, Stmt};
 use std::alloc::{AllocError, Global};

@@ -14,7 +14,7 @@ use Rattle.lang_tree.specs.Tree.{Statement, Statements, nil, cons, change_count,
 use Rattle.lang_meaning.specs.declared.fault.ParseFault.{ParseFault}
 use Rattle.lang_meaning.specs.declared.fault.ParseFault.TheVariants as fault
 use Rattle.lang_meaning.specs.declared.fault.Limit.TheVariants as limit
-use Rattle.lang_meaning.specs.declared.limits.TheConstants.{MOST_STATEMENTS}
+use Rattle.base_limits.specs.declared.limits.TheConstants.{MOST_STATEMENTS}
 use Rattle.lang_meaning.specs.Names.{place_of}
 use Rattle.lang_meaning.specs.Walk.{State, followed_by, one, counted, counted_for, labelled_by, number_if_known, known_number}
 use Rattle.lang_meaning.specs.Walk.{assignment, changed, change_nodes}

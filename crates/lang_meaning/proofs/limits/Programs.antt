@@ -23,7 +23,7 @@ use Rattle.lang_tree.specs.Tree.{Condition, Statement, Statements, nil, cons, ch
 use Rattle.lang_meaning.specs.declared.fault.ParseFault.{ParseFault}
 use Rattle.lang_meaning.specs.declared.fault.ParseFault.TheVariants as fault
 use Rattle.lang_meaning.specs.declared.fault.Limit.TheVariants as limit
-use Rattle.lang_meaning.specs.declared.limits.TheConstants.{MOST_STATEMENTS}
+use Rattle.base_limits.specs.declared.limits.TheConstants.{MOST_STATEMENTS}
 use Rattle.lang_meaning.specs.Results.{◌>>=◌}
 use Rattle.lang_meaning.specs.Names.{place_of}
 use Rattle.lang_meaning.specs.Forms.{constant_form, variable_form}

@@ -16,7 +16,7 @@ use Rattle.lang_tree.specs.Tree.{Condition, Statements, compare, while_loop, set
 use Rattle.lang_meaning.specs.Forms.{constant_form, variable_form, plus, minus}
 use Rattle.lang_meaning.specs.Walk.{State, followed_by, one, known_number, ranged}
 use Rattle.lang_meaning.specs.Feed.{Machine, at, under, of_items, of_loop, after, stands, feed, begin, result_of}
-use Rattle.lang_meaning.specs.declared.limits.TheConstants.{MOST_STATEMENTS}
+use Rattle.base_limits.specs.declared.limits.TheConstants.{MOST_STATEMENTS}
 use Rattle.lang_meaning.specs.Results.{◌>>=◌}
 use Rattle.out_workload.specs.declared.draws.Loop.{Loop}
 use Rattle.out_workload.specs.Draws.{following}

@@ -2,7 +2,7 @@
 use Rattle.std.proofs.Common.{◌≡◌, ◌≤◌, ◌+◌, ◌-◌, ◌*◌, ℕ, List, [], ◌∷◌, ◌++◌, length, map, min, None, Ok, refl, sym, ap, ◌∙◌, subst, arith}
 use Rattle.std.specs.Prelude.{decimal}
 use Rattle.std.proofs.lemmas.List.{append_assoc, append-nil, length-append, map-append}
-use Rattle.base_limits.specs.declared.limits.TheConstants.{MOST_LOOPS, MOST_PROGRAM_BYTES}
+use Rattle.base_limits.specs.declared.limits.TheConstants.{MOST_LOOPS, MOST_PROGRAM_BYTES, MOST_STATEMENTS}
 use Rattle.lang_tokens.specs.declared.lexicon.Lexicon.TheVariants.{Own}
 use Rattle.lang_tokens.specs.declared.token.Token as lex_token
 use Rattle.lang_tokens.specs.Lines.{line_at}
@@ -16,7 +16,6 @@ use Rattle.lang_grammar.specs.Faults.{whole}
 use Rattle.lang_grammar.proofs.faults.Scanned.{found_by}
 use Rattle.lang_meaning.specs.Feed.{Outcome, feed, begin, result_of}
 use Rattle.lang_meaning.specs.Walk.{followed_by}
-use Rattle.lang_meaning.specs.declared.limits.TheConstants.{MOST_STATEMENTS}
 use Rattle.lang_meaning.specs.Results.{◌>>=◌}
 use Rattle.lang_meaning.specs.Meaning.{Means}
 use Rattle.lang_feed.specs.Width.{total, mark}
