@@ -21,7 +21,7 @@ use Rattle.flow_edges.specs.declared.fault.FlowFault.{FlowFault}
 use Rattle.flow_edges.specs.declared.fault.FlowFault.TheVariants as fault
 use Rattle.flow_edges.specs.declared.point.Place.TheVariants.{Exit}
 use Rattle.flow_edges.specs.declared.point.Point.{Point}
-use Rattle.flow_edges.specs.declared.limits.TheConstants.{MOST_ACTIONS, MOST_ALL_ACTIONS, MOST_EDGES, MOST_POINTS}
+use Rattle.flow_edges.specs.declared.limits.TheConstants.{KEPT, MOST_ACTIONS, MOST_ALL_ACTIONS, MOST_EDGES, MOST_POINTS}
 use Rattle.flow_edges.specs.Points.{made_in, points_of_program}
 use Rattle.flow_edges.specs.Checks.{checks_in}
 use Rattle.flow_edges.specs.Counts.{no_jump_counts, way_count_in, edge_count_in, edge_count}
@@ -116,11 +116,8 @@ loops_ways : (n : ℕ) (ls : List Loop) (p e : ℕ) → p ≤ e
 loops_ways n [] p e h = ((omega arith, h), tt)
 loops_ways n (l ∷ ls) p e h = ((omega arith, omega arith), tt)
 
-take_short : (n : ℕ) (actions : List Action) → length (take n actions) ≤ length actions
-take_short n actions = omega (arith, length-take n actions)
-
 kept_short : (actions : List Action) → length (kept actions) ≤ length actions
-kept_short actions = take_short _ actions
+kept_short actions = omega (arith, length-take KEPT actions)
 
 reached_on : (p : ℕ) (ways : List Way) → Each (LeadsPast 4 p) ways → Each LeadsOn (reached (begun_at p) ways)
 reached_on p ways h = each-map (LeadsPast 4 p) LeadsOn (λ w. record { from = p; to = w.to; actions = kept w.actions })
