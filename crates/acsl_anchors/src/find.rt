@@ -1,7 +1,7 @@
 //! The anchors of a function: each token is given to the search (`search.rt`), whose goals are in `goal.rt`.
 
 ghost use Rattle.std.specs.Prelude.{◌≡◌, ◌≤◌, IfOk, List, length, slice_range};
-ghost use Rattle.base_limits.specs.declared.limits.TheConstants.{MOST_TEXT_BYTES};
+ghost use Rattle.base_limits.specs.declared.limits.TheConstants.{MOST_PROGRAM_BYTES};
 ghost use Rattle.lang_tokens.specs.TokenLists.{AreTokensOf};
 ghost use Rattle.source_grammar.specs.Grammar.{Function, Reads};
 ghost use Rattle.source_tokens.specs.View.{tokens_of};
@@ -26,7 +26,7 @@ pub fn anchors(
     first: usize,
     end: usize,
 ) -> Result<Vec<Anchor>, AllocError>
-    requires size { length text.now ≤ MOST_TEXT_BYTES }
+    requires size { length text.now ≤ MOST_PROGRAM_BYTES }
     requires tokens { AreTokensOf text.now tokens.now }
     requires order { first ≤ end }
     requires within { end ≤ length tokens.now }

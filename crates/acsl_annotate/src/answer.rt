@@ -1,7 +1,7 @@
 //! The annotated text of a file, or why there is none: a pure function, with no file and no stream.
 
 ghost use Rattle.std.specs.Prelude.{◌≡◌, ◌≤◌, ◌⊎◌, List, ℕ, [], length, map, string_bytes};
-ghost use Rattle.base_limits.specs.declared.limits.TheConstants.{MOST_IMPROVEMENTS, MOST_TEXT_BYTES};
+ghost use Rattle.base_limits.specs.declared.limits.TheConstants.{MOST_IMPROVEMENTS, MOST_PROGRAM_BYTES};
 ghost use Rattle.ask_files.specs.Files.{texts_of};
 ghost use Rattle.ask_words.specs.Request.{analysis_text, source_text};
 ghost use Rattle.ask_words.specs.declared.format.Format.{Format as FormatValue};
@@ -61,7 +61,7 @@ fn refused_answer(alloc: Global, ending: Ending) -> Answer
 
 // The annotated text of a program whose least bounds were found.
 fn written(alloc: Global, program: Source<&[u8]>, least: &LeastBounds) -> Answer
-    requires short { length program.text.now ≤ MOST_TEXT_BYTES }
+    requires short { length program.text.now ≤ MOST_PROGRAM_BYTES }
     requires found { (rows : Domain (List ℕ)) × (policy : PolicyValue) × (limit : ℕ)
         × IsFoundIn (source_text program) rows policy limit least.now }
     ensures says { (analysis : Analysis (List ℕ)) (format : FormatValue) → analysis.program ≡ source_text program.entry
@@ -78,7 +78,7 @@ fn written(alloc: Global, program: Source<&[u8]>, least: &LeastBounds) -> Answer
 
 // The annotated text of what an analysis reads.
 fn annotated<W: Watch>(alloc: Global, analysis: Analysis<&[u8]>, watch: &mut W) -> Answer
-    requires { IsWithin (analysis_text analysis) }
+    requires { IsWithin MOST_PROGRAM_BYTES (analysis_text analysis) }
     ensures says { (format : FormatValue)
         → Says (annotating exact (Analyse Report (analysis_text analysis.entry) format)) result.status result.bytes.items }
     ensures names { (format : FormatValue)

@@ -2,7 +2,7 @@
 
 ghost use Rattle.std.specs.Prelude.{◌≡◌, ◌≤◌, ◌<◌, ◌++◌, ◌∷◌, [], IfOk, IsTrue, List, ℕ, length};
 ghost use Rattle.std.specs.List.{All};
-ghost use Rattle.base_limits.specs.declared.limits.TheConstants.{MOST_TEXT_BYTES};
+ghost use Rattle.base_limits.specs.declared.limits.TheConstants.{MOST_PROGRAM_BYTES};
 ghost use Rattle.lang_tokens.specs.Reading.{Reads, end_at};
 ghost use Rattle.lang_tokens.specs.declared.lexicon.Lexicon.TheVariants.{C};
 ghost use Rattle.lang_tokens.specs.TokenLists.{AreTokensOf};
@@ -47,7 +47,7 @@ fn has_rows(system: &System)
 
 // The tokens of a text. One that was read as a program has some.
 fn text_tokens(alloc: Global, text: &[u8]) -> Result<Vec<Token>, AllocError>
-    requires { length text.now ≤ MOST_TEXT_BYTES }
+    requires { length text.now ≤ MOST_PROGRAM_BYTES }
     ensures reads { IfOk result (λ tokens. Reads C text.now tokens.items) }
     ensures placed { IfOk result (λ tokens. AreTokensOf text.now tokens.items) }
 {
@@ -63,7 +63,7 @@ fn function_asked(
     tokens: &[Token],
     program: Source<&[u8]>,
 ) -> Result<Chosen, AllocError>
-    requires size { length program.text.now ≤ MOST_TEXT_BYTES }
+    requires size { length program.text.now ≤ MOST_PROGRAM_BYTES }
     requires tokens { AreTokensOf program.text.now tokens.now }
     ensures order { IfOk result (λ c. c.function.first ≤ c.function.end) }
     ensures within { IfOk result (λ c. c.function.end ≤ length c.code.items) }
@@ -96,7 +96,7 @@ pub(crate) fn annotated_text(
     program: Source<&[u8]>,
     least: &LeastBounds,
 ) -> Result<Vec<u8>, AllocError>
-    requires short { length program.text.now ≤ MOST_TEXT_BYTES }
+    requires short { length program.text.now ≤ MOST_PROGRAM_BYTES }
     requires found { (rows : Domain (List ℕ)) × (policy : Policy) × (limit : ℕ)
         × IsFoundIn (source_text program) rows policy limit least.now }
     ensures { (rows : Domain (List ℕ)) (policy : Policy) (limit : ℕ) → IsFoundIn (source_text program.entry) rows policy limit least.now

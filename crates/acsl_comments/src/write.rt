@@ -1,7 +1,7 @@
 //! The text of a program with comments in it.
 
 ghost use Rattle.std.specs.Prelude.{◌≡◌, ◌≤◌, IfOk, length, map};
-ghost use Rattle.base_limits.specs.declared.limits.TheConstants.{MOST_TEXT_BYTES};
+ghost use Rattle.base_limits.specs.declared.limits.TheConstants.{MOST_PROGRAM_BYTES};
 ghost use Rattle.acsl_comments.specs.Places.{Ascend};
 ghost use Rattle.acsl_comments.specs.Texts.{with_comments};
 
@@ -14,7 +14,7 @@ pub fn with_comments(
     text: &[u8],
     comments: &[Comment],
 ) -> Result<Vec<u8>, AllocError>
-    requires size { length text.now ≤ MOST_TEXT_BYTES }
+    requires size { length text.now ≤ MOST_PROGRAM_BYTES }
     requires order { Ascend 0 (length text.now) (map (λ c. c.place) comments.now) }
     ensures { IfOk result (λ written. written.items ≡ with_comments 0 text.now comments.now) }
 {

@@ -1,7 +1,7 @@
 //! Verdicts on checks as lines.
 
 ghost use Rattle.std.specs.Prelude.{◌≡◌, ◌≤◌, ◌++◌, IfOk, length};
-ghost use Rattle.base_limits.specs.declared.limits.TheConstants.{MOST_TEXT_BYTES};
+ghost use Rattle.base_limits.specs.declared.limits.TheConstants.{MOST_PROGRAM_BYTES};
 ghost use Rattle.ask_checks.specs.Lines.{check_line, check_lines, checks_text, column_at, kind_text};
 
 use ask_verdicts::{Verdict, push_counts, push_verdict};
@@ -14,7 +14,7 @@ use std::alloc::{AllocError, Global};
 
 /// The column of the byte at a place, counted from 1 in bytes since its line begins; `at` counts the bytes before it.
 pub fn column_of(text: &[u8], at: u32) -> u32
-    requires { length text.now ≤ MOST_TEXT_BYTES }
+    requires { length text.now ≤ MOST_PROGRAM_BYTES }
     ensures { result ≡ column_at text.now at }
 {
     let before = &text[..text.len().min(at as usize)];
@@ -47,7 +47,7 @@ fn push_check(
     check: &CheckCases,
     verdict: &Verdict,
 ) -> Result<(), AllocError>
-    requires { length text.now ≤ MOST_TEXT_BYTES }
+    requires { length text.now ≤ MOST_PROGRAM_BYTES }
     ensures { IfOk result (λ _. out.new.items ≡ out.old.items ++ check_line text.now names.now number check.now verdict.now) }
 {
     let at = check.check.at;
@@ -73,7 +73,7 @@ fn push_checks(
     checks: &[CheckCases],
     verdicts: &[Verdict],
 ) -> Result<(), AllocError>
-    requires { length text.now ≤ MOST_TEXT_BYTES }
+    requires { length text.now ≤ MOST_PROGRAM_BYTES }
     ensures { IfOk result (λ _. out.new.items ≡ out.old.items ++ check_lines text.now names.now 0 checks.now verdicts.now) }
 {
     for number in 0..checks.len().min(verdicts.len()) {
@@ -93,7 +93,7 @@ pub fn checks_text(
     verdicts: &[Verdict],
     improvements: u32,
 ) -> Result<Vec<u8>, AllocError>
-    requires { length text.now ≤ MOST_TEXT_BYTES }
+    requires { length text.now ≤ MOST_PROGRAM_BYTES }
     ensures { IfOk result (λ out. out.items ≡ checks_text text.now names.now checks.now verdicts.now improvements) }
 {
     let mut out = Vec::new(alloc);

@@ -1,7 +1,7 @@
 -- The files of a request in the order of their loads, which of them isn't read, and the request with what they hold in place of names.
 use Rattle.std.specs.Prelude.{◌+◌, ℕ, List, [], ◌∷◌, Option, Some, None, length, map, nat_lt, slice_get, unwrap_or, if◌then◌else◌}
 use Rattle.std.specs.Borrow.{Bor}
-use Rattle.base_limits.specs.declared.limits.TheConstants.{MOST_CERTIFICATE_BYTES, MOST_TEXT_BYTES}
+use Rattle.base_limits.specs.declared.limits.TheConstants.{MOST_CERTIFICATE_BYTES, MOST_PROGRAM_BYTES, MOST_TEXT_BYTES}
 use Rattle.ask_words.specs.declared.request.Analysis.{Analysis}
 use Rattle.ask_words.specs.declared.request.Domain.{Domain}
 use Rattle.ask_words.specs.declared.request.Domain.TheVariants.{Intervals, Zones, Octagons, Rows}
@@ -43,10 +43,10 @@ files_of (Functions file) = (which.Program, file) ∷ []
 files_of (Verify name analysis format) = (which.Program, analysis.program.text) ∷ rows_before analysis.domain []
 files_of (Help topic) = []
 
--- how many bytes a file may have: 65,536, and a certificate 16,777,216
+-- how many bytes a file may have: a program 1,048,576, a certificate 16,777,216, and any other 65,536
 abbrev pub most_bytes : Which → ℕ
+most_bytes which.Program = MOST_PROGRAM_BYTES
 most_bytes which.Certificate = MOST_CERTIFICATE_BYTES
-most_bytes which.Program = MOST_TEXT_BYTES
 most_bytes which.Rows = MOST_TEXT_BYTES
 most_bytes which.Claims = MOST_TEXT_BYTES
 most_bytes which.System = MOST_TEXT_BYTES

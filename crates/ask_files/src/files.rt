@@ -9,7 +9,7 @@ ghost use Rattle.ask_files.specs.declared.which.Which.TheVariants.{Claims};
 
 use crate::which::{ReadCause, Which};
 use ask_words::{Analysis, Domain, Request, Source, WordsFault, read_words};
-use base_limits::{MOST_CERTIFICATE_BYTES, MOST_TEXT_BYTES};
+use base_limits::{MOST_CERTIFICATE_BYTES, MOST_PROGRAM_BYTES, MOST_TEXT_BYTES};
 use std::alloc::{AllocError, Global};
 
 /// A file of a request.
@@ -20,15 +20,14 @@ pub struct NamedFile<'a> {
     pub name: &'a str,
 }
 
-/// How many bytes a file may have: 65,536, and a certificate 16,777,216.
+/// How many bytes a file may have: a program 1,048,576, a certificate 16,777,216, and any other 65,536.
 pub fn most_bytes(which: Which) -> usize
     ensures { result ≡ most_bytes which }
 {
     match which {
+        Which::Program => MOST_PROGRAM_BYTES,
         Which::Certificate => MOST_CERTIFICATE_BYTES,
-        Which::Program | Which::Rows | Which::Claims | Which::System | Which::Equations => {
-            MOST_TEXT_BYTES
-        }
+        Which::Rows | Which::Claims | Which::System | Which::Equations => MOST_TEXT_BYTES,
     }
 }
 

@@ -2,7 +2,7 @@
 
 ghost use Rattle.std.specs.Prelude.{◌≡◌, ◌≤◌, ◌∷◌, ◌++◌, IfOk, codes, decimal, false, true, length};
 ghost use Rattle.json.specs.Print.{quoted};
-ghost use Rattle.base_limits.specs.declared.limits.TheConstants.{MOST_TEXT_BYTES};
+ghost use Rattle.base_limits.specs.declared.limits.TheConstants.{MOST_PROGRAM_BYTES};
 ghost use Rattle.serde_json.specs.Written.{comma_if, compact_text, items_text, members_text};
 ghost use Rattle.ask_checks.specs.Lines.{column_at, kind_text};
 ghost use Rattle.out_json.specs.Pieces.{value_line};
@@ -58,7 +58,7 @@ fn push_last(
 
 /// Appends the column of a check as the first member of an object.
 fn push_column(out: &mut Vec<u8>, text: &[u8], at: u32) -> Result<(), AllocError>
-    requires { length text.now ≤ MOST_TEXT_BYTES }
+    requires { length text.now ≤ MOST_PROGRAM_BYTES }
     ensures { IfOk result (λ _. out.new.items
         ≡ out.old.items ++ (comma_if false ++ (quoted (codes "column") ++ 58 ∷ decimal (column_at text.now at)))) }
 {
@@ -74,7 +74,7 @@ fn push_members(
     check: Check,
     verdict: &Verdict,
 ) -> Result<(), AllocError>
-    requires { length text.now ≤ MOST_TEXT_BYTES }
+    requires { length text.now ≤ MOST_PROGRAM_BYTES }
     ensures { IfOk result (λ _. out.new.items
         ≡ out.old.items ++ members_text false (check_members text.now names.now check verdict.now)) }
 {
@@ -93,7 +93,7 @@ fn push_check(
     check: Check,
     verdict: &Verdict,
 ) -> Result<(), AllocError>
-    requires { length text.now ≤ MOST_TEXT_BYTES }
+    requires { length text.now ≤ MOST_PROGRAM_BYTES }
     ensures { IfOk result (λ _. out.new.items ≡ out.old.items ++ compact_text (check_value text.now names.now check verdict.now)) }
 {
     out.extend_from_slice(b"{")?;
@@ -110,7 +110,7 @@ fn push_checks(
     checks: &[CheckCases],
     verdicts: &[Verdict],
 ) -> Result<(), AllocError>
-    requires { length text.now ≤ MOST_TEXT_BYTES }
+    requires { length text.now ≤ MOST_PROGRAM_BYTES }
     ensures { IfOk result (λ _. out.new.items
         ≡ out.old.items ++ items_text false (check_values text.now names.now checks.now verdicts.now)) }
 {
@@ -139,7 +139,7 @@ fn push_line(
     verdicts: &[Verdict],
     improvements: u32,
 ) -> Result<(), AllocError>
-    requires { length text.now ≤ MOST_TEXT_BYTES }
+    requires { length text.now ≤ MOST_PROGRAM_BYTES }
     ensures { IfOk result (λ _. out.new.items
         ≡ out.old.items ++ value_line (checks_value text.now names.now checks.now verdicts.now improvements)) }
 {
@@ -159,7 +159,7 @@ pub fn checks_json(
     verdicts: &[Verdict],
     improvements: u32,
 ) -> Result<Vec<u8>, AllocError>
-    requires { length text.now ≤ MOST_TEXT_BYTES }
+    requires { length text.now ≤ MOST_PROGRAM_BYTES }
     ensures { IfOk result (λ out. out.items ≡ value_line (checks_value text.now names.now checks.now verdicts.now improvements)) }
 {
     let mut out = Vec::new(alloc);

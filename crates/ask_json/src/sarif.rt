@@ -1,7 +1,7 @@
 //! Open checks as SARIF.
 
 ghost use Rattle.std.specs.Prelude.{◌≡◌, ◌≤◌, ◌∷◌, ◌++◌, IfOk, codes, false, true, length};
-ghost use Rattle.base_limits.specs.declared.limits.TheConstants.{MOST_TEXT_BYTES};
+ghost use Rattle.base_limits.specs.declared.limits.TheConstants.{MOST_PROGRAM_BYTES};
 ghost use Rattle.json.specs.Print.{quoted};
 ghost use Rattle.serde_json.specs.Data.{item, no_items, object, string};
 ghost use Rattle.serde_json.specs.Written.{comma_if, compact_text, items_text, members_text};
@@ -32,7 +32,7 @@ fn push_only(out: &mut Vec<u8>, key: &[u8], text: &[u8]) -> Result<(), AllocErro
 
 /// Appends where in a text a place is.
 fn push_region(out: &mut Vec<u8>, text: &[u8], at: u32) -> Result<(), AllocError>
-    requires { length text.now ≤ MOST_TEXT_BYTES }
+    requires { length text.now ≤ MOST_PROGRAM_BYTES }
     ensures { IfOk result (λ _. out.new.items ≡ out.old.items ++ compact_text (region text.now at)) }
 {
     out.extend_from_slice(b"{")?;
@@ -54,7 +54,7 @@ fn push_artifact(out: &mut Vec<u8>, uri: &[u8]) -> Result<(), AllocError>
 
 /// Appends where in a text a place is, as the last member of an object.
 fn push_last_region(out: &mut Vec<u8>, text: &[u8], at: u32) -> Result<(), AllocError>
-    requires { length text.now ≤ MOST_TEXT_BYTES }
+    requires { length text.now ≤ MOST_PROGRAM_BYTES }
     ensures { IfOk result (λ _. out.new.items ≡ out.old.items ++ members_text true (region_members text.now at)) }
 {
     push_key(out, true, b"region")?;
@@ -65,7 +65,7 @@ fn push_last_region(out: &mut Vec<u8>, text: &[u8], at: u32) -> Result<(), Alloc
 
 /// Appends the members of a place in the file of this URI.
 fn push_physical(out: &mut Vec<u8>, uri: &[u8], text: &[u8], at: u32) -> Result<(), AllocError>
-    requires { length text.now ≤ MOST_TEXT_BYTES }
+    requires { length text.now ≤ MOST_PROGRAM_BYTES }
     ensures { IfOk result (λ _. out.new.items
         ≡ out.old.items ++ members_text false (physical_members uri.now text.now at)) }
 {
@@ -76,7 +76,7 @@ fn push_physical(out: &mut Vec<u8>, uri: &[u8], text: &[u8], at: u32) -> Result<
 
 /// Appends a place in the file of this URI as an object.
 fn push_place(out: &mut Vec<u8>, uri: &[u8], text: &[u8], at: u32) -> Result<(), AllocError>
-    requires { length text.now ≤ MOST_TEXT_BYTES }
+    requires { length text.now ≤ MOST_PROGRAM_BYTES }
     ensures { IfOk result (λ _. out.new.items
         ≡ out.old.items ++ compact_text (object (physical_members uri.now text.now at))) }
 {
@@ -87,7 +87,7 @@ fn push_place(out: &mut Vec<u8>, uri: &[u8], text: &[u8], at: u32) -> Result<(),
 
 /// Appends the location of a check in the file of this URI.
 fn push_location(out: &mut Vec<u8>, uri: &[u8], text: &[u8], at: u32) -> Result<(), AllocError>
-    requires { length text.now ≤ MOST_TEXT_BYTES }
+    requires { length text.now ≤ MOST_PROGRAM_BYTES }
     ensures { IfOk result (λ _. out.new.items ≡ out.old.items ++ compact_text (location uri.now text.now at)) }
 {
     out.extend_from_slice(b"{")?;
@@ -99,7 +99,7 @@ fn push_location(out: &mut Vec<u8>, uri: &[u8], text: &[u8], at: u32) -> Result<
 
 /// Appends the one location of a check, and the bracket that closes their list.
 fn push_locations(out: &mut Vec<u8>, uri: &[u8], text: &[u8], at: u32) -> Result<(), AllocError>
-    requires { length text.now ≤ MOST_TEXT_BYTES }
+    requires { length text.now ≤ MOST_PROGRAM_BYTES }
     ensures { IfOk result (λ _. out.new.items
         ≡ out.old.items ++ items_text false (item (location uri.now text.now at) no_items)) }
 {
@@ -319,7 +319,7 @@ pub fn checks_sarif(
     checks: &[CheckCases],
     verdicts: &[Verdict],
 ) -> Result<Vec<u8>, AllocError>
-    requires { length text.now ≤ MOST_TEXT_BYTES }
+    requires { length text.now ≤ MOST_PROGRAM_BYTES }
     ensures { IfOk result (λ out. out.items ≡ value_line (sarif_value file.now text.now names.now checks.now verdicts.now)) }
 {
     let uri = uri_of(alloc, file)?;

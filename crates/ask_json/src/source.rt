@@ -1,6 +1,6 @@
 //! Programs in files.
 
-ghost use Rattle.base_limits.specs.declared.limits.TheConstants.{MOST_TEXT_BYTES};
+ghost use Rattle.base_limits.specs.declared.limits.TheConstants.{MOST_PROGRAM_BYTES};
 ghost use Rattle.std.specs.Prelude.{◌≤◌, length};
 
 use lang_tree::Name;
@@ -13,5 +13,5 @@ pub(crate) struct Source<'a> {
     pub uri: &'a [u8],
     pub text: &'a [u8],
     pub names: &'a [Name],
-    pub ghost short: { length text.now ≤ MOST_TEXT_BYTES },
+    pub ghost short: { length text.now ≤ MOST_PROGRAM_BYTES },
 }

@@ -162,7 +162,7 @@ about page.Check = codes "  PROGRAM          a C file\n"
     ++ codes "  --int N          " ++ about_integers (codes "                   ")
     ++ codes "  --format F       how it is written: text if absent, or json\n"
 about page.Bench = codes "  --seed N   from which the program is drawn, 0 to 2147483647\n"
-    ++ codes "  --loops K  how many loops it has, 1 to 46\n"
+    ++ codes "  --loops K  how many loops it has, 1 to 500\n"
 about page.Upgrade = codes "  CERT  a certificate, in any format\n"
 about page.Prove = codes "  PROGRAM           a C file\n"
     ++ codes "  CLAIMS            a file of claims, as LABEL: x <= 10;\n"

@@ -8,7 +8,7 @@ use Rattle.std.specs.Borrow.{Bor}
 use Rattle.base_integers.specs.declared.integers.Integers.TheVariants.{Mathematical, Machine}
 use Rattle.base_integers.specs.declared.integers.Width.{Width}
 use Rattle.base_integers.specs.declared.integers.Width.TheVariants.{Bits8, Bits16, Bits32}
-use Rattle.base_limits.specs.declared.limits.TheConstants.{MOST_IMPROVEMENTS}
+use Rattle.base_limits.specs.declared.limits.TheConstants.{MOST_IMPROVEMENTS, MOST_LOOPS}
 use Rattle.clap.specs.Words.{App, Kinds, Row, Rule, Text, fault_of, first_of, new_app, new_rule, subcommand_of, with_rule, with_subcommand}
 use Rattle.clap.specs.Simple.{on_top}
 use Rattle.clap.specs.declared.builder.action.ArgAction.TheVariants.{SetTrue}
@@ -203,10 +203,10 @@ abbrev pub check_in : List Row → Option (Request Text)
 check_in given = option_and_then (λ program. option_and_then (λ certificate. option_map (λ format. Check program certificate format)
     (format_in formats given)) (first_of (codes "certificate") given)) (source_in given)
 
--- `bench`: a seed up to 2^31 - 1, and 1 to 46 loops
+-- `bench`: a seed up to 2^31 - 1, and 1 to 500 loops
 abbrev pub bench_in : List Row → Option (Request Text)
 bench_in given = option_and_then (λ seed. option_map (λ loops. Bench seed loops)
-    (option_and_then (number_in 1 46) (first_of (codes "loops") given)))
+    (option_and_then (number_in 1 MOST_LOOPS) (first_of (codes "loops") given)))
     (option_and_then (number_in 0 2147483647) (first_of (codes "seed") given))
 
 -- `upgrade`: a certificate

@@ -123,7 +123,7 @@ const BENCH: &[u8] = b"Solves a generated program, and prints a summary of what 
 usage: tmpl bench --seed N --loops K
 
   --seed N   from which the program is drawn, 0 to 2147483647
-  --loops K  how many loops it has, 1 to 46
+  --loops K  how many loops it has, 1 to 500
 
 example: tmpl bench --seed 1 --loops 10
 

@@ -12,7 +12,7 @@ use crate::format::Format;
 use crate::help::{Topic, topic_of};
 use crate::values::{check_format, domain, integers, number, plain_format, policy};
 use base_integers::Integers;
-use base_limits::MOST_IMPROVEMENTS;
+use base_limits::{MOST_IMPROVEMENTS, MOST_LOOPS};
 use clap::ArgMatches;
 
 /// By which rule an edge is picked for an unknown whose bound is improved.
@@ -78,7 +78,7 @@ pub enum Request<T> {
         certificate: T,
         format: Format,
     },
-    /// Solve a generated program. The seed is below 2^31, and there are 1 to 46 loops.
+    /// Solve a generated program. The seed is below 2^31, and there are 1 to `MOST_LOOPS` loops.
     Bench {
         seed: u32,
         loops: u32,
@@ -257,7 +257,7 @@ fn bench<'a>(given: &ArgMatches<'_>) -> Option<Request<&'a str>>
     ensures { option_map request_text result ≡ bench_in (rows_of (found_of given.now)) }
 {
     let seed = number(value(given, "seed")?, 0, 2_147_483_647)?;
-    let loops = number(value(given, "loops")?, 1, 46)?;
+    let loops = number(value(given, "loops")?, 1, MOST_LOOPS)?;
     Some(Request::Bench { seed, loops })
 }
 

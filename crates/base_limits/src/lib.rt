@@ -1,6 +1,9 @@
-//! Limits that several layers know: of texts, of improvements and of joint problems.
+//! Limits that several layers know: of texts, of improvements, of joint problems and of generated programs.
 #![tactic(auto)]
 
 mod limits;
 
-pub use limits::{MOST_CELLS, MOST_CERTIFICATE_BYTES, MOST_IMPROVEMENTS, MOST_TEXT_BYTES};
+pub use limits::{
+    MOST_CELLS, MOST_CERTIFICATE_BYTES, MOST_IMPROVEMENTS, MOST_LOOPS, MOST_PROGRAM_BYTES,
+    MOST_STATEMENTS, MOST_TEXT_BYTES,
+};

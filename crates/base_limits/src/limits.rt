@@ -1,6 +1,9 @@
 //! The limits (docs/FORMATS.md, "Limits").
 
-/// How many bytes a text has at most: a program, a file of rows or of claims, a transition system, equations.
+/// How many bytes a program has at most.
+pub const MOST_PROGRAM_BYTES: usize = 1048576;
+
+/// How many bytes any other text has at most: a file of rows or of claims, a transition system, equations.
 pub const MOST_TEXT_BYTES: usize = 65536;
 
 /// How many bytes a certificate has at most.
@@ -11,3 +14,10 @@ pub const MOST_IMPROVEMENTS: u32 = 1000000;
 
 /// How many cells a joint problem has at most that is solved by the simplex method.
 pub const MOST_CELLS: u64 = 134217728;
+
+/// How many loops a generated program has at most.
+pub const MOST_LOOPS: u32 = 500;
+
+/// How many statements a text of the language has at most, which is what generated programs are written in: one of `MOST_LOOPS` loops
+/// has 2,003.
+pub const MOST_STATEMENTS: u32 = 2048;

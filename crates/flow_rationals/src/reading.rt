@@ -41,7 +41,7 @@ fn tokens_of(alloc: Global, text: &[u8]) -> Result<Vec<Token>, EquFault>
     requires { length text.now ≤ MOST_TEXT_BYTES }
     ensures reads { IfOk result (λ tokens. Reads Own text.now tokens.items) }
     ensures within { IfOk result (λ tokens. AllWithin text.now tokens.items) }
-    ensures few { IfOk result (λ tokens. length tokens.items ≤ 65537) }
+    ensures few { IfOk result (λ tokens. length tokens.items ≤ MOST_TEXT_BYTES + 1) }
     ensures refused { IfErr result (λ fault. fault ≢ NoMemory → Answers text.now (Err fault)) }
     ensures alone { IfErr result (λ fault. fault ≢ NoMemory → (right : Result (List Equation) EquFault) → Answers text.now right
         → right ≡ Err fault) }
@@ -60,7 +60,7 @@ fn spelled(alloc: Global, text: &[u8]) -> Result<Vec<Written>, EquFault>
     requires { length text.now ≤ MOST_TEXT_BYTES }
     ensures reads { IfOk result (λ es. ReadsWritten text.now es.items) }
     ensures only { IfOk result (λ es. (other : List Written) → ReadsWritten text.now other → es.items ≡ other) }
-    ensures few { IfOk result (λ es. length es.items + choice_count es.items ≤ 65537) }
+    ensures few { IfOk result (λ es. length es.items + choice_count es.items ≤ MOST_TEXT_BYTES + 1) }
     ensures refused { IfErr result (λ fault. fault ≢ NoMemory → Answers text.now (Err fault)) }
     ensures alone { IfErr result (λ fault. fault ≢ NoMemory → (right : Result (List Equation) EquFault) → Answers text.now right
         → right ≡ Err fault) }

@@ -1,7 +1,7 @@
 //! Row files.
 
-ghost use Rattle.std.specs.Prelude.{◌≡◌, ◌≢◌, ◌≤◌, ◌++◌, ℤ, List, Result, length, map, nat_le, option_to_list, OnOk, IfOk, IfErr, IsTrue};
-ghost use Rattle.std.specs.Prelude.{Ok, Err};
+ghost use Rattle.std.specs.Prelude.{◌≡◌, ◌≢◌, ◌≤◌, ◌+◌, ◌++◌, ℤ, List, Result, length, map, nat_le, option_to_list, OnOk, IfOk, IfErr};
+ghost use Rattle.std.specs.Prelude.{IsTrue, Ok, Err};
 ghost use Rattle.std.specs.List.{list_all};
 ghost use Rattle.base_limits.specs.declared.limits.TheConstants.{MOST_TEXT_BYTES};
 ghost use Rattle.flow_templates.specs.declared.fault.RowFault.{RowFault};
@@ -35,7 +35,7 @@ fn add(rows: &mut Vec<Coeffs>, read: Option<Coeffs>) -> Result<(), AllocError>
 
 // The rows of the lines.
 fn rows_of(alloc: Global, lines: &[&[u8]], names: &[Name]) -> Result<Vec<Coeffs>, RowFault>
-    requires few { length lines.now ≤ 65537 }
+    requires few { length lines.now ≤ MOST_TEXT_BYTES + 1 }
     requires short { IsTrue (list_all (λ line. nat_le (length line.now) MOST_TEXT_BYTES) lines.now) }
     ensures rows { IfOk result (λ rows. LinesRead names.now (map (λ line. line.now) lines.now) rows.items) }
     ensures few { IfOk result (λ rows. length rows.items ≤ length lines.now) }

@@ -62,4 +62,4 @@ seen_at text tokens i = seen_or_end text (slice_get tokens i)
 pub record IsSource (text : List ℕ) (tokens : List Token) : Type 0 where
   pub size : length text ≤ MOST_TEXT_BYTES
   pub tokens_of : AreTokensOf text tokens
-  pub few : length tokens ≤ 65537
+  pub few : length tokens ≤ MOST_TEXT_BYTES + 1

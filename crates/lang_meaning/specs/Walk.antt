@@ -29,6 +29,7 @@ use Rattle.lang_meaning.specs.declared.fault.ParseFault.TheVariants.{OutsideLoop
 use Rattle.lang_meaning.specs.declared.fault.ParseFault.TheVariants as fault
 use Rattle.lang_meaning.specs.declared.fault.Limit.TheVariants.{Variables, Leaves}
 use Rattle.lang_meaning.specs.declared.fault.Limit.TheVariants as limit
+use Rattle.base_limits.specs.declared.limits.TheConstants.{MOST_STATEMENTS}
 use Rattle.lang_meaning.specs.Results.{◌>>=◌}
 use Rattle.lang_meaning.specs.Names.{place_of}
 use Rattle.lang_meaning.specs.Forms.{constant_form, variable_form, plus, minus, scaled, is_constant, is_comparable}
@@ -60,7 +61,7 @@ one n = cons n nil
 
 -- one node more, which begins at this place
 abbrev pub counted : ℕ → State → Result State ParseFault
-counted a st = if nat_lt st.count 512 then Ok (record st { count = suc st.count }) else Err (fault.Limit a limit.Statements)
+counted a st = if nat_lt st.count MOST_STATEMENTS then Ok (record st { count = suc st.count }) else Err (fault.Limit a limit.Statements)
 
 -- a label
 abbrev pub labelled_by : List ℕ → ℕ → State → Result State ParseFault

@@ -12,7 +12,7 @@ pub enum Limit {
     Nesting,
     /// `MOST_VARIABLES` variables.
     Variables,
-    /// 512 statements.
+    /// `MOST_STATEMENTS` statements.
     Statements,
     /// 64 leaves of a condition.
     Leaves,

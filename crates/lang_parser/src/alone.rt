@@ -2,7 +2,7 @@
 #![tactic(auto, using(lang_meaning::proofs::results::Binds::then_ok, lang_meaning::proofs::results::Binds::then_err))]
 
 ghost use Rattle.std.specs.Prelude.{◌≡◌, ◌≤◌, ◌<◌, ℕ, drop, length, IfOk, IfErr, IsTrue};
-ghost use Rattle.base_limits.specs.declared.limits.TheConstants.{MOST_TEXT_BYTES};
+ghost use Rattle.base_limits.specs.declared.limits.TheConstants.{MOST_PROGRAM_BYTES};
 ghost use Rattle.lang_tree.specs.Limits.{is_tested};
 ghost use Rattle.lang_tree.specs.View.{condition_of};
 ghost use Rattle.lang_grammar.specs.View.{tokens_of};
@@ -106,7 +106,7 @@ fn read_tokens(
     first: u32,
     next: u32,
 ) -> Result<Read, ParseFault>
-    requires size { length text.now ≤ MOST_TEXT_BYTES }
+    requires size { length text.now ≤ MOST_PROGRAM_BYTES }
     requires names { length names.now ≤ MOST_VARIABLES }
     requires proper { AllProper text.now tokens.now }
     ensures gives { Gives read_of result (reading_of text.now names.now first (tokens_of text.now tokens.now) next) }
@@ -137,7 +137,7 @@ pub fn expression(
     from: u32,
     names: &[Name],
 ) -> Result<Read, ParseFault>
-    requires size { length text.now ≤ MOST_TEXT_BYTES }
+    requires size { length text.now ≤ MOST_PROGRAM_BYTES }
     requires tokens { AreTokensOf text.now tokens.now }
     requires from { from < length tokens.now }
     requires names { length names.now ≤ MOST_VARIABLES }

@@ -2,7 +2,7 @@
 //! `lang_reader`.
 
 ghost use Rattle.std.specs.Prelude.{◌≡◌, ◌≤◌, length, Err, IfOk, IfErr};
-ghost use Rattle.base_limits.specs.declared.limits.TheConstants.{MOST_TEXT_BYTES};
+ghost use Rattle.base_limits.specs.declared.limits.TheConstants.{MOST_PROGRAM_BYTES};
 ghost use Rattle.lang_grammar.specs.View.{tokens_of};
 ghost use Rattle.lang_tokens.specs.TokenLists.{AreTokensOf};
 ghost use Rattle.lang_meaning.specs.declared.fault.ParseFault.TheVariants.{NoMemory};
@@ -39,7 +39,7 @@ fn first_pass(alloc: Global, tokens: &[Token], text: &[u8]) -> Result<(), ParseF
 /// The program that the tokens of a text read as, or the first fault (docs/FORMATS.md, "Grammar",
 /// "Names and kinds" and "The order of faults").
 pub fn parse(alloc: Global, tokens: &[Token], text: &[u8]) -> Result<Program, ParseFault>
-    requires size { length text.now ≤ MOST_TEXT_BYTES }
+    requires size { length text.now ≤ MOST_PROGRAM_BYTES }
     requires tokens { AreTokensOf text.now tokens.now }
     // What is answered is meant.
     ensures found { (wanted : Answer) × Means text.now (tokens_of text.now tokens.now) wanted

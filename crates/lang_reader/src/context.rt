@@ -1,7 +1,7 @@
 //! What has been met so far: variables, labels and the number of statements.
 
 ghost use Rattle.std.specs.Prelude.{◌≡◌, ◌≤◌, length, IfOk};
-ghost use Rattle.base_limits.specs.declared.limits.TheConstants.{MOST_TEXT_BYTES};
+ghost use Rattle.base_limits.specs.declared.limits.TheConstants.{MOST_PROGRAM_BYTES};
 ghost use Rattle.lang_grammar.specs.Symbols.{demand_of};
 ghost use Rattle.lang_tokens.specs.Lines.{line_at};
 ghost use Rattle.lang_tree.specs.View.{statement_of};
@@ -12,14 +12,12 @@ ghost use Rattle.lang_meaning.specs.Gives.{Gives};
 ghost use Rattle.lang_reader.specs.Views.{state_of};
 
 use crate::names::NameTable;
+use base_limits::MOST_STATEMENTS;
 use lang_grammar::Demand;
 use lang_meaning::{Limit, ParseFault};
 use lang_tokens::line_of;
 use lang_tree::{Form, MOST_VARIABLES, Name, Names, Stmt};
 use std::alloc::{AllocError, Global};
-
-/// The most statements.
-const STATEMENTS: u32 = 512;
 
 /// What has been met so far.
 #[derive(Drop)]
@@ -72,7 +70,7 @@ impl Context {
     pub fn counted(&mut self, at: u32) -> Result<(), ParseFault>
         ensures { Gives (λ _. state_of self.new) result (counted at (state_of self.old)) }
     {
-        if self.count < STATEMENTS {
+        if self.count < MOST_STATEMENTS {
             self.count += 1;
             Ok(())
         } else {
@@ -136,7 +134,7 @@ impl Context {
         at: u32,
         form: Option<Form>,
     ) -> Result<Stmt, ParseFault>
-        requires { length text.now ≤ MOST_TEXT_BYTES }
+        requires { length text.now ≤ MOST_PROGRAM_BYTES }
         ensures { Gives (λ s. (state_of self.new, statement_of s)) result
             (declared_by (line_at text.now) name.now at form (state_of self.old)) }
     {

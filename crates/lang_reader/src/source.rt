@@ -1,6 +1,6 @@
 //! A text that is read.
 
-ghost use Rattle.base_limits.specs.declared.limits.TheConstants.{MOST_TEXT_BYTES};
+ghost use Rattle.base_limits.specs.declared.limits.TheConstants.{MOST_PROGRAM_BYTES};
 ghost use Rattle.std.specs.Prelude.{◌≤◌, length};
 
 use std::alloc::Global;
@@ -11,5 +11,5 @@ pub struct Source<'a> {
     pub alloc: Global,
     pub text: &'a [u8],
     pub width: usize,
-    pub ghost short: { length text.now ≤ MOST_TEXT_BYTES },
+    pub ghost short: { length text.now ≤ MOST_PROGRAM_BYTES },
 }

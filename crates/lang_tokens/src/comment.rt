@@ -2,7 +2,7 @@
 
 ghost use Rattle.std.specs.Prelude.{◌≡◌, ◌≤◌, ◌<◌, ◌+◌, ◌∷◌, length, slice_index, IfSome, IsTrue};
 ghost use Rattle.std.specs.List.{prefix_len};
-ghost use Rattle.base_limits.specs.declared.limits.TheConstants.{MOST_TEXT_BYTES};
+ghost use Rattle.base_limits.specs.declared.limits.TheConstants.{MOST_PROGRAM_BYTES};
 ghost use Rattle.lang_tokens.specs.declared.lexicon.Lexicon.{Lexicon};
 ghost use Rattle.lang_tokens.specs.Bytes.{is_on_line};
 ghost use Rattle.lang_tokens.specs.Directives.{starts_comment};
@@ -40,7 +40,7 @@ fn last_backslash(line: &[u8]) -> Option<usize>
 
 // The line comment of this body, with what follows it; `at` is the place of its `//`.
 fn line_comment(body: &[u8], at: u32, before: Before) -> Result<Found, LexFault>
-    requires { at + 2 + length body.now ≤ MOST_TEXT_BYTES }
+    requires { at + 2 + length body.now ≤ MOST_PROGRAM_BYTES }
     ensures { (lexicon : Lexicon) → Finds lexicon before (47 ∷ 47 ∷ body.now) at result }
 {
     let len = line_len(body);
@@ -81,7 +81,7 @@ fn block_comment(rest: &[u8], at: u32, before: Before) -> Result<Found, LexFault
     requires some { 2 ≤ length rest.now }
     requires slash { slice_index rest.now 0 ≡ 47 }
     requires star { slice_index rest.now 1 ≡ 42 }
-    requires within { at + length rest.now ≤ MOST_TEXT_BYTES }
+    requires within { at + length rest.now ≤ MOST_PROGRAM_BYTES }
     ensures { (lexicon : Lexicon) → Finds lexicon before rest.now at result }
 {
     match first_close(&rest[2..]) {
@@ -107,7 +107,7 @@ fn block_comment(rest: &[u8], at: u32, before: Before) -> Result<Found, LexFault
 /// The comment that starts with the `/` that stands first; `at` is its place.
 pub fn comment(rest: &[u8], at: u32, before: Before) -> Result<Found, LexFault>
     requires starts { IsTrue (starts_comment rest.now) }
-    requires within { at + length rest.now ≤ MOST_TEXT_BYTES }
+    requires within { at + length rest.now ≤ MOST_PROGRAM_BYTES }
     ensures { (lexicon : Lexicon) → Finds lexicon before rest.now at result }
 {
     if rest[1] == b'/' {

@@ -1,7 +1,7 @@
 //! The lexer.
 
 ghost use Rattle.std.specs.Prelude.{◌≡◌, ◌⊎◌, ◌≤◌, length, List, IfOk, IfErr, IsErrAnd, MatchResult};
-ghost use Rattle.base_limits.specs.declared.limits.TheConstants.{MOST_TEXT_BYTES};
+ghost use Rattle.base_limits.specs.declared.limits.TheConstants.{MOST_PROGRAM_BYTES};
 ghost use Rattle.lang_tokens.specs.declared.token.Token.{Token};
 ghost use Rattle.lang_tokens.specs.declared.fault.LexFault.{LexFault};
 ghost use Rattle.lang_tokens.specs.declared.fault.LexFault.TheVariants.{NoMemory};
@@ -18,7 +18,7 @@ use std::alloc::Global;
 
 // Reads a text piece by piece.
 fn scan(alloc: Global, text: &[u8], lexicon: Lexicon) -> Result<Vec<Token>, LexFault>
-    requires { length text.now ≤ MOST_TEXT_BYTES }
+    requires { length text.now ≤ MOST_PROGRAM_BYTES }
     ensures { MatchResult result (λ tokens. Reads lexicon text.now tokens.items)
         (λ fault. HasFault lexicon text.now fault ⊎ (fault ≡ NoMemory)) }
 {
@@ -50,7 +50,7 @@ fn scan(alloc: Global, text: &[u8], lexicon: Lexicon) -> Result<Vec<Token>, LexF
 /// `Kind::Aside`, and the only faults are bad bytes, open comments and want of memory. Lines are
 /// told by `line_of`.
 pub fn lex(alloc: Global, text: &[u8], lexicon: Lexicon) -> Result<Vec<Token>, LexFault>
-    requires { length text.now ≤ MOST_TEXT_BYTES }
+    requires { length text.now ≤ MOST_PROGRAM_BYTES }
 
     // What is answered is so.
     ensures ok { IfOk result (λ tokens. Reads lexicon text.now tokens.items) }

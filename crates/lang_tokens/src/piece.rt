@@ -1,7 +1,7 @@
 //! Pieces of a text.
 
 ghost use Rattle.std.specs.Prelude.{◌≡◌, ◌≤◌, ◌+◌, ◌&&◌, length, IsTrue, IsFalse};
-ghost use Rattle.base_limits.specs.declared.limits.TheConstants.{MOST_TEXT_BYTES};
+ghost use Rattle.base_limits.specs.declared.limits.TheConstants.{MOST_PROGRAM_BYTES};
 ghost use Rattle.lang_tokens.specs.declared.lexicon.Lexicon.TheVariants.{Own, C};
 ghost use Rattle.lang_tokens.specs.Directives.{starts_comment, is_directive};
 ghost use Rattle.lang_tokens.specs.declared.before.Before.TheVariants.{Directive};
@@ -117,7 +117,7 @@ fn c_token(rest: &[u8], at: u32, before: Before) -> Result<Found, LexFault>
 /// The piece that stands first, behind what stands before it in its line; `at` is its place.
 pub fn piece(rest: &[u8], at: u32, lexicon: Lexicon, before: Before) -> Result<Found, LexFault>
     requires some { 1 ≤ length rest.now }
-    requires within { at + length rest.now ≤ MOST_TEXT_BYTES }
+    requires within { at + length rest.now ≤ MOST_PROGRAM_BYTES }
     ensures { Finds lexicon before rest.now at result }
 {
     if starts_comment(rest) {

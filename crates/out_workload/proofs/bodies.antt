@@ -5,4 +5,3 @@ pub mod Decimals
 pub mod Machines
 pub mod TextReads
 pub mod BodyLimits
-pub mod FewCells

@@ -1,6 +1,7 @@
 //! The text of a generated program.
 
 ghost use Rattle.std.specs.Prelude.{◌≡◌, ◌≤◌, ◌<◌, ◌++◌, ◌∷◌, [], IfOk, decimal};
+ghost use Rattle.base_limits.specs.declared.limits.TheConstants.{MOST_LOOPS};
 ghost use Rattle.out_workload.specs.Draws.{after_loop, loop_at};
 ghost use Rattle.out_workload.specs.Texts.{copy_line, generated_text, loop_text, start_line, step_line, variable_name, while_line};
 
@@ -106,7 +107,7 @@ fn push_drawn(text: &mut Vec<u8>, state: u32) -> Result<u32, AllocError>
 pub fn generate(alloc: Global, seed: u32, loops: u32) -> Result<Vec<u8>, AllocError>
     requires seed { seed < 2147483648 }
     requires some { 1 ≤ loops }
-    requires few { loops ≤ 46 }
+    requires few { loops ≤ MOST_LOOPS }
     ensures { IfOk result (λ text. text.items ≡ generated_text seed loops) }
 {
     let mut text = Vec::new(alloc);

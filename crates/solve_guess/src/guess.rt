@@ -81,7 +81,7 @@ pub enum Guess {
 }
 
 // How many units of a ray are far out.
-const FAR: i64 = 1048576;
+const FAR: i64 = 1 << 20;
 
 // Rises far out on a ray.
 fn far_out(alloc: Global, ray: &[Frac]) -> Result<Vec<Frac>, Halt> {

@@ -1,7 +1,7 @@
 //! The directives of a file, and what they define.
 
 ghost use Rattle.std.specs.Prelude.{◌≡◌, ◌≤◌, ◌+◌, ℕ, List, codes, length, IfOk, OnOk, ◌++◌};
-ghost use Rattle.base_limits.specs.declared.limits.TheConstants.{MOST_TEXT_BYTES};
+ghost use Rattle.base_limits.specs.declared.limits.TheConstants.{MOST_PROGRAM_BYTES};
 ghost use Rattle.source_tokens.specs.Texts.{AreTokensIn, IsNaming, IsTokenIn};
 ghost use Rattle.source_constants.specs.Directives.{all_defined, asides_of, by_directives, code_of, defined_by, has_parameters, included};
 ghost use Rattle.source_constants.specs.Directives.{is_code, is_hash};

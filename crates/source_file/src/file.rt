@@ -2,7 +2,7 @@
 
 ghost use Rattle.std.specs.Prelude.{◌≡◌, ◌≤◌, ◌++◌, ◌∷◌, [], ℕ, List, Result, length, Err, IfOk, IfErr, map, slice_range};
 ghost use Rattle.std.specs.Option.{option_copied};
-ghost use Rattle.base_limits.specs.declared.limits.TheConstants.{MOST_TEXT_BYTES};
+ghost use Rattle.base_limits.specs.declared.limits.TheConstants.{MOST_PROGRAM_BYTES};
 ghost use Rattle.base_integers.specs.declared.integers.Integers.{Integers as Numbers};
 ghost use Rattle.lang_tokens.specs.declared.token.Token.{Token as Lexed};
 ghost use Rattle.lang_tokens.specs.Reading.{end_at};
@@ -70,7 +70,7 @@ fn analysed(
 ) -> Result<Program, SourceFault>
     requires tokens { AreTokensIn text.now tokens.now }
     requires whole { (definitions : List Defines) (text : List ℕ) → Scanned short (tokens_of definitions text tokens.now) → ⊥ }
-    requires size { length text.now ≤ MOST_TEXT_BYTES }
+    requires size { length text.now ≤ MOST_PROGRAM_BYTES }
     ensures { Tells integers result (FunctionMeans integers text.now (tokens_of definitions.now text.now tokens.now)) }
 {
     examined(alloc, tokens)?;
@@ -111,7 +111,7 @@ fn chosen_in(
     asked: Option<&[u8]>,
     integers: Integers,
 ) -> Result<Chosen, SourceFault>
-    requires size { length text.now ≤ MOST_TEXT_BYTES }
+    requires size { length text.now ≤ MOST_PROGRAM_BYTES }
     requires tokens { AreTokensIn text.now tokens.now }
     ensures code { IfOk result (λ c. c.code.items ≡ code_of tokens.now) }
     ensures found { IfOk result (λ c. IsChosen integers text.now (option_copied asked.entry) tokens.now c.definitions.items c.function) }
@@ -147,7 +147,7 @@ fn read_in(
     asked: Option<&[u8]>,
     integers: Integers,
 ) -> Result<Program, SourceFault>
-    requires size { length text.now ≤ MOST_TEXT_BYTES }
+    requires size { length text.now ≤ MOST_PROGRAM_BYTES }
     requires tokens { AreTokensIn text.now tokens.now }
     ensures { Tells integers result (Means integers text.now (option_copied asked.entry) tokens.now) }
 {
@@ -169,7 +169,7 @@ fn names_of(alloc: Global, functions: &[Defined]) -> Result<Names, AllocError>
 
 // The names of the functions of a file; the tokens are those of the text without its end.
 fn names_in(alloc: Global, text: &[u8], tokens: &[Token]) -> Result<Names, SourceFault>
-    requires size { length text.now ≤ MOST_TEXT_BYTES }
+    requires size { length text.now ≤ MOST_PROGRAM_BYTES }
     requires tokens { AreTokensIn text.now tokens.now }
     ensures { NamesTell result (NamesAre text.now tokens.now) }
 {
@@ -186,7 +186,7 @@ pub fn read(
     asked: Option<&[u8]>,
     integers: Integers,
 ) -> Result<Program, SourceFault>
-    requires size { length text.now ≤ MOST_TEXT_BYTES }
+    requires size { length text.now ≤ MOST_PROGRAM_BYTES }
     requires tokens { AreTokensOf text.now tokens.now }
     // What is answered is meant.
     ensures found { (front : List Lexed) → front ++ end_at (length text.now) ∷ [] ≡ tokens.now
@@ -201,7 +201,7 @@ pub fn read(
 /// The names of the functions of a file that may be asked about, in order: or the first fault of its brackets, of these names and of its
 /// constants (docs/FORMATS.md, "Files" and "The order of faults"). The tokens are all those of C.
 pub fn names(alloc: Global, tokens: &[Token], text: &[u8]) -> Result<Names, SourceFault>
-    requires size { length text.now ≤ MOST_TEXT_BYTES }
+    requires size { length text.now ≤ MOST_PROGRAM_BYTES }
     requires tokens { AreTokensOf text.now tokens.now }
     // What is answered is so.
     ensures found { (front : List Lexed) → front ++ end_at (length text.now) ∷ [] ≡ tokens.now
@@ -223,7 +223,7 @@ pub fn defined(
     asked: Option<&[u8]>,
     integers: Integers,
 ) -> Result<Chosen, SourceFault>
-    requires size { length text.now ≤ MOST_TEXT_BYTES }
+    requires size { length text.now ≤ MOST_PROGRAM_BYTES }
     requires tokens { AreTokensOf text.now tokens.now }
     ensures order { IfOk result (λ c. c.function.first ≤ c.function.end) }
     ensures within { IfOk result (λ c. c.function.end ≤ length c.code.items) }

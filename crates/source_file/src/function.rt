@@ -1,7 +1,7 @@
 //! What a function means.
 
 ghost use Rattle.std.specs.Prelude.{◌≡◌, ◌≤◌, length};
-ghost use Rattle.base_limits.specs.declared.limits.TheConstants.{MOST_TEXT_BYTES};
+ghost use Rattle.base_limits.specs.declared.limits.TheConstants.{MOST_PROGRAM_BYTES};
 ghost use Rattle.lang_tokens.specs.Lines.{line_at};
 ghost use Rattle.source_grammar.specs.Grammar.{Function, Reads};
 ghost use Rattle.source_meaning.specs.Walk.{walk, width_of};
@@ -27,7 +27,7 @@ pub(crate) fn program(
     variables: u32,
     integers: Integers,
 ) -> Result<Program, FunctionFault>
-    requires size { length text.now ≤ MOST_TEXT_BYTES }
+    requires size { length text.now ≤ MOST_PROGRAM_BYTES }
     requires tokens { AreTokensIn text.now tokens.now }
     requires read { (f : Function) × Reads (tokens_of definitions.now text.now tokens.now) f × (variables ≡ width_of f) }
     ensures { (f : Function) → Reads (tokens_of definitions.now text.now tokens.now) f → variables ≡ width_of f

@@ -2,7 +2,7 @@
 
 ghost use Rattle.std.specs.Prelude.{◌≡◌, ◌≤◌, ℕ, List, Option, length, Err, IfOk, IfErr};
 ghost use Rattle.base_integers.specs.declared.integers.Integers.TheVariants.{Mathematical};
-ghost use Rattle.base_limits.specs.declared.limits.TheConstants.{MOST_TEXT_BYTES};
+ghost use Rattle.base_limits.specs.declared.limits.TheConstants.{MOST_PROGRAM_BYTES};
 ghost use Rattle.source_items.specs.Divisions.{Finds, divided, unexpected};
 ghost use Rattle.source_tokens.specs.Texts.{AreTokensIn};
 ghost use Rattle.source_tokens.specs.View.{marks_of};
@@ -31,7 +31,7 @@ pub(crate) struct Outline {
 
 // The place of the token of this number, or the end of the text.
 fn place_of(text: &[u8], code: &[Token], index: usize) -> u32
-    requires { length text.now ≤ MOST_TEXT_BYTES }
+    requires { length text.now ≤ MOST_PROGRAM_BYTES }
     ensures { result ≡ place_of text.now code.now index }
 {
     match code.get(index) {
@@ -42,7 +42,7 @@ fn place_of(text: &[u8], code: &[Token], index: usize) -> u32
 
 // The items of a file, by its tokens of code.
 fn items(alloc: Global, text: &[u8], code: &[Token]) -> Result<Vec<Item>, SourceFault>
-    requires { length text.now ≤ MOST_TEXT_BYTES }
+    requires { length text.now ≤ MOST_PROGRAM_BYTES }
     ensures found { IfOk result (λ items. Finds (divided items.items) (marks_of code.now)) }
     ensures fault { IfErr result (λ e. (e ≡ NoMemory → ⊥)
         → (index : ℕ) × Finds (unexpected index) (marks_of code.now) × (e ≡ Unexpected (place_of text.now code.now index))) }
@@ -63,7 +63,7 @@ pub(crate) fn outline_of(
     tokens: &[Token],
     integers: Integers,
 ) -> Result<Outline, SourceFault>
-    requires size { length text.now ≤ MOST_TEXT_BYTES }
+    requires size { length text.now ≤ MOST_PROGRAM_BYTES }
     requires tokens { AreTokensIn text.now tokens.now }
     ensures code { IfOk result (λ file. file.code.items ≡ code_of tokens.now) }
     ensures found { IfOk result (λ file. AreFunctions integers text.now tokens.now file.definitions.items file.functions.items) }

@@ -1,7 +1,7 @@
 //! A reader of tokens.
 
 ghost use Rattle.std.specs.Prelude.{◌≡◌, ◌≤◌, ◌++◌, ℕ, ℤ, pos, List, ◌∷◌, length, true, Option, Some, IsTrue, MatchResult};
-ghost use Rattle.base_limits.specs.declared.limits.TheConstants.{MOST_TEXT_BYTES};
+ghost use Rattle.base_limits.specs.declared.limits.TheConstants.{MOST_PROGRAM_BYTES};
 ghost use Rattle.lang_tokens.specs.Lines.{line_at};
 ghost use Rattle.lang_tree.specs.Word.{is_word};
 ghost use Rattle.source_grammar.specs.Tokens.{Name, Token as Spelled, token, a_name, left_bracket};
@@ -46,7 +46,7 @@ pub struct Reader<'a> {
 
 impl<'a> Model for Reader<'a> {
     ghost use Rattle.std.specs.Prelude.{◌≤◌, length};
-    ghost use Rattle.base_limits.specs.declared.limits.TheConstants.{MOST_TEXT_BYTES};
+    ghost use Rattle.base_limits.specs.declared.limits.TheConstants.{MOST_PROGRAM_BYTES};
     ghost use Rattle.source_tokens.specs.View.{tokens_of};
     ghost use Rattle.source_tokens.specs.Texts.{AreTokensIn};
     ghost use Rattle.source_reader.specs.Reading.{Reading};
@@ -60,7 +60,7 @@ impl<'a> Model for Reader<'a> {
       integers = r.integers;
     } };
 
-    ghost invariant = { λ r. (length r.text.now ≤ MOST_TEXT_BYTES) × AreTokensIn r.text.now r.rest.now };
+    ghost invariant = { λ r. (length r.text.now ≤ MOST_PROGRAM_BYTES) × AreTokensIn r.text.now r.rest.now };
 }
 
 // The bytes of a name; none of another token.
@@ -97,7 +97,7 @@ impl<'a> Reader<'a> {
         variables: u32,
         integers: Integers,
     ) -> Self
-        requires few { length text.now ≤ MOST_TEXT_BYTES }
+        requires few { length text.now ≤ MOST_PROGRAM_BYTES }
         requires placed { AreTokensIn text.now tokens.now }
         ensures { result ≡ record {
           text = text.now;

@@ -2,7 +2,7 @@
 
 ghost use Rattle.std.specs.Prelude.{◌≡◌, ◌≤◌, ◌++◌, length, count_by, nat_eq, List, map, Option};
 ghost use Rattle.std.specs.Option.{option_map};
-ghost use Rattle.base_limits.specs.declared.limits.TheConstants.{MOST_TEXT_BYTES};
+ghost use Rattle.base_limits.specs.declared.limits.TheConstants.{MOST_PROGRAM_BYTES};
 ghost use Rattle.source_tree.specs.Extents.{extent_of};
 ghost use Rattle.source_meaning.specs.Names.{State, among, passable, is_named, stepped_of, variable_of, array_of, as_called};
 ghost use Rattle.source_meaning.specs.Names.{thing_of as spelled_thing};
@@ -32,7 +32,7 @@ pub struct Scope<'a> {
 
 impl<'a> Model for Scope<'a> {
     ghost use Rattle.std.specs.Prelude.{◌≤◌, length, Some, None, if◌then◌else◌};
-    ghost use Rattle.base_limits.specs.declared.limits.TheConstants.{MOST_TEXT_BYTES};
+    ghost use Rattle.base_limits.specs.declared.limits.TheConstants.{MOST_PROGRAM_BYTES};
     ghost use Rattle.source_meaning.specs.Names.{State};
     ghost use Rattle.source_tokens.specs.View.{tokens_of};
     ghost use Rattle.source_tokens.specs.Texts.{AreTokensIn};
@@ -43,7 +43,7 @@ impl<'a> Model for Scope<'a> {
       around = if s.is_certain then Some (tokens_of s.definitions.now s.text.now s.around.now) else None;
     } };
 
-    ghost invariant = { λ s. (length s.text.now ≤ MOST_TEXT_BYTES) × AreTokensIn s.text.now s.around.now };
+    ghost invariant = { λ s. (length s.text.now ≤ MOST_PROGRAM_BYTES) × AreTokensIn s.text.now s.around.now };
 }
 
 // Whether a token is this name, where that is no constant.
@@ -82,7 +82,7 @@ impl<'a> Scope<'a> {
         definitions: &'a [Definition],
         around: &'a [Token],
     ) -> Self
-        requires few { length text.now ≤ MOST_TEXT_BYTES }
+        requires few { length text.now ≤ MOST_PROGRAM_BYTES }
         requires placed { AreTokensIn text.now around.now }
         ensures { result ≡ among (tokens_of definitions.now text.now around.now) known.now }
     {

@@ -1,7 +1,7 @@
 //! The whole function.
 
 ghost use Rattle.std.specs.Prelude.{◌≡◌, ◌≤◌, length};
-ghost use Rattle.base_limits.specs.declared.limits.TheConstants.{MOST_TEXT_BYTES};
+ghost use Rattle.base_limits.specs.declared.limits.TheConstants.{MOST_PROGRAM_BYTES};
 ghost use Rattle.lang_tokens.specs.Lines.{line_at};
 ghost use Rattle.source_grammar.specs.Grammar.{Function, Good, Reads, spell};
 ghost use Rattle.source_meaning.specs.Walk.{walk, width_of};
@@ -57,7 +57,7 @@ pub fn function(
     variables: u32,
     integers: Integers,
 ) -> Result<Program, Stop>
-    requires few { length text.now ≤ MOST_TEXT_BYTES }
+    requires few { length text.now ≤ MOST_PROGRAM_BYTES }
     requires placed { AreTokensIn text.now tokens.now }
     requires read { (f : Function) × Reads (tokens_of constants.now text.now tokens.now) f × (variables ≡ width_of f) }
     ensures { (f : Function) → Reads (tokens_of constants.now text.now tokens.now) f → variables ≡ width_of f

@@ -1,7 +1,7 @@
 //! What the directives and the items of a file define.
 
 use base_integers::{Integers, Width};
-use base_limits::MOST_TEXT_BYTES;
+use base_limits::MOST_PROGRAM_BYTES;
 use lang_tokens::{Lexicon, lex};
 use source_file::defined;
 use source_tokens::Definition;
@@ -179,7 +179,7 @@ fn defines(alloc: Global, text: &str, integers: Integers, wanted: &str) -> bool 
         return false;
     };
     let text = file.as_bytes();
-    if text.len() > MOST_TEXT_BYTES {
+    if text.len() > MOST_PROGRAM_BYTES {
         return false;
     }
     let Ok(tokens) = lex(alloc, text, Lexicon::C) else {

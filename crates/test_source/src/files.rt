@@ -1,7 +1,7 @@
 //! The functions of a file, and which one is meant.
 
 use base_integers::Integers;
-use base_limits::MOST_TEXT_BYTES;
+use base_limits::MOST_PROGRAM_BYTES;
 use lang_tokens::{Foreign, Lexicon, lex};
 use lang_tree::{Name, Names, Program};
 use source_file::{SourceFault, names, read};
@@ -423,7 +423,7 @@ const READ: &[(&str, Option<&str>)] = &[
 
 // The names of the functions of a text, which has tokens.
 fn names_of(alloc: Global, text: &[u8]) -> Result<Names, SourceFault> {
-    if text.len() > MOST_TEXT_BYTES {
+    if text.len() > MOST_PROGRAM_BYTES {
         return Err(SourceFault::NoMemory);
     }
     match lex(alloc, text, Lexicon::C) {
@@ -439,7 +439,7 @@ pub(crate) fn read_of(
     asked: Option<&[u8]>,
     integers: Integers,
 ) -> Result<Program, SourceFault> {
-    if text.len() > MOST_TEXT_BYTES {
+    if text.len() > MOST_PROGRAM_BYTES {
         return Err(SourceFault::NoMemory);
     }
     match lex(alloc, text, Lexicon::C) {

@@ -1,7 +1,7 @@
 -- What the commands do with the texts of their files, each in one record: which endings the texts have, what may exceed exact work, which
 -- bytes are written, what its messages name, and within which limits its numbers and texts are.
 use Rattle.std.specs.Prelude.{◌≡◌, ◌≤◌, ◌<◌, ℕ, ℤ, List, [], Ok, length}
-use Rattle.base_limits.specs.declared.limits.TheConstants.{MOST_IMPROVEMENTS}
+use Rattle.base_limits.specs.declared.limits.TheConstants.{MOST_IMPROVEMENTS, MOST_LOOPS, MOST_PROGRAM_BYTES, MOST_TEXT_BYTES}
 use Rattle.lang_tree.specs.Tree.{Statements}
 use Rattle.flow_systems.specs.declared.footer.Footer.TheVariants.{Accepted}
 use Rattle.flow_systems.specs.declared.spot.Spot.{Spot}
@@ -41,7 +41,7 @@ use Rattle.top_texts.specs.Meanings.{Meanings}
 use Rattle.top_texts.specs.Questions.{IsExcessIn, Question, QuestionEnds, analysis_question, bench_question, checks_question}
 use Rattle.top_texts.specs.Questions.{claims_question, equations_question, transitions_question}
 use Rattle.top_texts.specs.Rounds.{HasRounds}
-use Rattle.top_texts.specs.Short.{HasShortRows, IsShort}
+use Rattle.top_texts.specs.Short.{HasShortRows, IsShort, IsShortProgram}
 use Rattle.top_texts.specs.Texts.{IsAnalysed, IsReady, IsRefusedProgram, IsSolvedSystem, Program}
 use Rattle.top_texts.specs.TransitionTexts.{IsAutoReport}
 
@@ -125,15 +125,15 @@ IsPut m AsCertificate a format bytes = IsCertificate m a.program a.domain a.poli
 
 -- ---- limits
 
--- the texts of an analysis are within their limit, and so is the number of its improvements
-pub record IsWithin (analysis : Analysis (List ℕ)) : Type 0 where
-  pub short : IsShort analysis.program.text
+-- the texts of an analysis are within their limits, and so is the number of its improvements: what is analysed has at most so many bytes
+pub record IsWithin (most : ℕ) (analysis : Analysis (List ℕ)) : Type 0 where
+  pub short : length analysis.program.text ≤ most
   pub short_rows : HasShortRows analysis.domain
   pub limit : analysis.improvements ≤ MOST_IMPROVEMENTS
 
--- the seed of a generated program is below 2^31, and it has 1 to 46 loops
+-- the seed of a generated program is below 2^31, and it has 1 to 500 loops
 abbrev pub AreGenerable : (seed loops : ℕ) → Type 0
-AreGenerable seed loops = (seed < 2147483648) × (1 ≤ loops) × (loops ≤ 46)
+AreGenerable seed loops = (seed < 2147483648) × (1 ≤ loops) × (loops ≤ MOST_LOOPS)
 
 -- the text in which the message of an ending of claims names a line: that of the claims, where they are refused, or of the program
 abbrev pub text_of_proof : (program claims : List ℕ) → Status → List ℕ
@@ -189,13 +189,13 @@ command_of m (Analyse purpose a format) =
       named = λ status. a.program.text;
       has_rows = λ count. (system : System) × IsSolvedSystem a.program a.domain system × (count ≡ length system.template);
       in_range = a.improvements ≤ MOST_IMPROVEMENTS;
-      in_limits = IsWithin a;
+      in_limits = IsWithin MOST_PROGRAM_BYTES a;
     }
 command_of m (Check program certificate format) =
     record (deciding (λ status. CheckEnds m program certificate status) (λ bytes. IsChecked m program certificate format bytes)) {
       named = λ status. program.text;
       has_rows = λ count. m.has_rows certificate count;
-      in_limits = IsShort program.text;
+      in_limits = IsShortProgram program.text;
     }
 command_of m (Bench seed loops) = record (asking (bench_question m seed loops) (λ bytes. IsSummary m seed loops bytes)) {
   in_range = AreGenerable seed loops;
@@ -207,14 +207,14 @@ command_of m (Prove given a format) =
     (λ bytes. AreVerdictsOf m a.program a.domain given a.policy a.improvements format bytes)) {
       named = λ status. text_of_proof a.program.text given status;
       in_range = a.improvements ≤ MOST_IMPROVEMENTS;
-      in_limits = IsWithin a × IsShort given;
+      in_limits = IsWithin MOST_PROGRAM_BYTES a × IsShort given;
     }
 command_of m (Transitions a format) =
     record (asking (transitions_question m a.program.text a.domain a.policy a.improvements)
     (λ bytes. IsAutoReport a.program.text a.domain a.policy a.improvements format bytes)) {
       named = λ status. a.program.text;
       in_range = a.improvements ≤ MOST_IMPROVEMENTS;
-      in_limits = IsWithin a;
+      in_limits = IsWithin MOST_TEXT_BYTES a;
     }
 command_of m (Equations text limit policy format) =
     record (asking (equations_question m text policy limit) (λ bytes. AreValuesOf text policy limit format bytes)) {
@@ -225,17 +225,17 @@ command_of m (Equations text limit policy format) =
 command_of m (Points text) =
     record (deciding (λ status. PointsEnd (whole_source text) status) (λ bytes. ArePointsOf (whole_source text) bytes)) {
       named = λ status. text;
-      in_limits = IsShort text;
+      in_limits = IsShortProgram text;
     }
 command_of m (Functions text) = record (deciding (λ status. FunctionsEnd text status) (λ bytes. AreFunctionsOf text bytes)) {
   named = λ status. text;
-  in_limits = IsShort text;
+  in_limits = IsShortProgram text;
 }
 command_of m (Verify name a format) = record (deciding (λ status. VerifyEnds m a status) (λ bytes. ⊥)) {
   exceeds = λ excess. IsExcessIn (checks_question m a.program a.domain a.policy a.improvements) excess;
   writes = λ status bytes. AreCheckVerdictsOf m name a.program a.domain a.policy a.improvements format status bytes;
   named = λ status. a.program.text;
   in_range = a.improvements ≤ MOST_IMPROVEMENTS;
-  in_limits = IsWithin a;
+  in_limits = IsWithin MOST_PROGRAM_BYTES a;
 }
 command_of m (Help topic) = deciding (λ status. status ≡ Done) (λ bytes. bytes ≡ help_text topic)

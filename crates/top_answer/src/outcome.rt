@@ -1,7 +1,7 @@
 //! What the texts of a command come to: the bytes that are written, or the status of their refusal; and the text whose line is named.
 
 ghost use Rattle.std.specs.Prelude.{◌≡◌, ◌≤◌, ℕ, List, [], IfOk, IfErr, length};
-ghost use Rattle.base_limits.specs.declared.limits.TheConstants.{MOST_IMPROVEMENTS, MOST_TEXT_BYTES};
+ghost use Rattle.base_limits.specs.declared.limits.TheConstants.{MOST_IMPROVEMENTS, MOST_PROGRAM_BYTES};
 ghost use Rattle.lang_tree.specs.Tree.{Statements};
 ghost use Rattle.flow_edges.specs.Edges.{edges_of_program};
 ghost use Rattle.flow_edges.specs.Points.{points_of_program};
@@ -125,7 +125,7 @@ fn analysed<W: Watch>(
     format: Format,
     watch: &mut W,
 ) -> Outcome
-    requires { IsWithin (analysis_text analysis) }
+    requires { IsWithin MOST_PROGRAM_BYTES (analysis_text analysis) }
     ensures says { Says (command_of exact (Analyse purpose (analysis_text analysis.entry) format)) result.status result.bytes.items }
     ensures rows { (count : ℕ) → (command_of exact (Analyse purpose (analysis_text analysis.entry) format)).has_rows count
         → result.rows ≡ rows_of count result.status }
@@ -168,7 +168,7 @@ fn accepted(alloc: Global, given: Given, format: Format) -> Outcome
 
 // The check of a certificate of a program.
 fn checked(alloc: Global, source: Source<&[u8]>, certificate: &[u8], format: Format) -> Outcome
-    requires { length source.text.now ≤ MOST_TEXT_BYTES }
+    requires { length source.text.now ≤ MOST_PROGRAM_BYTES }
     ensures says { Says (command_of exact (Check (source_text source.entry) certificate.now format)) result.status result.bytes.items }
     ensures rows { (count : ℕ) → HasRowCount certificate.now count → result.rows ≡ rows_of count result.status }
 {
@@ -296,7 +296,7 @@ fn text_of_proof<'a>(program: &'a [u8], claims: &'a [u8], status: &Status) -> &'
 pub(crate) fn named_text<'a>(asked: Request<&'a [u8]>, status: &Status) -> &'a [u8]
     requires { (command_of exact (request_text asked)).in_limits }
     ensures text { result.now ≡ (command_of exact (request_text asked.entry)).named status.now }
-    ensures short { length result.now ≤ MOST_TEXT_BYTES }
+    ensures short { length result.now ≤ MOST_PROGRAM_BYTES }
 {
     match asked {
         Request::Analyse { analysis, .. } => analysis.program.text,

@@ -1,10 +1,14 @@
 -- How long texts may be.
 use Rattle.std.specs.Prelude.{◌≤◌, ℕ, List, length}
-use Rattle.base_limits.specs.declared.limits.TheConstants.{MOST_TEXT_BYTES}
+use Rattle.base_limits.specs.declared.limits.TheConstants.{MOST_PROGRAM_BYTES, MOST_TEXT_BYTES}
 use Rattle.ask_words.specs.declared.request.Domain.{Domain}
 use Rattle.ask_words.specs.declared.request.Domain.TheVariants.{Intervals, Zones, Octagons, Rows}
 
--- a text of at most 65,536 bytes
+-- a text as short as a program has to be
+abbrev pub IsShortProgram : List ℕ → Type 0
+IsShortProgram text = length text ≤ MOST_PROGRAM_BYTES
+
+-- a text as short as any other has to be
 abbrev pub IsShort : List ℕ → Type 0
 IsShort text = length text ≤ MOST_TEXT_BYTES
 

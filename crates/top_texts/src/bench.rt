@@ -1,7 +1,7 @@
 //! The summary of a generated program.
 
 ghost use Rattle.std.specs.Prelude.{◌≡◌, ◌≤◌, ◌<◌, IfOk, IfErr, Ok, length};
-ghost use Rattle.base_limits.specs.declared.limits.TheConstants.{MOST_TEXT_BYTES};
+ghost use Rattle.base_limits.specs.declared.limits.TheConstants.{MOST_LOOPS, MOST_PROGRAM_BYTES};
 ghost use Rattle.top_texts.specs.Exact.{exact};
 ghost use Rattle.top_texts.specs.Generated.{ReadsAs};
 ghost use Rattle.top_texts.specs.Outcomes.{IsUnanswered};
@@ -24,7 +24,7 @@ const MOST_IMPROVEMENTS: u32 = 1000;
 
 // The program of the language that a generated text is. Each of them is one, so that it has no other fault than want of memory.
 fn generated_program(alloc: Global, text: &[u8]) -> Result<Program, Refusal>
-    requires { length text.now ≤ MOST_TEXT_BYTES }
+    requires { length text.now ≤ MOST_PROGRAM_BYTES }
     ensures ok { IfOk result (λ program. ReadsAs text.now (Ok (program.names, program.body))) }
     ensures err { IfErr result (λ refusal. refusal ≡ Refusal.NoMemory) }
 {
@@ -51,7 +51,7 @@ pub fn bench_text<W: Watch>(
 ) -> Result<Vec<u8>, Refusal>
     requires seed { seed < 2147483648 }
     requires some { 1 ≤ loops }
-    requires few { loops ≤ 46 }
+    requires few { loops ≤ MOST_LOOPS }
     ensures ok { IfOk result (λ bytes. IsSummaryOf seed loops bytes.items) }
     ensures err { IfErr result (λ refusal. IsUnanswered (bench_question exact seed loops) refusal) }
 {

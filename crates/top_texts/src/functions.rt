@@ -1,7 +1,7 @@
 //! The names of a file's functions.
 
 ghost use Rattle.std.specs.Prelude.{◌≡◌, ◌≤◌, ◌⊎◌, ◌++◌, ℕ, List, IfOk, IfErr, OnOk, Ok, Err, Result, length};
-ghost use Rattle.base_limits.specs.declared.limits.TheConstants.{MOST_TEXT_BYTES};
+ghost use Rattle.base_limits.specs.declared.limits.TheConstants.{MOST_PROGRAM_BYTES};
 ghost use Rattle.lang_tokens.specs.Faults.{HasFault};
 ghost use Rattle.source_file.specs.declared.fault.SourceFault.{SourceFault as FaultValue};
 ghost use Rattle.top_texts.specs.FunctionTexts.{AreFunctionsOf, Lists, name_lines};
@@ -37,7 +37,7 @@ fn file_refusal(fault: SourceFault) -> Refusal
 
 // The names of the functions of a text.
 fn names_of(alloc: Global, text: &[u8]) -> Result<Names, Refusal>
-    requires { length text.now ≤ MOST_TEXT_BYTES }
+    requires { length text.now ≤ MOST_PROGRAM_BYTES }
     ensures ok { IfOk result (λ names. Lists text.now (Ok names)) }
     ensures err { IfErr result (λ refusal. AreUnlisted text.now refusal) }
 {
@@ -68,7 +68,7 @@ fn add_lines(lines: &mut Vec<u8>, names: &[Name]) -> Result<(), AllocError>
 ///
 /// The first cause that stands: a fault of the text, or of its division into functions; or want of memory.
 pub fn functions_text(alloc: Global, text: &[u8]) -> Result<Vec<u8>, Refusal>
-    requires { length text.now ≤ MOST_TEXT_BYTES }
+    requires { length text.now ≤ MOST_PROGRAM_BYTES }
     ensures ok { IfOk result (λ bytes. AreFunctionsOf text.now bytes.items) }
     ensures err { IfErr result (λ refusal. AreUnlisted text.now refusal) }
 {

@@ -2,7 +2,7 @@
 
 ghost use Rattle.std.specs.Prelude.{◌≤◌, IfOk, IfErr, length};
 ghost use Rattle.ask_words.specs.Request.{source_text};
-ghost use Rattle.base_limits.specs.declared.limits.TheConstants.{MOST_TEXT_BYTES};
+ghost use Rattle.base_limits.specs.declared.limits.TheConstants.{MOST_PROGRAM_BYTES};
 ghost use Rattle.top_texts.specs.Outcomes.{IsUnread};
 ghost use Rattle.top_texts.specs.LeastReports.{ArePointsOf};
 
@@ -18,7 +18,7 @@ use std::alloc::Global;
 ///
 /// The first cause that stands: a fault of the text, or points and edges beyond the limits; or want of memory.
 pub fn points_text(alloc: Global, program: Source<&[u8]>) -> Result<Vec<u8>, Refusal>
-    requires { length program.text.now ≤ MOST_TEXT_BYTES }
+    requires { length program.text.now ≤ MOST_PROGRAM_BYTES }
     ensures ok { IfOk result (λ bytes. ArePointsOf (source_text program.entry) bytes.items) }
     ensures err { IfErr result (λ refusal. IsUnread (source_text program.entry) refusal) }
 {

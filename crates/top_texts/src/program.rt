@@ -1,7 +1,7 @@
 //! From a program to its core, and to its points and edges, or the cause for which it is refused.
 
 ghost use Rattle.std.specs.Prelude.{◌≡◌, ◌≤◌, ◌⊎◌, IfOk, IfErr, Err, None, Some, length};
-ghost use Rattle.base_limits.specs.declared.limits.TheConstants.{MOST_TEXT_BYTES};
+ghost use Rattle.base_limits.specs.declared.limits.TheConstants.{MOST_PROGRAM_BYTES};
 ghost use Rattle.lang_tokens.specs.Faults.{HasFault};
 ghost use Rattle.lang_tree.specs.Tree.{Statements};
 ghost use Rattle.flow_edges.specs.Edges.{edges_of_program};
@@ -54,7 +54,7 @@ fn flow_refusal(fault: FlowFault) -> Refusal
 
 // The core of the function that a program asks about.
 pub(crate) fn program_of(alloc: Global, program: Source<&[u8]>) -> Result<Program, Refusal>
-    requires { length program.text.now ≤ MOST_TEXT_BYTES }
+    requires { length program.text.now ≤ MOST_PROGRAM_BYTES }
     ensures ok { IfOk result (λ core. HasCore (source_text program.entry) core.names core.body) }
     ensures err { IfErr result (λ refusal. IsUnread (source_text program.entry) refusal) }
 {

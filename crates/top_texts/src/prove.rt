@@ -2,7 +2,7 @@
 
 ghost use Rattle.std.specs.Prelude.{◌≡◌, ◌≢◌, ◌≤◌, ℕ, List, IfOk, IfErr, Err, length};
 ghost use Rattle.std.specs.List.{All};
-ghost use Rattle.base_limits.specs.declared.limits.TheConstants.{MOST_IMPROVEMENTS, MOST_TEXT_BYTES};
+ghost use Rattle.base_limits.specs.declared.limits.TheConstants.{MOST_IMPROVEMENTS, MOST_PROGRAM_BYTES, MOST_TEXT_BYTES};
 ghost use Rattle.flow_systems.specs.Equations.{Equations, Vector};
 ghost use Rattle.flow_systems.specs.View.{equations_of, vector_at, IsVectorOf};
 ghost use Rattle.flow_systems.specs.declared.system.System.{System as SystemValue};
@@ -114,7 +114,7 @@ pub fn prove_text<W: Watch>(
     format: Format,
     watch: &mut W,
 ) -> Result<Vec<u8>, Refusal>
-    requires short { length program.text.now ≤ MOST_TEXT_BYTES }
+    requires short { length program.text.now ≤ MOST_PROGRAM_BYTES }
     requires short_rows { HasShortRows (domain_text rows) }
     requires short_claims { length given.now ≤ MOST_TEXT_BYTES }
     requires limit { limit ≤ MOST_IMPROVEMENTS }

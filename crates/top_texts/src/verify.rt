@@ -2,7 +2,7 @@
 
 ghost use Rattle.std.specs.Prelude.{◌+◌, ◌≡◌, ◌≤◌, ℕ, List, IfOk, IfErr, IsTrue, length};
 ghost use Rattle.std.specs.List.{list_all};
-ghost use Rattle.base_limits.specs.declared.limits.TheConstants.{MOST_IMPROVEMENTS, MOST_TEXT_BYTES};
+ghost use Rattle.base_limits.specs.declared.limits.TheConstants.{MOST_IMPROVEMENTS, MOST_PROGRAM_BYTES};
 ghost use Rattle.flow_edges.specs.declared.checked.CheckCases.{CheckCases as CheckCasesValue};
 ghost use Rattle.flow_systems.specs.Equations.{Equations, Vector};
 ghost use Rattle.flow_systems.specs.View.{equations_of, vector_at, IsVectorOf};
@@ -52,7 +52,7 @@ fn checked_on(
     program: Source<&[u8]>,
     rows: Domain<&[u8]>,
 ) -> Result<Checked, Refusal>
-    requires short { length program.text.now ≤ MOST_TEXT_BYTES }
+    requires short { length program.text.now ≤ MOST_PROGRAM_BYTES }
     requires short_rows { HasShortRows (domain_text rows) }
     ensures ok { IfOk result (λ checked. HasChecks (source_text program.entry) (domain_text rows.entry) checked.system
         checked.checks) }
@@ -127,7 +127,7 @@ pub fn verify_text<W: Watch>(
     format: Format,
     watch: &mut W,
 ) -> Result<Judged, Refusal>
-    requires short { length program.text.now ≤ MOST_TEXT_BYTES }
+    requires short { length program.text.now ≤ MOST_PROGRAM_BYTES }
     requires short_rows { HasShortRows (domain_text rows) }
     requires limit { limit ≤ MOST_IMPROVEMENTS }
     ensures ok { IfOk result (λ judged. AreCheckVerdictsOf exact file.now (source_text program.entry) (domain_text rows.entry) policy limit

@@ -1,7 +1,7 @@
 //! What is written in each format (docs/FORMATS.md, "The report", "Verdicts", "Checks", "JSON" and "SARIF").
 
 ghost use Rattle.std.specs.Prelude.{◌≡◌, ◌*◌, ◌+◌, ◌≤◌, IfOk, length};
-ghost use Rattle.base_limits.specs.declared.limits.TheConstants.{MOST_TEXT_BYTES};
+ghost use Rattle.base_limits.specs.declared.limits.TheConstants.{MOST_PROGRAM_BYTES};
 ghost use Rattle.flow_systems.specs.View.{vector_of};
 ghost use Rattle.flow_systems.specs.declared.footer.Footer.TheVariants.{Improvements};
 ghost use Rattle.lang_tree.specs.declared.limits.TheConstants.{MOST_VARIABLES};
@@ -91,7 +91,7 @@ pub fn written_checks(
     improvements: u32,
     format: Format,
 ) -> Result<Vec<u8>, AllocError>
-    requires { length text.now ≤ MOST_TEXT_BYTES }
+    requires { length text.now ≤ MOST_PROGRAM_BYTES }
     ensures { IfOk result (λ bytes. bytes.items
         ≡ checks_in format file.now text.now names.now checks.now verdicts.now improvements) }
 {

@@ -2,7 +2,7 @@
 use Rattle.std.proofs.Common.{◌≡◌, ◌∙◌, ◌≤◌, ◌<◌, ◌+◌, ◌-◌, ◌^◌, ◌++◌, ◌∷◌, ℕ, zero, suc, List, [], length, get_or, take, drop, sym, subst}
 use Rattle.std.proofs.Common.{arith}
 use Rattle.std.proofs.lemmas.List.{get_or-drop, get_or-take, length-drop, length-take}
-use Rattle.base_limits.specs.declared.limits.TheConstants.{MOST_TEXT_BYTES}
+use Rattle.base_limits.specs.declared.limits.TheConstants.{MOST_PROGRAM_BYTES}
 use Rattle.lang_tokens.specs.declared.token.Kind.TheVariants.{Name}
 use Rattle.lang_tokens.specs.declared.token.Token.{Token}
 use Rattle.lang_tokens.specs.Reading.{end_at}
@@ -52,7 +52,7 @@ name_in text ts tokens =
     subst P tokens.ended (name_after text 0 tokens.front tokens.placed)
 
 -- a place of a text is a number of the code, and so is the next one
-pub fits_code : (n m : ℕ) → n ≤ m → m ≤ MOST_TEXT_BYTES → n < 2 ^ 32 - 1
+pub fits_code : (n m : ℕ) → n ≤ m → m ≤ MOST_PROGRAM_BYTES → n < 2 ^ 32 - 1
 fits_code n m h i = omega arith
 
 -- ---- some of the tokens

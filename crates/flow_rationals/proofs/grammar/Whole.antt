@@ -45,8 +45,9 @@ front_few : (text : List ℕ) (place : ℕ) (front : List Token) → place ≤ l
 front_few text place [] l h = omega arith
 front_few text place (t ∷ ts) l h = omega (arith, h.0.after, h.0.some, h.0.within, front_few text (t.at + t.len) ts h.0.within h.1)
 
--- a text of at most 65536 bytes has at most 65537 tokens
-pub tokens_few : (text : List ℕ) (tokens : List Token) → length text ≤ MOST_TEXT_BYTES → AreTokensOf text tokens → length tokens ≤ 65537
+-- a text has no more tokens than bytes, but for the end
+pub tokens_few : (text : List ℕ) (tokens : List Token) → length text ≤ MOST_TEXT_BYTES → AreTokensOf text tokens
+    → length tokens ≤ MOST_TEXT_BYTES + 1
 tokens_few text tokens short h = omega (
   arith,
   ap length h.ended,
@@ -151,9 +152,9 @@ written_found text tokens s t r a b g none =
     let x = through_spells text tokens r (subst GoesThrough a g) in
     none x.0 (subst (λ ss. Spells ss x.0) (sym b) x.1)
 
--- equations of a text of at most 65537 tokens and their alternatives are together at most 65537
-pub written_few : (text : List ℕ) (tokens : List Token) (list : List Written) → Reads Own text tokens → length tokens ≤ 65537
-    → ReadsWritten text list → length list + choice_count list ≤ 65537
+-- equations of a text and their alternatives are together no more than its tokens may be
+pub written_few : (text : List ℕ) (tokens : List Token) (list : List Written) → Reads Own text tokens → length tokens ≤ MOST_TEXT_BYTES + 1
+    → ReadsWritten text list → length list + choice_count list ≤ MOST_TEXT_BYTES + 1
 written_few text tokens list r few w =
     let same : w.tokens ≡ tokens = one_token_list Own text w.tokens tokens w.reads r in
     omega (arith, spelled_len (symbols_of text w.tokens) list w.spelled, length-map w.tokens (symbol_of text), ap length same)

@@ -25,7 +25,7 @@ front_few : (text : List ℕ) (place : ℕ) (ts : List Token) → place ≤ leng
 front_few text place [] l h = omega (arith, l)
 front_few text place (t ∷ ts) l h = omega (arith, h.0.after, h.0.some, h.0.within, front_few text (t.at + t.len) ts h.0.within h.1)
 
--- the tokens of a text of at most 65,536 bytes are at most 65,537
+-- a text has no more tokens than bytes, but for the end
 pub source_of : (text : List ℕ) (tokens : List Token) → length text ≤ MOST_TEXT_BYTES → AreTokensOf text tokens → IsSource text tokens
 source_of text tokens short h = record {
   size = short;

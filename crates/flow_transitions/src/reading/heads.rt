@@ -1,6 +1,7 @@
 //! The variables and the points that a text names.
 
 ghost use Rattle.std.specs.Prelude.{◌≡◌, ◌≢◌, ◌<◌, ◌≤◌, ◌+◌, ◌++◌, ℕ, List, [], ◌∷◌, IfErr, IfOk, IsFalse, cond, length};
+ghost use Rattle.base_limits.specs.declared.limits.TheConstants.{MOST_TEXT_BYTES};
 ghost use Rattle.flow_transitions.specs.declared.limits.TheConstants.{MOST_POINTS, MOST_VARIABLES};
 ghost use Rattle.flow_transitions.specs.declared.reading.point_name.PointName.{PointName};
 ghost use Rattle.flow_transitions.specs.AutoSymbols.{IsSource, seen_at};
@@ -127,7 +128,7 @@ fn point(
 ) -> Result<(PointName, bool), AutoFault>
     requires source { IsSource text.now tokens.now }
     requires at { at < length tokens.now }
-    requires few { length points.now ≤ 65537 }
+    requires few { length points.now ≤ MOST_TEXT_BYTES + 1 }
     ensures reads { (variables : List (List ℕ)) → Advances text.now tokens.now (progress variables points.now [] at_point) at result
         (λ found. progress variables (points.now ++ found.0 ∷ []) [] (cond found.1 at_point at_edge)) (λ found. at + 2) }
     ensures next { IfOk result (λ _. at + 2 < length tokens.now) }

@@ -14,6 +14,7 @@ use Rattle.lang_tree.specs.Tree.{Statement, Statements, nil, cons, change_count,
 use Rattle.lang_meaning.specs.declared.fault.ParseFault.{ParseFault}
 use Rattle.lang_meaning.specs.declared.fault.ParseFault.TheVariants as fault
 use Rattle.lang_meaning.specs.declared.fault.Limit.TheVariants as limit
+use Rattle.base_limits.specs.declared.limits.TheConstants.{MOST_STATEMENTS}
 use Rattle.lang_meaning.specs.Names.{place_of}
 use Rattle.lang_meaning.specs.Walk.{State, followed_by, one, counted, counted_for, labelled_by, number_if_known, known_number}
 use Rattle.lang_meaning.specs.Walk.{assignment, changed, change_nodes}
@@ -45,8 +46,8 @@ known_below x a st = by_place (place_of x st.names) refl where
 pub record Fits (st : State) : Type 0 where
   -- there are no more names than there may be variables
   pub few_names : length st.names ≤ MOST_VARIABLES
-  -- there are at most 512 nodes
-  pub few_nodes : st.count ≤ 512
+  -- there are no more nodes than there may be statements
+  pub few_nodes : st.count ≤ MOST_STATEMENTS
 
 -- what comes of nodes: so many more names and nodes, and each node is one over at least as many variables as are named then
 pub record Grows (N : ℕ) (inside : Bool) (before : State) (declared : ℕ) (r : State × Statements) : Type 0 where
@@ -70,10 +71,10 @@ Turns N st r = Fits r.0 × (length r.0.names ≡ length st.names) × (r.0.count 
 
 -- one node more fits where it is counted
 pub counted_fits : (a : ℕ) (st : State) → length st.names ≤ MOST_VARIABLES → OnValue (Counted st) (counted a st)
-counted_fits a st h = on_test (nat_lt st.count 512) refl where
-  on_test : (b : Bool) → nat_lt st.count 512 ≡ b → OnValue (Counted st)
+counted_fits a st h = on_test (nat_lt st.count MOST_STATEMENTS) refl where
+  on_test : (b : Bool) → nat_lt st.count MOST_STATEMENTS ≡ b → OnValue (Counted st)
       (cond b (Ok (record st { count = suc st.count })) (Err (fault.Limit a limit.Statements)))
-  on_test true e = (record { few_names = h; few_nodes = ltb-true st.count 512 e }, refl, refl)
+  on_test true e = (record { few_names = h; few_nodes = ltb-true st.count MOST_STATEMENTS e }, refl, refl)
   on_test false e = tt
 
 -- one more for an `assume`, two more for an `assert`

@@ -23,6 +23,7 @@ use Rattle.lang_tree.specs.Tree.{Condition, Statement, Statements, nil, cons, ch
 use Rattle.lang_meaning.specs.declared.fault.ParseFault.{ParseFault}
 use Rattle.lang_meaning.specs.declared.fault.ParseFault.TheVariants as fault
 use Rattle.lang_meaning.specs.declared.fault.Limit.TheVariants as limit
+use Rattle.base_limits.specs.declared.limits.TheConstants.{MOST_STATEMENTS}
 use Rattle.lang_meaning.specs.Results.{◌>>=◌}
 use Rattle.lang_meaning.specs.Names.{place_of}
 use Rattle.lang_meaning.specs.Forms.{constant_form, variable_form}
@@ -450,7 +451,7 @@ last_fits N d [] q k h e = tt
 last_fits N d (x ∷ xs) q k h e =
     let l : length (x ∷ xs) ≡ length q.0.names = ap length (sym e) in
     let n : N ≡ length (x ∷ xs) = omega (arith, k, l, h.names, h.fits.few_names) in
-    let c : nodes_in q.1 ≤ 512 = omega (arith, h.nodes, h.fits.few_nodes) in
+    let c : nodes_in q.1 ≤ MOST_STATEMENTS = omega (arith, h.nodes, h.fits.few_nodes) in
     let k : IsTrue (are_statements (length (x ∷ xs)) false q.1) = subst (λ (m : ℕ). IsTrue (are_statements m false q.1)) n
     (h.good (omega (arith, n, l))) in
     let m = length (x ∷ xs) + MOST_HIDDEN in

@@ -16,6 +16,7 @@ use Rattle.lang_tree.specs.Tree.{Condition, Statements, compare, while_loop, set
 use Rattle.lang_meaning.specs.Forms.{constant_form, variable_form, plus, minus}
 use Rattle.lang_meaning.specs.Walk.{State, followed_by, one, known_number, ranged}
 use Rattle.lang_meaning.specs.Feed.{Machine, at, under, of_items, of_loop, after, stands, feed, begin, result_of}
+use Rattle.base_limits.specs.declared.limits.TheConstants.{MOST_STATEMENTS}
 use Rattle.lang_meaning.specs.Results.{◌>>=◌}
 use Rattle.out_workload.specs.declared.draws.Loop.{Loop}
 use Rattle.out_workload.specs.Draws.{following}
@@ -45,10 +46,10 @@ second_node v w bound step ls = one (loop (while_loop []) (compare Lt (variable_
 
 -- what is known of the numbers
 record Small (k bound step : ℕ) : Type 0 where
-  first : nat_lt k 512 ≡ true
-  second : nat_lt (suc k) 512 ≡ true
-  third : nat_lt (suc (suc k)) 512 ≡ true
-  fourth : nat_lt (suc (suc (suc k))) 512 ≡ true
+  first : nat_lt k MOST_STATEMENTS ≡ true
+  second : nat_lt (suc k) MOST_STATEMENTS ≡ true
+  third : nat_lt (suc (suc k)) MOST_STATEMENTS ≡ true
+  fourth : nat_lt (suc (suc (suc k))) MOST_STATEMENTS ≡ true
   bound_fits : nat_le bound 9223372036854775807 ≡ true
   step_fits : nat_le step 9223372036854775807 ≡ true
   minus_bound : pos 0 -ℤ pos bound ≡ neg_ℤ (pos bound)
@@ -124,12 +125,12 @@ abs_minus (suc n) = refl
 minus_is : (n : ℕ) → pos 0 -ℤ pos n ≡ neg_ℤ (pos n)
 minus_is n = omega (arith, ints)
 
-small : (k bound step : ℕ) → k + 4 ≤ 512 → bound ≤ 100 → step ≤ 9 → Small k bound step
+small : (k bound step : ℕ) → k + 4 ≤ MOST_STATEMENTS → bound ≤ 100 → step ≤ 9 → Small k bound step
 small k bound step h i j = record {
-  first = lt-ltb k 512 (omega arith);
-  second = lt-ltb (suc k) 512 (omega arith);
-  third = lt-ltb (suc (suc k)) 512 (omega arith);
-  fourth = lt-ltb (suc (suc (suc k))) 512 (omega arith);
+  first = lt-ltb k MOST_STATEMENTS (omega arith);
+  second = lt-ltb (suc k) MOST_STATEMENTS (omega arith);
+  third = lt-ltb (suc (suc k)) MOST_STATEMENTS (omega arith);
+  fourth = lt-ltb (suc (suc (suc k))) MOST_STATEMENTS (omega arith);
   bound_fits = le-leb bound 9223372036854775807 (omega arith);
   step_fits = le-leb step 9223372036854775807 (omega arith);
   minus_bound = minus_is bound;
@@ -182,7 +183,7 @@ nodes_are n l ls m e ns =
 -- the loops of a text, where they stand after a front
 pub loops_fed : (text front back : List ℕ) (p n : ℕ) (ls : List Loop) → AreDrawn ls → front ++ (spelled (loops_parts ls) ++ back) ≡ text
     → length front ≡ p → 1 + feeds front ≡ n →
-    (k : ℕ) → k + 4 * length ls ≤ 512 → (ns : Statements) (o : Option (List ℕ)) (a : ℕ) (rest : List g.Token) →
+    (k : ℕ) → k + 4 * length ls ≤ MOST_STATEMENTS → (ns : Statements) (o : Option (List ℕ)) (a : ℕ) (rest : List g.Token) →
     feed (line_at text) 3 (tokens_at p (loops_parts ls) ++ g.token (next o) a ∷ rest) (machine_at k ns)
     ≡ feed (line_at text) 3 (g.token (next o) a ∷ rest) (machine_at (count_behind k ls) (followed_by ns (loops_body n ls)))
 loops_fed text front back p n [] d e f h k c ns o a rest = ap (λ (x : Statements). feed (line_at text) 3 (g.token (next o) a ∷ rest)

@@ -2,7 +2,7 @@
 use Rattle.std.proofs.Common.{◌≡◌, ◌≤◌, ◌+◌, ◌-◌, ◌*◌, ℕ, List, [], ◌∷◌, ◌++◌, length, map, min, None, Ok, refl, sym, ap, ◌∙◌, subst, arith}
 use Rattle.std.specs.Prelude.{decimal}
 use Rattle.std.proofs.lemmas.List.{append_assoc, append-nil, length-append, map-append}
-use Rattle.base_limits.specs.declared.limits.TheConstants.{MOST_TEXT_BYTES}
+use Rattle.base_limits.specs.declared.limits.TheConstants.{MOST_LOOPS, MOST_PROGRAM_BYTES, MOST_STATEMENTS}
 use Rattle.lang_tokens.specs.declared.lexicon.Lexicon.TheVariants.{Own}
 use Rattle.lang_tokens.specs.declared.token.Token as lex_token
 use Rattle.lang_tokens.specs.Lines.{line_at}
@@ -146,7 +146,7 @@ abbrev behind_first : List g.Token → List g.Token
 behind_first [] = []
 behind_first (t ∷ ts) = ts
 
-fed : (text : List ℕ) (ls : List Loop) → AreDrawn ls → 3 + 4 * length ls ≤ 512 → spelled (text_parts ls) ≡ text →
+fed : (text : List ℕ) (ls : List Loop) → AreDrawn ls → 3 + 4 * length ls ≤ MOST_STATEMENTS → spelled (text_parts ls) ≡ text →
     (feed (line_at text) 3 (read_tokens text ls) begin >>= λ s. result_of s)
     ≡ Ok (generated_names, followed_by (front_nodes (lines_at 1 front_parts)) (loops_body 3 ls))
 fed text ls d c e =
@@ -164,7 +164,7 @@ fed text ls d c e =
     None (loops_end ls + 1 + 1) (behind_first back))
     ∙ back_fed line (loops_end ls) (count_behind 3 ls) (followed_by (front_nodes (lines_at 1 front_parts)) (loops_body 3 ls)) (length text)
 
-text_means : (text : List ℕ) (ls : List Loop) → AreDrawn ls → 3 + 4 * length ls ≤ 512 → spelled (text_parts ls) ≡ text →
+text_means : (text : List ℕ) (ls : List Loop) → AreDrawn ls → 3 + 4 * length ls ≤ MOST_STATEMENTS → spelled (text_parts ls) ≡ text →
     Means text (tokens_of text (lexed text ls)) (Ok (generated_names, followed_by (front_nodes (lines_at 1 front_parts)) (loops_body 3 ls)))
 text_means text ls d c e =
     let tokens = tokens_of text (lexed text ls) in
@@ -178,8 +178,8 @@ text_means text ls d c e =
 pub generated_reads : (seed loops : ℕ) → Reads Own (generated_text seed loops) (lexed (generated_text seed loops) (loops_from seed loops))
 generated_reads seed loops = text_reads (generated_text seed loops) (loops_from seed loops) (are_drawn seed loops) (text_spelled seed loops)
 
--- the tokens of a generated text with at most 46 loops mean its body over a, b and c
-pub generated_means : (seed loops : ℕ) → loops ≤ 46 → Means (generated_text seed loops)
+-- the tokens of a generated text mean its body over a, b and c
+pub generated_means : (seed loops : ℕ) → loops ≤ MOST_LOOPS → Means (generated_text seed loops)
     (tokens_of (generated_text seed loops) (lexed (generated_text seed loops) (loops_from seed loops)))
     (Ok (generated_names, generated_body seed loops))
 generated_means seed loops h = text_means (generated_text seed loops) (loops_from seed loops) (are_drawn seed loops)
@@ -204,8 +204,8 @@ loops_length (l ∷ ls) d = omega (
   loops_length ls d.1,
 )
 
--- a generated text with at most 46 loops has at most 65536 bytes
-pub generated_short : (seed loops : ℕ) → loops ≤ 46 → length (generated_text seed loops) ≤ MOST_TEXT_BYTES
+-- a generated text is no longer than a program may be
+pub generated_short : (seed loops : ℕ) → loops ≤ MOST_LOOPS → length (generated_text seed loops) ≤ MOST_PROGRAM_BYTES
 generated_short seed loops h =
     let ls = loops_from seed loops in
     let front : length (spelled front_parts) ≡ 40 = refl in

@@ -110,7 +110,7 @@ analyses purpose a format = record {
   lawful = lawful (question purpose a) (analysis_once purpose a.program a.domain a.policy a.improvements)
       (λ bytes. IsPut exact purpose a format bytes) (written_ends purpose a format);
   writes_once = writes_once purpose a format;
-  limits = λ contents range e. within (which.Program, a.program.text) a [] contents refl range e;
+  limits = λ contents range e. within (which.Program, a.program.text) a [] contents range e;
 }
 
 report_in : List Row → Analysis (List ℕ) → Option Request

@@ -87,7 +87,7 @@ checks program given format = record {
   };
   writes_once = λ none contents. done_once (λ bytes. IsChecked exact (source_with program contents) (text_at contents 1) format bytes)
       (checked_once (source_with program contents) (text_at contents 1) format);
-  limits = λ contents range e. first_short (which.Program, program.text) ((which.Certificate, given) ∷ []) contents refl e;
+  limits = λ contents range e. first_short (which.Program, program.text) ((which.Certificate, given) ∷ []) contents e;
 }
 
 check_by : List Row → Program → (certificate : WordText) → Option Request

@@ -44,7 +44,7 @@ limits : (given : List ℕ) (a : Analysis (List ℕ)) (format : Format) (content
     → (command_of exact (with_texts (Prove given a format) contents)).in_limits
 limits given a format contents range e =
     let read = read_first (which.Program, a.program.text) (rows_before a.domain ((which.Claims, given) ∷ [])) contents e in (
-      within (which.Program, a.program.text) a ((which.Claims, given) ∷ []) contents refl range e,
+      within (which.Program, a.program.text) a ((which.Claims, given) ∷ []) contents range e,
       subst (λ c. IsShort (text_at c (1 + rows_files a.domain))) (sym read.2) (claims_short a.domain given read.0 read.1 read.4),
     )
 

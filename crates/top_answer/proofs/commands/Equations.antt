@@ -41,7 +41,7 @@ equations text limit policy format = record {
       (λ bytes. AreValuesOf text policy limit format bytes) (written_ends text policy limit format);
   writes_once = λ none contents. done_once (λ bytes. AreValuesOf (text_at contents 0) policy limit format bytes)
       (values_once (text_at contents 0) policy limit format);
-  limits = λ contents range e. (first_short (which.Equations, text) [] contents refl e, range);
+  limits = λ contents range e. (first_short (which.Equations, text) [] contents e, range);
 }
 
 values_in : List Row → WordText → ℕ → Policy → Option Request

@@ -3,6 +3,7 @@ use Rattle.std.proofs.Common.{◌≡◌, ◌≤◌, ℕ, List, refl, sym, subst,
 use Rattle.std.specs.Prelude.{IfOk, IfErr, Option, Result, Some, Vec, codes, option_and_then, option_map}
 use Rattle.std.specs.declared.alloc.Global.{Global}
 use Rattle.clap.specs.Words.{Row, first_of}
+use Rattle.base_limits.specs.declared.limits.TheConstants.{MOST_LOOPS}
 use Rattle.flow_templates.specs.Domains.{intervals_of}
 use Rattle.flow_systems.specs.Equations.{Equations as Equations_of, Least}
 use Rattle.out_workload.specs.Bodies.{generated_body, generated_names}
@@ -50,7 +51,7 @@ benches seed loops = record {
 }
 
 bench_of : List Row → ℕ → Option Request
-bench_of given seed = option_map (λ loops. Bench seed loops) (option_and_then (number_in 1 46) (first_of (codes "loops") given))
+bench_of given seed = option_map (λ loops. Bench seed loops) (option_and_then (number_in 1 MOST_LOOPS) (first_of (codes "loops") given))
 
 -- its numbers are within their limits
 pub bench_range : (given : List Row) (r : Request) → bench_in given ≡ Some r → IsInRange r
@@ -58,11 +59,11 @@ unfolding bench_of
 bench_range given r e =
     let seed = and_then_some (bench_of given) (option_and_then (number_in 0 2147483647) (first_of (codes "seed") given)) r e in
     let made : ℕ → Request = λ loops. Bench seed.0 loops in
-    let loops = map_some made (option_and_then (number_in 1 46) (first_of (codes "loops") given)) r seed.2 in
+    let loops = map_some made (option_and_then (number_in 1 MOST_LOOPS) (first_of (codes "loops") given)) r seed.2 in
     let s = and_then_some (number_in 0 2147483647) (first_of (codes "seed") given) seed.0 seed.1 in
-    let l = and_then_some (number_in 1 46) (first_of (codes "loops") given) loops.0 loops.1 in
+    let l = and_then_some (number_in 1 MOST_LOOPS) (first_of (codes "loops") given) loops.0 loops.1 in
     let most : seed.0 ≤ 2147483647 = (number_bounds 0 2147483647 s.0 seed.0 s.2).1 in
-    let range = number_bounds 1 46 l.0 loops.0 l.2 in
+    let range = number_bounds 1 MOST_LOOPS l.0 loops.0 l.2 in
     subst (λ r. IsInRange r) loops.2 (omega arith, range.0, range.1)
 
 -- its summary, or why there is none

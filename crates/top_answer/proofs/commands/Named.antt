@@ -48,7 +48,7 @@ functions text = record {
     never_unwritten = never_unwritten text;
   };
   writes_once = λ none contents. done_once (λ bytes. AreFunctionsOf (text_at contents 0) bytes) (functions_once (text_at contents 0));
-  limits = λ contents range e. first_short (which.Program, text) [] contents refl e;
+  limits = λ contents range e. first_short (which.Program, text) [] contents e;
 }
 
 -- they have no number

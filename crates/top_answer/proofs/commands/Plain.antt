@@ -114,7 +114,7 @@ points text = record {
   };
   writes_once = λ none contents. done_once (λ bytes. ArePointsOf (whole_source (text_at contents 0)) bytes)
       (points_once (whole_source (text_at contents 0)));
-  limits = λ contents range e. first_short (which.Program, text) [] contents refl e;
+  limits = λ contents range e. first_short (which.Program, text) [] contents e;
 }
 
 -- they have no number

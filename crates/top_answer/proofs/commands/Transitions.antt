@@ -45,7 +45,7 @@ transitions a format = record {
       (λ bytes. IsAutoReport a.program.text a.domain a.policy a.improvements format bytes)
       (λ bytes r. rounds_end r.system refl r.meant (r.rounds, r.within, r.vector, r.has_rounds));
   writes_once = λ none contents. one_report_at (analysis_with a contents) format;
-  limits = λ contents range e. within (which.System, a.program.text) a [] contents refl range e;
+  limits = λ contents range e. within (which.System, a.program.text) a [] contents range e;
 }
 
 transitions_by : List Row → Analysis WordText → Option Request

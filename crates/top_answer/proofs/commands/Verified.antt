@@ -104,7 +104,7 @@ verifies name a format = record {
     never_unwritten = unwritten a;
   };
   writes_once = λ none contents. one_list name (analysis_with a contents) format;
-  limits = λ contents range e. within (which.Program, a.program.text) a [] contents refl range e;
+  limits = λ contents range e. within (which.Program, a.program.text) a [] contents range e;
 }
 
 verify_by : List Row → Analysis WordText → Option Request

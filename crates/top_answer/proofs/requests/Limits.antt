@@ -1,7 +1,7 @@
 -- Where the files of a request are read, its texts are within their limits.
 use Rattle.std.proofs.Common.{◌≡◌, ◌≤◌, ◌+◌, ℕ, Bool, true, false, List, [], ◌∷◌, length, refl, sym, subst, arith, if◌then◌else◌}
 use Rattle.std.specs.Prelude.{Option, Some, None, nat_lt}
-use Rattle.base_limits.specs.declared.limits.TheConstants.{MOST_IMPROVEMENTS, MOST_TEXT_BYTES}
+use Rattle.base_limits.specs.declared.limits.TheConstants.{MOST_IMPROVEMENTS}
 use Rattle.ask_words.specs.declared.request.Analysis.{Analysis}
 use Rattle.ask_words.specs.declared.request.Domain.{Domain}
 use Rattle.ask_words.specs.declared.request.Domain.TheVariants.{Intervals, Zones, Octagons, Rows}
@@ -55,18 +55,16 @@ claims_short (Rows file) claims text rest e =
 
 -- the texts of an analysis are within their limits
 pub within : (file : NamedFile) (analysis : Analysis (List ℕ)) (later : List NamedFile) (contents : List (List ℕ))
-    → most_bytes file.0 ≡ MOST_TEXT_BYTES → analysis.improvements ≤ MOST_IMPROVEMENTS
-    → unread (file ∷ rows_before analysis.domain later) contents ≡ None → IsWithin (analysis_with analysis contents)
-within file analysis later contents most limit e =
+    → analysis.improvements ≤ MOST_IMPROVEMENTS → unread (file ∷ rows_before analysis.domain later) contents ≡ None
+    → IsWithin (most_bytes file.0) (analysis_with analysis contents)
+within file analysis later contents limit e =
     let read = read_first file (rows_before analysis.domain later) contents e in
-    let short : length read.0 ≤ MOST_TEXT_BYTES = subst (λ n. length read.0 ≤ n) most read.3 in
-    subst (λ c. IsWithin (analysis_with analysis c)) (sym read.2)
-    (record { short = short; short_rows = rows_short analysis.domain later read.0 read.1 read.4; limit = limit })
+    subst (λ c. IsWithin (most_bytes file.0) (analysis_with analysis c)) (sym read.2)
+    (record { short = read.3; short_rows = rows_short analysis.domain later read.0 read.1 read.4; limit = limit })
 
 -- a text that is read alone is within its limit
-pub first_short : (file : NamedFile) (later : List NamedFile) (contents : List (List ℕ)) → most_bytes file.0 ≡ MOST_TEXT_BYTES
-    → unread (file ∷ later) contents ≡ None → IsShort (text_at contents 0)
-first_short file later contents most e =
+pub first_short : (file : NamedFile) (later : List NamedFile) (contents : List (List ℕ)) → unread (file ∷ later) contents ≡ None
+    → length (text_at contents 0) ≤ most_bytes file.0
+first_short file later contents e =
     let read = read_first file later contents e in
-    let short : length read.0 ≤ MOST_TEXT_BYTES = subst (λ n. length read.0 ≤ n) most read.3 in
-    subst (λ c. IsShort (text_at c 0)) (sym read.2) short
+    subst (λ c. length (text_at c 0) ≤ most_bytes file.0) (sym read.2) read.3

@@ -1,7 +1,7 @@
 //! What a message names of the files: the line of a cause in its text, and how many rows a certificate has.
 
 ghost use Rattle.std.specs.Prelude.{◌≡◌, ◌≤◌, length};
-ghost use Rattle.base_limits.specs.declared.limits.TheConstants.{MOST_TEXT_BYTES};
+ghost use Rattle.base_limits.specs.declared.limits.TheConstants.{MOST_PROGRAM_BYTES};
 ghost use Rattle.top_status.specs.CheckMessages.{fault_has_unknown, has_unknown, rows_of, site_has_unknown};
 ghost use Rattle.top_status.specs.Messages.{auto_place, claim_place, equation_place, function_place, lex_place, line_at_place, line_in};
 ghost use Rattle.top_status.specs.Messages.{parse_place, place_of, source_place};
@@ -134,7 +134,7 @@ fn auto_place(fault: AutoFault) -> Option<u32>
 
 // The line of a cause.
 fn cause_line(text: &[u8], cause: TextCause) -> u32
-    requires { length text.now ≤ MOST_TEXT_BYTES }
+    requires { length text.now ≤ MOST_PROGRAM_BYTES }
     ensures { result ≡ line_at_place text.now (place_of cause) }
 {
     match place_of(cause) {
@@ -145,7 +145,7 @@ fn cause_line(text: &[u8], cause: TextCause) -> u32
 
 /// The line of an answer to a text, from 1; 0 where it has none.
 pub fn answer_line(text: &[u8], status: &Status) -> u32
-    requires { length text.now ≤ MOST_TEXT_BYTES }
+    requires { length text.now ≤ MOST_PROGRAM_BYTES }
     ensures { result ≡ line_in text.now status.now }
 {
     match status {

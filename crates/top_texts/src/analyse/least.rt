@@ -1,7 +1,7 @@
 //! The least bounds of a program, for other outputs than its report.
 
 ghost use Rattle.std.specs.Prelude.{◌≡◌, ◌≤◌, IfOk, IfErr, length};
-ghost use Rattle.base_limits.specs.declared.limits.TheConstants.{MOST_IMPROVEMENTS, MOST_TEXT_BYTES};
+ghost use Rattle.base_limits.specs.declared.limits.TheConstants.{MOST_IMPROVEMENTS, MOST_PROGRAM_BYTES};
 ghost use Rattle.top_texts.specs.Analyses.{IsFoundIn, IsHaltedEnding, IsRefusedText, IsSolvedBy};
 ghost use Rattle.top_texts.specs.Short.{HasShortRows};
 ghost use Rattle.ask_words.specs.Request.{domain_text, source_text};
@@ -62,7 +62,7 @@ pub fn least_on<W: Watch>(
     limit: u32,
     watch: &mut W,
 ) -> Result<LeastBounds, Ending>
-    requires short { length program.text.now ≤ MOST_TEXT_BYTES }
+    requires short { length program.text.now ≤ MOST_PROGRAM_BYTES }
     requires short_rows { HasShortRows (domain_text rows) }
     requires limit { limit ≤ MOST_IMPROVEMENTS }
     ensures ok { IfOk result (IsFoundIn (source_text program.entry) (domain_text rows.entry) policy limit) }

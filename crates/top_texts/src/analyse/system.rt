@@ -1,7 +1,7 @@
 //! The system of a program and of its rows.
 
 ghost use Rattle.std.specs.Prelude.{◌≡◌, ◌*◌, ◌≤◌, ◌<◌, ◌≢◌, ℕ, List, IfOk, IfErr, IsTrue, Ok, Err, length};
-ghost use Rattle.base_limits.specs.declared.limits.TheConstants.{MOST_TEXT_BYTES};
+ghost use Rattle.base_limits.specs.declared.limits.TheConstants.{MOST_PROGRAM_BYTES};
 ghost use Rattle.lang_tree.specs.Tree.{Statements};
 ghost use Rattle.flow_templates.specs.declared.fault.RowFault.TheVariants.{NoMemory};
 ghost use Rattle.flow_systems.specs.SystemLimits.{is_over};
@@ -89,7 +89,7 @@ pub fn system_on(
     program: Source<&[u8]>,
     rows: Domain<&[u8]>,
 ) -> Result<System, Refusal>
-    requires short { length program.text.now ≤ MOST_TEXT_BYTES }
+    requires short { length program.text.now ≤ MOST_PROGRAM_BYTES }
     requires short_rows { HasShortRows (domain_text rows) }
     ensures ok { IfOk result (λ system. IsSolvedSystem (source_text program.entry) (domain_text rows.entry) system) }
     ensures err { IfErr result (λ refusal. IsRefusedBy (source_text program.entry) (domain_text rows.entry) refusal) }

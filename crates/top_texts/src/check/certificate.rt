@@ -5,7 +5,7 @@ ghost use Rattle.std.specs.Prelude.{◌≡◌, ◌*◌, ◌≤◌, ◌<◌, ◌^
 ghost use Rattle.std.specs.Prelude.{nat_lt};
 ghost use Rattle.std.specs.List.{list_all};
 ghost use Rattle.ask_words.specs.Request.{source_text};
-ghost use Rattle.base_limits.specs.declared.limits.TheConstants.{MOST_TEXT_BYTES};
+ghost use Rattle.base_limits.specs.declared.limits.TheConstants.{MOST_PROGRAM_BYTES};
 ghost use Rattle.lang_tree.specs.Tree.{Statements};
 ghost use Rattle.flow_edges.specs.Edges.{edges_of_program};
 ghost use Rattle.flow_edges.specs.Points.{points_of_program};
@@ -45,7 +45,7 @@ pub struct Given {
 ///
 /// A fault of the program, or else of the form of the bytes; or want of memory.
 pub fn read_given(alloc: Global, source: Source<&[u8]>, bytes: &[u8]) -> Result<Given, Refusal>
-    requires { length source.text.now ≤ MOST_TEXT_BYTES }
+    requires { length source.text.now ≤ MOST_PROGRAM_BYTES }
     ensures spelt { IfOk result (λ given. IsSpelt (source_text source.entry) bytes.now given.program.names given.program.body
         (fitted_to given.program.names given.program.body given.cert)) }
     ensures reads { IfOk result (λ given. SpellsCert bytes.now given.cert) }

@@ -1,4 +1,5 @@
 use Rattle.std.proofs.Common.{◌∙◌, ap, subst, sym}
+use Rattle.base_limits.specs.declared.limits.TheConstants.{MOST_PROGRAM_BYTES}
 use Rattle.ask_files.specs.Files.{texts_of}
 use Rattle.ask_words.specs.Request.{analysis_text}
 use Rattle.ask_words.specs.declared.format.Format.TheVariants.{Text}
@@ -17,6 +18,6 @@ returns-in-Ok-Some g c = λ format.
 
 pub annotated-requires : goal.annotated-requires
 annotated-requires g c =
-    subst (λ a. IsWithin a) (sym c.analysis_with.ensures)
+    subst (λ a. IsWithin MOST_PROGRAM_BYTES a) (sym c.analysis_with.ensures)
     (in_limits (Analyse Report (analysis_text c.args.analysis) Text) (texts_of c.args.contents.now) c.requires
     (sym c.in-Ok-None.ensures ∙ c.in-Ok-None.field-0-is))

@@ -1,5 +1,4 @@
-use Rattle.out_workload.proofs.bodies.BodyLimits.{generated_points, generated_unknowns, generated_within}
-use Rattle.out_workload.proofs.bodies.FewCells.{generated_cells}
+use Rattle.out_workload.proofs.bodies.BodyLimits.{generated_edges, generated_points, generated_unknowns, generated_within}
 use Rattle.out_workload.proofs.bodies.TextReads.{generated_means, generated_reads, generated_short, lexed}
 use Rattle.out_workload.specs.Draws.{loops_from}
 use Rattle.out_workload.specs.Texts.{generated_text}
@@ -14,5 +13,5 @@ returns c = λ seed loops h. record {
   within = generated_within seed loops h;
   points = generated_points seed loops;
   unknowns = generated_unknowns seed loops h;
-  cells = generated_cells seed loops h;
+  edges = generated_edges seed loops;
 }

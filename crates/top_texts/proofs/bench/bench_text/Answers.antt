@@ -1,6 +1,6 @@
 use Rattle.std.proofs.Common.{◌≡◌, ◌∙◌, ◌≤◌, ap, arith, length, rules, subst, sym}
 use Rattle.std.specs.Prelude.{Ok}
-use Rattle.base_limits.specs.declared.limits.TheConstants.{MOST_TEXT_BYTES}
+use Rattle.base_limits.specs.declared.limits.TheConstants.{MOST_PROGRAM_BYTES}
 use Rattle.out_workload.specs.Texts.{generated_text}
 use Rattle.top_texts.specs.Exact.{exact}
 use Rattle.top_texts.specs.Generated.{ReadsAs}
@@ -12,7 +12,7 @@ use Rattle.top_texts.proofs.bench.bench_text.Goals as goal
 
 pub generated_program-requires : goal.generated_program-requires
 generated_program-requires g c =
-    subst (λ t. length t ≤ MOST_TEXT_BYTES) (sym (c.deref.ensures.value ∙ c.in_ok-text.ensures))
+    subst (λ t. length t ≤ MOST_PROGRAM_BYTES) (sym (c.deref.ensures.value ∙ c.in_ok-text.ensures))
     (c.generated_texts_read.ensures c.args.seed c.args.loops c.requires.few).short
 
 pub returns-in_err-program-clause-err : goal.returns-in_err-program-clause-err
