@@ -24,11 +24,7 @@ use solve_composition::Paths;
 use std::alloc::{AllocError, Global};
 
 // The sum of the rises: 1 for each unknown, and 0 for the columns behind them.
-fn goal(
-    alloc: Global,
-    unknowns: usize,
-    more: usize,
-) -> Result<Coefficients<Frac>, AllocError>
+fn goal(alloc: Global, unknowns: usize, more: usize) -> Result<Coefficients<Frac>, AllocError>
     ensures { IfOk result (λ v. v ≡ ones unknowns ++ zeros more) }
 {
     let mut goal = Coefficients::new(alloc);

@@ -44,11 +44,7 @@ fn row_entry(row: &[i64], column: usize) -> Frac
 /// # Errors
 ///
 /// Want of memory.
-pub fn split_row(
-    alloc: Global,
-    row: &[i64],
-    width: usize,
-) -> Result<Coefficients<Frac>, AllocError>
+pub fn split_row(alloc: Global, row: &[i64], width: usize) -> Result<Coefficients<Frac>, AllocError>
     requires { IsTrue (are_numbers row.now) }
     ensures { IfOk result (λ list. list ≡ pairs (first_entries width (map whole row.now))) }
 {

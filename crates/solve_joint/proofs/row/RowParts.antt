@@ -33,28 +33,29 @@ split_more coeffs i x y first l e f =
     ∙ ap (λ z. split_list (take i coeffs ++ z ∷ [])) e ∙ ap split_list (sym (take_more coeffs i x l)))
 
 -- one more listed unknown extends the rises
-rises_more : (c : ℚ) (target : ℕ) (list : List ℕ) (i u : ℕ) (x : ℚ) (first : List ℚ) → i < length list → u ≡ get_or list i u
-    → on_number c target u ≡ x → (first ++ on_numbers c target (take i list)) ++ x ∷ [] ≡ first ++ on_numbers c target (take (i + 1) list)
-rises_more c target list i u x first l e f =
+rises_more : (c : ℚ) (target : ℕ) (list : List ℕ) (i : ℕ) (x : ℚ) (first : List ℚ) → i < length list
+    → on_number c target (get_or list i 0) ≡ x
+    → (first ++ on_numbers c target (take i list)) ++ x ∷ [] ≡ first ++ on_numbers c target (take (i + 1) list)
+rises_more c target list i x first l f =
     append_assoc first (on_numbers c target (take i list)) (x ∷ [])
-    ∙ ap (λ xs. first ++ xs) (ap (λ y. on_numbers c target (take i list) ++ y ∷ []) (sym f ∙ ap (on_number c target) e)
-    ∙ sym (map_more (on_number c target) list i u l))
+    ∙ ap (λ xs. first ++ xs) (ap (λ y. on_numbers c target (take i list) ++ y ∷ []) (sym f)
+    ∙ sym (map_more (on_number c target) list i 0 l))
 
 -- the rise of the target, behind the zeros before it
-pub rises_on : (c : ℚ) (target : ℕ) (list : List ℕ) (i u n : ℕ) (row mid new first : List ℚ) → i < length list → u ≡ get_or list i u
-    → u ≡ target → row ++ zeros n ≡ first ++ on_numbers c target (take i list) → mid ≡ row ++ zeros n → new ≡ mid ++ c ∷ []
+pub rises_on : (c : ℚ) (target : ℕ) (list : List ℕ) (i n : ℕ) (row mid new first : List ℚ) → i < length list → get_or list i 0 ≡ target
+    → row ++ zeros n ≡ first ++ on_numbers c target (take i list) → mid ≡ row ++ zeros n → new ≡ mid ++ c ∷ []
     → new ++ zeros 0 ≡ first ++ on_numbers c target (take (i + 1) list)
-rises_on c target list i u n row mid new first l e q h f k =
+rises_on c target list i n row mid new first l q h f k =
     append-nil new ∙ k ∙ ap (λ xs. xs ++ c ∷ []) (f ∙ h)
-    ∙ rises_more c target list i u c first l e (ap (λ b. cond b c zero_ℚ) (eq-eqb u target q))
+    ∙ rises_more c target list i c first l (ap (λ b. cond b c zero_ℚ) (eq-eqb (get_or list i 0) target q))
 
 -- one more unknown that is not the target
-pub rises_off : (c : ℚ) (target : ℕ) (list : List ℕ) (i u n : ℕ) (row first : List ℚ) → i < length list → u ≡ get_or list i u
-    → u ≢ target → row ++ zeros n ≡ first ++ on_numbers c target (take i list)
+pub rises_off : (c : ℚ) (target : ℕ) (list : List ℕ) (i n : ℕ) (row first : List ℚ) → i < length list → get_or list i 0 ≢ target
+    → row ++ zeros n ≡ first ++ on_numbers c target (take i list)
     → row ++ zeros (n + 1) ≡ first ++ on_numbers c target (take (i + 1) list)
-rises_off c target list i u n row first l e d h =
+rises_off c target list i n row first l d h =
     ap (λ xs. row ++ xs) (zeros_more n) ∙ sym (append_assoc row (zeros n) (zero_ℚ ∷ [])) ∙ ap (λ xs. xs ++ zero_ℚ ∷ []) h
-    ∙ rises_more c target list i u zero_ℚ first l e (ap (λ b. cond b c zero_ℚ) (ne_eqb u target d))
+    ∙ rises_more c target list i zero_ℚ first l (ap (λ b. cond b c zero_ℚ) (ne_eqb (get_or list i 0) target d))
 
 -- a one more extends the ones
 pub ones_more : (n : ℕ) → ones (n + 1) ≡ ones n ++ one_ℚ ∷ []
