@@ -1,7 +1,7 @@
 -- The core that a generated text reads as is the generated one: it has the generated system, and is refused by no cause.
 use Rattle.std.proofs.Common.{◌≡◌, ◌∙◌, ⊎_elim, ℕ, ◌≤◌, ◌<◌, List, length, sym, ap, subst, arith}
 use Rattle.std.specs.Prelude.{ℤ, Ok, Err, None, Option, Some, Result}
-use Rattle.base_limits.specs.declared.limits.TheConstants.{MOST_CELLS}
+use Rattle.base_limits.specs.declared.limits.TheConstants.{MOST_LOOPS}
 use Rattle.lang_tokens.specs.declared.lexicon.Lexicon.TheVariants.{Own}
 use Rattle.lang_tokens.proofs.reading.Once.{one_token_list}
 use Rattle.lang_grammar.specs.View.{tokens_of}
@@ -10,19 +10,17 @@ use Rattle.lang_meaning.proofs.meaning.OneMeaning.{means_once}
 use Rattle.lang_tree.specs.Tree.{Statements}
 use Rattle.flow_edges.specs.Faults.{fault_of_program}
 use Rattle.flow_edges.specs.declared.fault.FlowFault.{FlowFault}
-use Rattle.flow_edges.specs.Edges.{edges_of_program}
-use Rattle.flow_edges.proofs.points.Numbering.{numbering}
+use Rattle.flow_edges.proofs.Each.{Each, each_weaker}
 use Rattle.flow_templates.specs.Domains.{intervals_of}
 use Rattle.flow_templates.specs.declared.fault.RowFault.{RowFault}
-use Rattle.flow_systems.specs.Cells.{cells_of}
-use Rattle.flow_systems.specs.Equations.{Least}
-use Rattle.flow_systems.specs.Solutions.{equations_of_program}
+use Rattle.flow_systems.specs.Equations.{Equations, Least}
 use Rattle.flow_systems.specs.View.{equations_of, vector_of}
 use Rattle.flow_systems.specs.declared.system.System.{System}
 use Rattle.solve_rounds.specs.declared.solution.Solved.{Solved}
 use Rattle.solve_rounds.specs.Solutions.{IsSolved}
+use Rattle.solve_rounds.proofs.halts.FewCells.{none_large}
 use Rattle.out_workload.specs.Bodies.{generated_body, generated_names}
-use Rattle.out_workload.specs.Law.{GeneratedTextsRead, generated_equations}
+use Rattle.out_workload.specs.Law.{GeneratedTextsRead, LeadsOn}
 use Rattle.out_workload.specs.Summaries.{summary_of}
 use Rattle.out_workload.specs.Texts.{generated_text}
 use Rattle.ask_words.specs.declared.request.Domain.TheVariants.{Intervals}
@@ -31,7 +29,7 @@ use Rattle.top_texts.specs.Generated.{IsGenerated, ReadsAs}
 use Rattle.top_texts.specs.Outcomes.{HasNoFlow, HasNoRows, HasNoSystemOver, HasSystemOver, IsHalted, IsUnanswered}
 use Rattle.top_texts.specs.Exact.{exact}
 use Rattle.top_texts.specs.Policies.{rule_of}
-use Rattle.top_texts.specs.Questions.{bench_question}
+use Rattle.top_texts.specs.Questions.{IsOnlyWide, bench_question}
 use Rattle.top_texts.specs.Reports.{IsSummaryOf}
 use Rattle.top_texts.proofs.rounds.OneChain.{solved_rounds}
 use Rattle.top_texts.specs.Rounds.{IsSystemFor}
@@ -40,7 +38,9 @@ use Rattle.ask_words.specs.declared.request.Purpose.TheVariants.{Report}
 use Rattle.top_texts.specs.declared.refusal.Refusal.{Refusal}
 use Rattle.top_texts.specs.declared.refusal.Refusal.TheVariants as refusal
 use Rattle.top_status.specs.declared.status.TextCause.TheVariants as why
-use Rattle.top_texts.proofs.analyse.Halted.{only_wide}
+use Rattle.top_texts.specs.Spots.{HasExcess}
+use Rattle.top_status.specs.declared.status.Excess.{Excess}
+use Rattle.top_status.specs.declared.status.Excess.TheVariants.{Large, Wide}
 use Rattle.top_texts.proofs.questions.Answered.{halted}
 use Rattle.top_texts.proofs.texts.Once.{equations_are}
 use Rattle.flow_systems.specs.declared.limits.TheConstants.{MOST_UNKNOWNS}
@@ -68,26 +68,22 @@ reads_once text p q (ts, r, m) (us, s, n) = same_meant p q (means_once text (tok
 faulty_flow : (f : FlowFault) (o : Option FlowFault) → o ≡ Some f → o ≡ None → ⊥
 faulty_flow f o e n = cc
 
-module _ (law : GeneratedTextsRead) (seed loops : ℕ) (few : loops ≤ 46) where
+module _ (law : GeneratedTextsRead) (seed loops : ℕ) (few : loops ≤ MOST_LOOPS) where
   reading : ReadsAs (generated_text seed loops) (Ok (generated_names, generated_body seed loops))
   reading = let l = law seed loops few in (l.tokens, l.reads, l.means)
 
-  cells_are : cells_of (generated_equations seed loops) ≡ cells_of (equations_of_program 3 (generated_body seed loops) (intervals_of 3))
-  cells_are =
-      ap (λ k. cells_of (record {
-        variables = 3;
-        points = k;
-        edges = edges_of_program (generated_body seed loops);
-        template =
-            intervals_of 3;
-      }))
-      (sym (law seed loops few).points ∙ (numbering (generated_body seed loops)).count)
-
-  few_cells : (system : System) → IsGenerated seed loops system → cells_of (equations_of system) ≤ MOST_CELLS
-  few_cells system made =
-      subst (λ n. n ≤ MOST_CELLS)
-      (cells_are ∙ ap cells_of (sym (equations_are generated_names (generated_body seed loops) (intervals_of 3) system made.system_for)))
-      (law seed loops few).cells
+  -- a joint problem is of one point, and so none is too large
+  small : (system : System) → IsGenerated seed loops system → (excess : Excess) → HasExcess Report system Best 1000 excess
+      → IsOnlyWide (λ spot. HasExcess Report system Best 1000 (Wide spot)) excess
+  small system made (Wide spot) h = h
+  small system made (Large cells) h =
+      let same = equations_are generated_names (generated_body seed loops) (intervals_of 3) system made.system_for in
+      let edges : Each LeadsOn system.flow.edges = subst (Each LeadsOn) (sym (ap (λ (q : Equations). q.edges) same))
+      (law seed loops few).edges in
+      none_large system (rule_of Best) 1000 cells (ap (λ (q : Equations). length q.template) same)
+      (ap (λ (q : Equations). q.variables) same)
+      (each_weaker LeadsOn (λ e. e.from ≤ e.to) (λ e l. l.on) system.flow.edges edges)
+      (each_weaker LeadsOn (λ e. length e.actions ≤ 4) (λ e l. l.few) system.flow.edges edges) h
 
   -- ---- the generated core is refused by no cause
 
@@ -150,7 +146,7 @@ module _ (law : GeneratedTextsRead) (seed loops : ℕ) (few : loops ≤ 46) wher
         → IsHalted Report system Best 1000 r → IsUnanswered (bench_question exact seed loops) r
     unended system r is h =
         let made = generated system is in
-        halted (bench_question exact seed loops) Report system made (only_wide Report system Best 1000 (few_cells system made)) r h
+        halted (bench_question exact seed loops) Report system made (small system made) r h
 
     -- the summary of the rounds is that of the generated program
     pub summed : (system : System) (solved : Solved) (count : ℕ) (bytes : List ℕ)

@@ -1,0 +1,2 @@
+pub mod OnePoint
+pub mod FewCells
