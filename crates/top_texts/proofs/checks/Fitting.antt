@@ -1,13 +1,12 @@
 -- A written certificate and the one for which it stands with a program.
 use Rattle.std.proofs.Common.{◌≡◌, ◌∙◌, inr, ℕ, List, length, refl, sym, ap, subst, IsTrue}
-use Rattle.std.specs.List.{list_all}
 use Rattle.lang_tree.specs.Tree.{Statements}
 use Rattle.flow_edges.specs.Edges.{edges_of_program}
 use Rattle.flow_edges.specs.Points.{points_of_program}
 use Rattle.flow_systems.specs.SystemLimits.{is_over}
 use Rattle.flow_systems.specs.declared.system.System.{System}
 use Rattle.flow_systems.specs.declared.footer.Footer.TheVariants.{Accepted}
-use Rattle.flow_systems.specs.Equations.{Equations, Least}
+use Rattle.flow_systems.specs.Equations.{Least}
 use Rattle.flow_systems.specs.Solutions.{equations_of_program}
 use Rattle.flow_systems.specs.View.{equations_of, vector_of}
 use Rattle.theory_validity.specs.Certificates.{ValidCertificate, bounds_vector}

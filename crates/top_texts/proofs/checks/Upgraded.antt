@@ -1,12 +1,10 @@
 -- A certificate that is accepted for a program is accepted as it is upgraded, too.
 use Rattle.std.proofs.Common.{◌≡◌, ◌+◌, ◌≤◌, ◌<◌, ◌⊎◌, ◌∙◌, ◌==◌, ◌++◌, ⊎_elim, ℕ, Bool, true, false, List, [], ◌∷◌, length, map, refl, sym, ap}
 use Rattle.std.proofs.Common.{subst, arith, if◌then◌else◌}
-use Rattle.std.specs.Prelude.{ℤ, IsTrue, ◌&&◌}
-use Rattle.std.specs.List.{flat_map}
+use Rattle.std.specs.Prelude.{ℤ, IsTrue}
 use Rattle.lang_tree.specs.Tree.{Statements}
 use Rattle.flow_templates.specs.RowFaults.{count_faults, faults_from, faults_of, row_faults}
 use Rattle.flow_templates.specs.Rows.{is_row}
-use Rattle.flow_templates.specs.declared.fault.RowFault.{RowFault}
 use Rattle.flow_templates.specs.declared.fault.RowFault.TheVariants.{ZeroRow, Length}
 use Rattle.flow_systems.specs.Equations.{Vector}
 use Rattle.flow_systems.specs.Solutions.{equations_of_program}

@@ -1,4 +1,4 @@
-use Rattle.std.proofs.Common.{◌≡◌, ◌∙◌, inl, ℕ, List, length, ap, ap₂, sym, rules}
+use Rattle.std.proofs.Common.{◌∙◌, inl, ℕ, List, length, ap, ap₂, sym, rules}
 use Rattle.flow_edges.specs.declared.graph.Flow.{Flow}
 use Rattle.cert_written.specs.declared.entries.Entries.{Entries}
 use Rattle.cert_fitted.specs.Fitted.{rows_for}
