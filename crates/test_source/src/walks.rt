@@ -76,9 +76,9 @@ const WALKS: &[(&str, FunctionFault)] = &[
         FunctionFault::BigNumber { at: 39 },
     ),
     (
-        "int f() { int a, b, c, d, e, g, h, i, j, k, l, m, n; }",
+        "int f() { int a, b, c, d, e, g, h, i, j, k, l, m, n, o, p, q, r, s, t, u, v, w, x, y, z, A, B, C, D, E, F, G, H, I, J, K, L, M, N, O, P, Q, R, S, T, U, V, W, X, Y, Z, a0, a1, a2, a3, a4, a5, a6, a7, a8, a9, b0, b1, b2, b3; }",
         FunctionFault::Limit {
-            at: 50,
+            at: 219,
             which: Limit::Variables,
         },
     ),

@@ -86,9 +86,9 @@ const TEXTS: &[(&[u8], ParseFault)] = &[
         ParseFault::BigNumber { at: 27 },
     ),
     (
-        b"int main() { int a,b,c,d,e,f,g,h,i,j,k,l,m; }",
+        b"int main() { int a,b,c,d,e,f,g,h,i,j,k,l,m,n,o,p,q,r,s,t,u,v,w,x,y,z,A,B,C,D,E,F,G,H,I,J,K,L,M,N,O,P,Q,R,S,T,U,V,W,X,Y,Z,a0,a1,a2,a3,a4,a5,a6,a7,a8,a9,b0,b1,b2; }",
         ParseFault::Limit {
-            at: 41,
+            at: 157,
             which: Limit::Variables,
         },
     ),

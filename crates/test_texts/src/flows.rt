@@ -165,23 +165,49 @@ const MARKED: &[u8] = b"int main() { int x; a: ";
 const LOOPS: &[u8] = b"while (nondet()) ; ";
 
 const SHAPES: &[(&[u8], &[u8], usize, Option<FlowFault>)] = &[
-    (START, LOOPS, 94, None),
-    (START, LOOPS, 95, Some(FlowFault::Points { count: 97 })),
-    (MARKED, b"x++; ", 256, None),
-    (MARKED, b"x++; ", 257, Some(FlowFault::Actions { edge: 1 })),
+    // There are fewer statements than points.
+    (START, LOOPS, 511, None),
+    (MARKED, b"x++; ", 511, None),
 ];
 
 #[test]
-fn programs_have_so_many_points_and_actions(rt: HostRuntime) {
+fn programs_of_many_statements_have_points_and_edges(rt: HostRuntime) {
     assert_eq!(rt; first_wrong(rt.alloc(), SHAPES), None);
 }
 
-// A program of three assumptions of 64 cases, and one of so many and one more.
+// A program whose second edge has 16 assumptions of 64 guards, and one action more or none.
+fn many_actions(alloc: Global, more: bool) -> Result<Vec<u8>, AllocError> {
+    let assumption = repeated(alloc, b"assume(x<1", b"&&x<1", 63, b");")?;
+    let end = if more { b"x++; }".as_slice() } else { b"}".as_slice() };
+    repeated(alloc, MARKED, assumption.as_slice(), 16, end)
+}
+
+// Whether the second edge has one action more, and the fault of the text.
+impl Case for (bool, Option<FlowFault>) {
+    fn is_right(&self, alloc: Global) -> bool {
+        match many_actions(alloc, self.0) {
+            Ok(text) => has_fault(alloc, text.as_slice(), self.1),
+            Err(_) => false,
+        }
+    }
+}
+
+const ACTIONS: &[(bool, Option<FlowFault>)] = &[
+    (false, None),
+    (true, Some(FlowFault::Actions { edge: 1 })),
+];
+
+#[test]
+fn an_edge_has_so_many_actions(rt: HostRuntime) {
+    assert_eq!(rt; first_wrong(rt.alloc(), ACTIONS), None);
+}
+
+// A program of 127 assumptions of 64 cases, and one of so many and one more.
 fn many_cases(alloc: Global, last: usize) -> Result<Vec<u8>, AllocError> {
-    let assumption = repeated(alloc, b"assume(x < 1", b" || x < 1", 63, b"); ")?;
-    let end = repeated(alloc, b"assume(x < 1", b" || x < 1", last, b"); }")?;
+    let assumption = repeated(alloc, b"assume(x<1", b"||x<1", 63, b");")?;
+    let end = repeated(alloc, b"assume(x<1", b"||x<1", last, b"); }")?;
     let start = b"int main() { int x; ";
-    repeated(alloc, start, assumption.as_slice(), 3, end.as_slice())
+    repeated(alloc, start, assumption.as_slice(), 127, end.as_slice())
 }
 
 // How many `||` stand in the last assumption, and the fault of the text.

@@ -137,6 +137,43 @@ fn domains_have_their_rows(rt: HostRuntime) {
     assert_eq!(rt; first_wrong(rt.alloc(), TEMPLATES), None);
 }
 
+// The template of a domain over so many variables, or why there is none; nothing where a program can't have so many.
+fn large(alloc: Global, domain: Domain, vars: u32) -> Option<Result<Template, RowFault>> {
+    if vars == 0 || vars > 64 {
+        return None;
+    }
+    match domain {
+        Domain::Intervals => Some(intervals(alloc, vars).map_err(|_| RowFault::NoMemory)),
+        Domain::Zones => Some(zones(alloc, vars)),
+        Domain::Octagons => Some(octagons(alloc, vars)),
+    }
+}
+
+// A domain, the number of variables, whether there is a template, and how many rows it has or would have.
+impl Case for (Domain, u32, bool, u32) {
+    fn is_right(&self, alloc: Global) -> bool {
+        match large(alloc, self.0, self.1) {
+            Some(Ok(template)) => self.2 && template.as_slice().len() == self.3 as usize,
+            Some(Err(fault)) => !self.2 && fault == RowFault::Large { count: self.3 },
+            None => false,
+        }
+    }
+}
+
+const SIZES: &[(Domain, u32, bool, u32)] = &[
+    (Domain::Intervals, 64, true, 128),
+    (Domain::Zones, 44, true, 1980),
+    (Domain::Zones, 45, false, 2070),
+    (Domain::Octagons, 32, true, 2048),
+    (Domain::Octagons, 33, false, 2178),
+    (Domain::Octagons, 64, false, 8192),
+];
+
+#[test]
+fn templates_have_so_many_rows(rt: HostRuntime) {
+    assert_eq!(rt; first_wrong(rt.alloc(), SIZES), None);
+}
+
 // The row with these coefficients.
 fn row_of(alloc: Global, coefficients: &[i8]) -> Result<Coeffs, AllocError> {
     let mut list = Vec::new(alloc);
@@ -298,8 +335,8 @@ impl Case for (usize, &[u8], Option<RowFault>) {
 }
 
 const COUNTS: &[(usize, &[u8], Option<RowFault>)] = &[
-    (288, b"", None),
-    (289, b"", Some(RowFault::Count { count: 289 })),
+    (2048, b"", None),
+    (2049, b"", Some(RowFault::Count { count: 2049 })),
     (200, b"y - y", Some(RowFault::ZeroRow { line: 201 })),
 ];
 

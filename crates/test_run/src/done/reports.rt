@@ -3,6 +3,7 @@
 use crate::cases::{Case, Ending, ends, first_wrong};
 use base_files::{PlainShelf, PlainSink};
 use std::alloc::{AllocError, Global};
+use std::fmt::Write;
 use test_cases::{repeated, strings};
 use top_run::{Status, run_in_memory};
 
@@ -369,28 +370,84 @@ impl Case for (&str, usize, Ending<'_>) {
     }
 }
 
-// There may be 96 points; with 24 rows for each there are too many unknowns for `solve`.
+// There may be 1,024 points; with the 156 rows of zones for each there are too many unknowns for `solve`.
 const COUNTED: &[(&str, usize, Ending)] = &[
     (
-        "solve p",
-        94,
-        Ending::Refused(4, b"program refused: 2304 unknowns\n"),
+        "solve p --domain zones",
+        1022,
+        Ending::Refused(4, b"program refused: 159744 unknowns\n"),
     ),
     (
         "points p",
-        94,
-        Ending::End(b"point 93: join at line 1\npoint 94: join at line 1\npoint 95: exit\n"),
+        1022,
+        Ending::End(
+            b"point 1021: join at line 1\npoint 1022: join at line 1\npoint 1023: exit\n",
+        ),
     ),
     (
         "points p",
-        95,
-        Ending::Refused(4, b"program refused: 97 points\n"),
+        1023,
+        Ending::Refused(4, b"program refused: 1025 points\n"),
     ),
 ];
 
 #[test]
 fn points_are_counted(rt: HostRuntime) {
     assert_eq!(rt; first_wrong(rt.alloc(), COUNTED), None);
+}
+
+// A program of 64 variables that are 0, and the last of them 7 behind a label.
+fn many_variables(alloc: Global) -> Result<Vec<u8>, AllocError> {
+    let mut text = String::from_str(alloc, "int main() { int v0 = 0")?;
+    for number in 1..64u32 {
+        write!(text, ", v{number} = 0")?;
+    }
+    text.push_str("; a: v63 = 7; }")?;
+    Ok(text.into_bytes())
+}
+
+// The head of a point, and the bounds of the first 63 variables and of the last one, on both sides.
+fn write_point(
+    text: &mut String,
+    head: &str,
+    first: [&str; 2],
+    last: [&str; 2],
+) -> Result<(), AllocError> {
+    text.push_str(head)?;
+    for number in 0..64u32 {
+        let [above, below] = if number < 63 { first } else { last };
+        write!(text, "\n  v{number} <= {above}\n  -v{number} <= {below}")?;
+    }
+    text.push_str("\n")
+}
+
+// Its report: nothing is known at the entry, all are 0 at the label, and the last one is 7 at the exit. Each of the two edges takes a round.
+fn many_bounds(alloc: Global) -> Result<Vec<u8>, AllocError> {
+    let mut text = String::from_str(alloc, "variables v0")?;
+    for number in 1..64u32 {
+        write!(text, " v{number}")?;
+    }
+    let unknown = ["+inf", "+inf"];
+    write_point(&mut text, "\npoint 0: entry", unknown, unknown)?;
+    write_point(
+        &mut text,
+        "point 1: label a at line 1",
+        ["0", "0"],
+        ["0", "0"],
+    )?;
+    write_point(&mut text, "point 2: exit", ["0", "0"], ["7", "-7"])?;
+    text.push_str("improvements: 2\n")?;
+    Ok(text.into_bytes())
+}
+
+#[test]
+fn sixty_four_variables_have_bounds(rt: HostRuntime) {
+    match (many_variables(rt.alloc()), many_bounds(rt.alloc())) {
+        (Ok(text), Ok(report)) => {
+            assert!(rt; ends(rt.alloc(), "solve p", &text, b"", Ending::Report(&report)));
+        }
+        _ => assert!(rt; false),
+    }
 }
 
 // The loop to 100 has three points: each is a piece.

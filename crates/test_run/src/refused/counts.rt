@@ -44,10 +44,11 @@ impl Case for (u32, u32, u8, &[u8]) {
 }
 
 const COUNTS: &[(u32, u32, u8, &[u8])] = &[
-    (46, 43, 1, b"certificate refused: 2064 unknowns\n"),
-    (46, 21, 1, b"certificate refused: size\n"),
-    (46, 289, 1, b"certificate refused: rows\n"),
-    (95, 1, 4, b"program refused: 97 points\n"),
+    (1022, 65, 1, b"certificate refused: 66560 unknowns\n"),
+    (1022, 64, 1, b"certificate refused: size\n"),
+    (30, 2048, 1, b"certificate refused: size\n"),
+    (30, 2049, 1, b"certificate refused: rows\n"),
+    (1023, 1, 4, b"program refused: 1025 points\n"),
 ];
 
 #[test]

@@ -1,6 +1,6 @@
 //! Refused words, files, rows and programs, wide operations and spent improvements: the code, the message, and no output.
 
-use crate::cases::{Case, Ending, ends, first_taken, first_wrong};
+use crate::cases::{Case, Ending, Long, ends, first_long_taken, first_taken, first_wrong};
 use crate::done::reports::{COUNT, LINE, ROWS};
 use std::alloc::Global;
 use test_cases::repeated;
@@ -196,7 +196,7 @@ const PROGRAMS: &[(&[u8], &str)] = &[
         "nesting at line 1",
     ),
     (
-        b"int main() { int a, b, c, d, e, f, g, h, i, j, k, l, m; }",
+        b"int main() { int a, b, c, d, e, f, g, h, i, j, k, l, m, n, o, p, q, r, s, t, u, v, w, x, y, z, A, B, C, D, E, F, G, H, I, J, K, L, M, N, O, P, Q, R, S, T, U, V, W, X, Y, Z, a0, a1, a2, a3, a4, a5, a6, a7, a8, a9, b0, b1, b2; }",
         "variables at line 1",
     ),
     (
@@ -206,10 +206,6 @@ const PROGRAMS: &[(&[u8], &str)] = &[
     (
         b"int main() { int x; assume(x != 1 && x != 2 && x != 3 && x != 4 && x != 5 && x != 6 && x != 7); }",
         "cases at line 1",
-    ),
-    (
-        b"int main() { int x;\nl1: l2: l3: l4: l5: l6: l7: l8: l9: l10: l11: l12: l13: l14: l15: l16: l17: l18: l19: l20: l21: l22: l23: l24: l25: l26: l27: l28: l29: l30: l31: l32: l33: l34: l35: l36: l37: l38: l39: l40: l41: l42: l43: l44: l45: l46: l47: l48: l49: l50: l51: l52: l53: l54: l55: l56: l57: l58: l59: l60: l61: l62: l63: l64: l65: l66: l67: l68: l69: l70: l71: l72: l73: l74: l75: l76: l77: l78: l79: l80: l81: l82: l83: l84: l85: l86: l87: l88: l89: l90: l91: l92: l93: l94: l95: ; }",
-        "97 points",
     ),
     // A bad byte comes before a name that is unknown.
     (
@@ -223,10 +219,28 @@ const PROGRAMS: &[(&[u8], &str)] = &[
     ),
 ];
 
-// With 288 rows for each point there may be too many unknowns.
-const LARGE: &[(&[u8], &str)] = &[(
-    b"int main() { int a, b, c, d, e, f, g, h, i, j, k, l; l1: l2: l3: l4: l5: l6: ; }",
-    "2304 unknowns",
+// Programs with a point too many, and the fault.
+const POINTED: &[Long] = &[
+    (b"int main() { int x;", b" if (x < 1) ;", 1023, b" }", "1025 points"),
+];
+
+// Octagons over 32 variables have 2,048 rows, so that there may be 32 points; over 33 variables there are too many rows, which come before
+// the unknowns.
+const LARGE: &[(&[u8], &str)] = &[
+    (
+        b"int main() { int a, b, c, d, e, f, g, h, i, j, k, l, m, n, o, p, q, r, s, t, u, v, w, x, y, z, A, B, C, D, E, F; l1: l2: l3: l4: l5: l6: l7: l8: l9: l10: l11: l12: l13: l14: l15: l16: l17: l18: l19: l20: l21: l22: l23: l24: l25: l26: l27: l28: l29: l30: l31: ; }",
+        "67584 unknowns",
+    ),
+    (
+        b"int main() { int a, b, c, d, e, f, g, h, i, j, k, l, m, n, o, p, q, r, s, t, u, v, w, x, y, z, A, B, C, D, E, F, G; l1: l2: l3: l4: l5: l6: l7: l8: l9: l10: l11: l12: l13: l14: l15: l16: l17: l18: l19: l20: l21: l22: l23: l24: l25: l26: l27: l28: l29: l30: l31: ; }",
+        "2178 rows",
+    ),
+];
+
+// Zones have too many rows from 45 variables on.
+const WIDE: &[(&[u8], &str)] = &[(
+    b"int main() { int a, b, c, d, e, f, g, h, i, j, k, l, m, n, o, p, q, r, s, t, u, v, w, x, y, z, A, B, C, D, E, F, G, H, I, J, K, L, M, N, O, P, Q, R, S; }",
+    "2070 rows",
 )];
 
 #[test]
@@ -239,9 +253,27 @@ fn programs_are_refused(rt: HostRuntime) {
         first_taken(rt.alloc(), "points p", "program", None, PROGRAMS),
         None
     );
+    assert_eq!(rt;
+        first_long_taken(rt.alloc(), "points p", "program", POINTED),
+        None
+    );
+}
+
+#[test]
+fn templates_are_too_large(rt: HostRuntime) {
     let octagons = "solve p --domain octagons";
     assert_eq!(rt;
         first_taken(rt.alloc(), octagons, "program", None, LARGE),
+        None
+    );
+    let certified = "certify p --domain octagons";
+    assert_eq!(rt;
+        first_taken(rt.alloc(), certified, "program", None, LARGE),
+        None
+    );
+    let zones = "verify p --domain zones";
+    assert_eq!(rt;
+        first_taken(rt.alloc(), zones, "program", None, WIDE),
         None
     );
 }

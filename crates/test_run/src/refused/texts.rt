@@ -3,7 +3,7 @@
 use crate::cases::{Case, Ending, ends, first_wrong};
 use crate::done::reports::ROWS;
 use std::alloc::{AllocError, Global};
-use test_cases::repeated;
+use test_cases::{joined, repeated};
 
 // The message of a text of one byte: a blank and a semicolon are files without a function; of the other bytes some are a token, behind
 // which the end is unexpected, or which is unexpected itself, and each other one is a bad byte.
@@ -302,11 +302,11 @@ impl Case for (usize, Ending<'_>) {
 
 const ACTIONS: &[(usize, Ending)] = &[
     (
-        255,
+        1023,
         Ending::End(b"point 1: exit\n  x <= +inf\n  -x <= +inf\nimprovements: 1\n"),
     ),
     (
-        256,
+        1024,
         Ending::Refused(4, b"program refused: actions of edge 0\n"),
     ),
 ];
@@ -314,6 +314,53 @@ const ACTIONS: &[(usize, Ending)] = &[
 #[test]
 fn an_edge_has_so_many_actions(rt: HostRuntime) {
     assert_eq!(rt; first_wrong(rt.alloc(), ACTIONS), None);
+}
+
+// A program of two loops with 64 ways into each, whose bodies change `x` so often, and of so many changes behind them.
+fn two_loops(
+    alloc: Global,
+    first: usize,
+    second: usize,
+    behind: usize,
+) -> Result<Vec<u8>, AllocError> {
+    let head = repeated(alloc, b"while (x<1", b"||x<1", 63, b") {")?;
+    let before = repeated(alloc, &head, b"x++;", first, b"} ")?;
+    let after = repeated(alloc, &head, b"x++;", second, b"} ")?;
+    let front = joined(alloc, &[b"int main() { int x; ", &before, &after])?;
+    repeated(alloc, &front, b"x++;", behind, b"}")
+}
+
+// The changes in the first loop, in the second one and behind both, and how the list of the points ends.
+impl Case for (usize, usize, usize, Ending<'_>) {
+    fn is_right(&self, alloc: Global) -> bool {
+        match two_loops(alloc, self.0, self.1, self.2) {
+            Ok(text) => ends(alloc, "points p", &text, b"", self.3),
+            Err(_) => false,
+        }
+    }
+}
+
+// A way into a loop has a guard and the changes. The entry's edge has the free value of `x`, a way past a loop 64 guards, and the last
+// one the changes behind the loops, too: 1 + 64 * 1024 + 64 + 64 * 1020 + 64 + 127 are 131,072. An edge with too many comes first.
+const TOTALS: &[(usize, usize, usize, Ending)] = &[
+    (1023, 1019, 127, Ending::End(b"point 3: exit\n")),
+    (
+        1023,
+        1019,
+        128,
+        Ending::Refused(4, b"program refused: actions\n"),
+    ),
+    (
+        1024,
+        1023,
+        0,
+        Ending::Refused(4, b"program refused: actions of edge 1\n"),
+    ),
+];
+
+#[test]
+fn all_edges_have_so_many_actions(rt: HostRuntime) {
+    assert_eq!(rt; first_wrong(rt.alloc(), TOTALS), None);
 }
 
 // What stands before, a piece that fills a file of rows, and how the run ends.
