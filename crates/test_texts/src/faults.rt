@@ -240,7 +240,7 @@ const START: &[u8] = b"int main() { int x; ";
 const ASKS: &[u8] = b"int main() { int x; assume(x";
 
 const STATEMENTS: Option<ParseFault> = Some(ParseFault::Limit {
-    at: 2575,
+    at: 10255,
     which: Limit::Statements,
 });
 
@@ -249,27 +249,27 @@ const LEAVES: Option<ParseFault> = Some(ParseFault::Limit {
     which: Limit::Leaves,
 });
 
-const UNKNOWN: Option<ParseFault> = Some(ParseFault::UnknownName { at: 2575 });
+const UNKNOWN: Option<ParseFault> = Some(ParseFault::UnknownName { at: 10255 });
 
-const UNKNOWN_LATER: Option<ParseFault> = Some(ParseFault::UnknownName { at: 2579 });
+const UNKNOWN_LATER: Option<ParseFault> = Some(ParseFault::UnknownName { at: 10259 });
 
-const UNKNOWN_CONDITION: Option<ParseFault> = Some(ParseFault::UnknownName { at: 2582 });
+const UNKNOWN_CONDITION: Option<ParseFault> = Some(ParseFault::UnknownName { at: 10262 });
 
-const OUTSIDE: Option<ParseFault> = Some(ParseFault::OutsideLoop { at: 2575 });
+const OUTSIDE: Option<ParseFault> = Some(ParseFault::OutsideLoop { at: 10255 });
 
-// The change is the 513th node where the `for` is the 512th: it begins at 20 + 510 * 5 + 8.
+// The change is the 2049th node where the `for` is the 2048th: it begins at 20 + 2046 * 5 + 8.
 const CHANGE: Option<ParseFault> = Some(ParseFault::Limit {
-    at: 2578,
+    at: 10258,
     which: Limit::Statements,
 });
 
-// Of this `assert` the first node is the 512th.
+// Of this `assert` the first node is the 2048th.
 const SECOND_NODE: Option<ParseFault> = Some(ParseFault::Limit {
-    at: 2570,
+    at: 10250,
     which: Limit::Statements,
 });
 
-const UNKNOWN_ASKED: Option<ParseFault> = Some(ParseFault::UnknownName { at: 2572 });
+const UNKNOWN_ASKED: Option<ParseFault> = Some(ParseFault::UnknownName { at: 10252 });
 
 const ASSERTS: &[u8] = b"int main() { int x; __VERIFIER_assert(x";
 
@@ -281,31 +281,31 @@ impl Case for (usize, &[u8], Option<ParseFault>) {
 }
 
 const COUNTED: &[(usize, &[u8], Option<ParseFault>)] = &[
-    // The declaration is a node too: the 513th begins at 20 + 511 * 5.
-    (511, b"}", None),
-    (512, b"}", STATEMENTS),
-    (511, b"y = 1; }", UNKNOWN),
-    (511, b"++y; }", STATEMENTS),
-    (511, b"if (y) ; }", UNKNOWN_LATER),
-    (511, b"assume(y); }", STATEMENTS),
+    // The declaration is a node too: the 2049th begins at 20 + 2047 * 5.
+    (2047, b"}", None),
+    (2048, b"}", STATEMENTS),
+    (2047, b"y = 1; }", UNKNOWN),
+    (2047, b"++y; }", STATEMENTS),
+    (2047, b"if (y) ; }", UNKNOWN_LATER),
+    (2047, b"assume(y); }", STATEMENTS),
     (10_000, b"}", STATEMENTS),
     // Loops and jumps count where they stand; a `for` after its condition, before its change.
-    (510, b"do ; while (x); }", None),
-    (511, b"do y = 1; while (z); }", STATEMENTS),
-    (511, b"for (; y; ) ; }", UNKNOWN_CONDITION),
-    (511, b"for (;; y = 1) ; }", STATEMENTS),
-    (510, b"for (;; x = 1) ; }", CHANGE),
-    (511, b"break; }", OUTSIDE),
+    (2046, b"do ; while (x); }", None),
+    (2047, b"do y = 1; while (z); }", STATEMENTS),
+    (2047, b"for (; y; ) ; }", UNKNOWN_CONDITION),
+    (2047, b"for (;; y = 1) ; }", STATEMENTS),
+    (2046, b"for (;; x = 1) ; }", CHANGE),
+    (2047, b"break; }", OUTSIDE),
     // An `assert` is two nodes, both counted before its condition is read; the declaration is one.
-    (509, b"assert(x); }", None),
-    (509, b"assert(y); }", UNKNOWN_ASKED),
-    (510, b"assert(x); }", SECOND_NODE),
-    (510, b"assert(y); }", SECOND_NODE),
-    (511, b"assert(y); }", STATEMENTS),
+    (2045, b"assert(x); }", None),
+    (2045, b"assert(y); }", UNKNOWN_ASKED),
+    (2046, b"assert(x); }", SECOND_NODE),
+    (2046, b"assert(y); }", SECOND_NODE),
+    (2047, b"assert(y); }", STATEMENTS),
 ];
 
 const SHAPES: &[(&[u8], &[u8], usize, &[u8], Option<ParseFault>)] = &[
-    (START, b"++x; ", 512, b"}", STATEMENTS),
+    (START, b"++x; ", 2048, b"}", STATEMENTS),
     (START, b"for (;;) ", 64, b"break; }", None),
     (
         START,

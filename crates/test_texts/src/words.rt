@@ -207,10 +207,10 @@ const OTHERS: &[(&str, Request<&str>)] = &[
         },
     ),
     (
-        "bench --loops 46 --seed 2147483647",
+        "bench --loops 500 --seed 2147483647",
         Request::Bench {
             seed: 2_147_483_647,
-            loops: 46,
+            loops: 500,
         },
     ),
     ("upgrade c", Request::Upgrade { certificate: "c" }),

@@ -11,14 +11,14 @@ use Rattle.base_facts.proofs.elements.Membership.{in_range}
 use Rattle.base_facts.proofs.elements.Pigeonhole.{pigeonhole}
 use Rattle.base_numbers.specs.Extended.{Ext as Extended}
 use Rattle.flow_edges.specs.declared.edge.Action.{Action}
+use Rattle.flow_edges.specs.declared.edge.Action.TheVariants.{Guard, Assign, Havoc, Check}
 use Rattle.flow_edges.specs.declared.edge.Edge.{Edge}
 use Rattle.flow_edges.proofs.Each.{Each}
 use Rattle.flow_systems.specs.Equations.{Equations, Vector}
 use Rattle.flow_systems.specs.View.{equations_of}
 use Rattle.flow_systems.specs.declared.system.System.{System}
-use Rattle.flow_systems.proofs.free_values.CellCounts.{frees_few}
 use Rattle.theory_validity.specs.Steps.{Item, Unnamed, Distinct, edge_of}
-use Rattle.theory_validity.specs.Words.{guard_forms, width}
+use Rattle.theory_validity.specs.Words.{Affine, column, columns, composed, free_count, guard_forms, guards_from, width, with_form}
 use Rattle.theory_validity.proofs.steps.Puts.{not_unnamed}
 use Rattle.theory_transformers.specs.EdgeProblems.{transformer}
 use Rattle.theory_strategy.specs.Picks.{IsPick, Pick, Picks, choice}
@@ -31,7 +31,6 @@ use Rattle.theory_rounds.proofs.cut.InOrder.{of_order}
 use Rattle.theory_rounds.proofs.rounds.ExactRound.{exact_cuts, exact_sizes}
 use Rattle.solve_joint.specs.Blocks.{edge_at, edge_for, split_columns, split_width}
 use Rattle.solve_joint.specs.Sizes.{cells_in, most_rows}
-use Rattle.solve_joint.proofs.joint_problem.EdgeSizes.{few_guards}
 use Rattle.solve_offers.specs.AtBounds.{vector_at}
 use Rattle.solve_offers.specs.Improvement.{pick_of}
 use Rattle.solve_offers.specs.declared.offer.Offer.{Offer}
@@ -50,6 +49,28 @@ each_or : (P : Edge → Type 0) (edges : List Edge) (k : ℕ) → Each P edges �
 each_or P [] k h n = n
 each_or P (e ∷ edges) zero h n = h.0
 each_or P (e ∷ edges) (suc k) h n = each_or P edges k h.1 n
+
+-- an edge has no more guards than actions
+few_from : (k : ℕ) (forms : List Affine) (actions : List Action) → length (guards_from k forms actions) ≤ length actions
+unfolding guards_from
+few_from k forms [] = omega arith
+few_from k forms (Guard form ∷ actions) = omega (arith, few_from k forms actions)
+few_from k forms (Assign var form ∷ actions) = omega (arith, few_from k (with_form forms var (composed form forms)) actions)
+few_from k forms (Havoc var ∷ actions) = omega (arith, few_from (suc k) (with_form forms var (column k)) actions)
+few_from k forms (Check about ∷ actions) = omega (arith, few_from k forms actions)
+
+few_guards : (n : ℕ) (actions : List Action) → length (guard_forms n actions) ≤ length actions
+unfolding guard_forms
+few_guards n actions = few_from n (columns n) actions
+
+-- nor more free values
+few_frees : (actions : List Action) → free_count actions ≤ length actions
+unfolding free_count
+few_frees [] = omega arith
+few_frees (Guard form ∷ actions) = omega (arith, few_frees actions)
+few_frees (Assign var form ∷ actions) = omega (arith, few_frees actions)
+few_frees (Havoc var ∷ actions) = omega (arith, few_frees actions)
+few_frees (Check about ∷ actions) = omega (arith, few_frees actions)
 
 -- ---- distinct unknowns of one point
 in_place : (items : List Item) (k : ℕ) (no_item : Item) → k < length items → In items (get_or items k no_item)
@@ -90,11 +111,10 @@ module _ (system : System) (on : Each (λ e. e.from ≤ e.to) system.flow.edges)
   cut_is_at_one : (d : Vector) (pick : Pick) → IsPick E pick → Each AreAtOne (exact_cut fitting E d pick)
   unfolding exact_cut
   cut_is_at_one d pick is_pick =
+      let cuts = exact_cuts fitting E d pick is_pick in
+      let whole = cut_is fitting E (transformer E) (exact_evidence E) (exact_sizes E) d pick (exact_cut fitting E d pick) is_pick cuts in
       cut_at_one E (in_order (exact_rising fitting E d pick)) (λ u m. stands u (is_pick u (whole.listed u
       (cuts.all u (of_order (exact_rising fitting E d pick) u m))).picked).into)
-    where
-      cuts = exact_cuts fitting E d pick is_pick
-      whole = cut_is fitting E (transformer E) (exact_evidence E) (exact_sizes E) d pick (exact_cut fitting E d pick) is_pick cuts
 
   -- a turn has no more unknowns than there are rows
   few_listed : (bounds : List Extended) (pick : List (Option ℕ)) (number : ℕ) (vector : Vector) (list : List Item)
@@ -128,7 +148,7 @@ module _ (system : System) (rows : length system.template ≡ 6) (names : length
   columns_few (u ∷ list) = omega (
     arith,
     names,
-    frees_few (edge_at system (edge_for pick u)).actions,
+    few_frees (edge_at system (edge_for pick u)).actions,
     short (edge_for pick u),
     columns_few list,
   )

@@ -128,5 +128,5 @@ comes_at_one system b [] h number c left k = absurd k
 comes_at_one system b (list ∷ lists) h number c left k = ⊎_elim
     (λ here u v m n. h.0 u v (left_within system (transformer system) b list here.made left here.leaves u m)
     (left_within system (transformer system) b list here.made left here.leaves v n))
-    (λ later. comes_at_one system (after_steps later.0 b) lists h.1 later.2 c left later.4)
+    (λ later. comes_at_one system (after_steps later.0 b) lists h.1 later.2.0 c left later.2.2)
     k

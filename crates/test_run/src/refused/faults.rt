@@ -153,8 +153,8 @@ const LOADS: &[(&[&str], &[u8], usize, u32, &[u8])] = &[
     (ROWS, COUNT, 0, 0, NO_PROGRAM),
     (ROWS, COUNT, 0, 1, b"cannot read the rows\n"),
     (CERTIFY, COUNT, 0, 0, NO_PROGRAM),
-    (CHECK, b"", 65537, 0, NO_PROGRAM),
-    (CHECK, b"", 65537, 1, b"too long: the program\n"),
+    (CHECK, b"", 1048577, 0, NO_PROGRAM),
+    (CHECK, b"", 1048577, 1, b"too long: the program\n"),
 ];
 
 #[test]

@@ -17,7 +17,7 @@ pub(crate) const USAGE: &[u8] =
 // Lines of words that ask for nothing.
 const NO_REQUESTS: &[&str] = &[
     "",
-    "bench --seed 1 --loops 47",
+    "bench --seed 1 --loops 501",
     "check p f --progress",
     "equations p --domain zones",
     "equations",
@@ -125,9 +125,11 @@ impl Case for (usize, usize, u8, &[u8]) {
 }
 
 const BLANKS: &[(usize, usize, u8, &[u8])] = &[
-    (65537, 65537, 3, b"too long: the program\n"),
+    (1048577, 65537, 3, b"too long: the program\n"),
     (0, 65537, 3, b"too long: the rows\n"),
-    (65536, 65536, 4, b"program refused: which function\n"),
+    (65537, 65537, 3, b"too long: the rows\n"),
+    (65537, 65536, 4, b"program refused: which function\n"),
+    (1048576, 65536, 4, b"program refused: which function\n"),
 ];
 
 // A line of words, the piece of which the file is, how often it stands there, and what the file is.

@@ -72,17 +72,20 @@ fn repeats_end(
     }
 }
 
-// What stands before, a piece of one byte, what stands behind, and the message of the longest text of this form. The next
-// one is too long.
+// What stands before, a piece of one byte, what stands behind, and the message of a text of 65,536 bytes of this form.
 impl Case for (&[u8], &[u8], &[u8], &[u8]) {
     fn is_right(&self, alloc: Global) -> bool {
         let count = 65536usize
             .saturating_sub(self.0.len())
             .saturating_sub(self.2.len());
-        let refused = Ending::Refused(4, self.3);
-        let long = Ending::Refused(3, b"too long: the program\n");
-        repeats_end(alloc, self.0, self.1, count, self.2, refused)
-            && repeats_end(alloc, self.0, self.1, count.saturating_add(1), self.2, long)
+        repeats_end(
+            alloc,
+            self.0,
+            self.1,
+            count,
+            self.2,
+            Ending::Refused(4, self.3),
+        )
     }
 }
 
@@ -143,8 +146,37 @@ const TOKENS: &[(&[u8], &[u8], &[u8], &[u8])] = &[
 ];
 
 #[test]
-fn tokens_as_long_as_a_text(rt: HostRuntime) {
+fn tokens_in_long_texts(rt: HostRuntime) {
     assert_eq!(rt; first_wrong(rt.alloc(), TOKENS), None);
+}
+
+// Words, what stands before, how many blanks behind it, and the ending. The program alone has 32 bytes.
+impl Case for (&str, &[u8], usize, Ending<'_>) {
+    fn is_right(&self, alloc: Global) -> bool {
+        match repeated(alloc, self.1, b" ", self.2, b"") {
+            Ok(text) => ends(alloc, self.0, &text, b"", self.3),
+            Err(_) => false,
+        }
+    }
+}
+
+const PAIR: &[u8] = b"int main() { int x = 1, y = 2; }";
+
+const TOO_LONG: Ending = Ending::Refused(3, b"too long: the program\n");
+
+const LONGEST: &[(&str, &[u8], usize, Ending)] = &[
+    ("points p", PAIR, 1048544, Ending::End(b"point 1: exit\n")),
+    ("points p", PAIR, 1048545, TOO_LONG),
+    ("functions p", PAIR, 1048544, Ending::End(b"main\n")),
+    ("functions p", PAIR, 1048545, TOO_LONG),
+    ("solve p", PAIR, 65505, Ending::End(b"improvements: 1\n")),
+    ("solve p", b"//", 1048574, Ending::Refused(4, WHICH)),
+    ("solve p", b"//", 1048575, TOO_LONG),
+];
+
+#[test]
+fn a_program_has_so_many_bytes(rt: HostRuntime) {
+    assert_eq!(rt; first_wrong(rt.alloc(), LONGEST), None);
 }
 
 const START: &[u8] = b"int main() { int x; ";
