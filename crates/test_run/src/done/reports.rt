@@ -380,9 +380,7 @@ const COUNTED: &[(&str, usize, Ending)] = &[
     (
         "points p",
         1022,
-        Ending::End(
-            b"point 1021: join at line 1\npoint 1022: join at line 1\npoint 1023: exit\n",
-        ),
+        Ending::End(b"point 1021: join at line 1\npoint 1022: join at line 1\npoint 1023: exit\n"),
     ),
     (
         "points p",
