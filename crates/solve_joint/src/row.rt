@@ -45,8 +45,8 @@ fn push_split(row: &mut Coefficients<Frac>, coeffs: &[Frac]) -> Result<(), Alloc
     Ok(())
 }
 
-/// A row over all columns, which takes memory for what isn't zero alone: first the rises of the list, with a coefficient on that of one unknown, and in the span of a listed
-/// unknown the split columns of coefficients.
+/// A row over all columns, which takes memory for what isn't zero alone: first the rises of the list, with a coefficient on that of one
+/// unknown, and in the span of a listed unknown the split columns of coefficients.
 pub fn row_over(
     alloc: Global,
     span: &Span,

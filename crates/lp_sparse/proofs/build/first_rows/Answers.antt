@@ -31,7 +31,8 @@ returns-clause-rows g c =
     (subst (λ xs. (j : ℕ) → j < length xs → Lists m (slack_entries c.args.auxiliary
     (get_or (map (λ (r : Row _). r.coeffs) xs) j []) (get_or (map (λ (r : Row _). m r.side) xs) j zero_ℚ))
     (row_at slacks j)) c.deref.ensures.value c.in_ok-rows.ensures.rows i (subst (λ k. i < k) n l)) in
-    let last = λ (aux : Bool) (e : c.args.auxiliary ≡ aux). subst (λ t. Lists m (goal_entries t u) y.entries.items) e c.in_ok-goal_row.ensures in
+    let last = λ (aux : Bool) (e : c.args.auxiliary ≡ aux). subst
+    (λ t. Lists m (goal_entries t u) y.entries.items) e c.in_ok-goal_row.ensures in
     elim c.if-auxiliary.branch [
       | then-auxiliary+in_ok-auxiliary_row+in_ok-push w ↦
           let x = w.in_ok-auxiliary_row.field-0 in
