@@ -13,26 +13,32 @@ use Rattle.solve_joint.specs.Searches.{AreSteps, Led, IsReached}
 use Rattle.solve_joint.proofs.closure.Stepping.{step_of, step_in}
 
 -- ---- tests
+-- what passes where one of two does
 pub or_cases : (a b : Bool) → a || b ≡ true → (a ≡ true) ⊎ (b ≡ true)
 or_cases true b h = inl refl
 or_cases false b h = inr h
 
+-- one of two passes where the first does
 pub or_left : (a b : Bool) → a ≡ true → a || b ≡ true
 or_left true b h = refl
 or_left false b h = absurd (true≢false (sym h))
 
+-- or where the second does
 pub or_right : (a b : Bool) → b ≡ true → a || b ≡ true
 or_right true b h = refl
 or_right false b h = h
 
+-- both pass where each does
 pub and_both : (a b : Bool) → a ≡ true → b ≡ true → a && b ≡ true
 and_both true b h k = k
 and_both false b h k = h
 
+-- the first passes where both do
 pub and_first : (a b : Bool) → a && b ≡ true → a ≡ true
 and_first true b h = refl
 and_first false b h = h
 
+-- and the second
 pub and_second : (a b : Bool) → a && b ≡ true → b ≡ true
 and_second true b h = h
 and_second false b h = absurd (true≢false (sym h))
