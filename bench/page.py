@@ -151,7 +151,7 @@ def reports(walk):
 
 
 def large(walk):
-    """A program near the limit of its length, and one with many points."""
+    """A long program with many points, and one that is longer than a program may be."""
     lines = "".join(f"    while (x < {at}) {{ x = x + 1; if (nondet()) y = y + x; }}\n" for at in range(2, 22))
     text = "int main() {\n    int x = 0, y = 0;\n" + lines + "    // " + "long " * 12000 + "\n}\n"
     walk.set_program(text)
@@ -159,7 +159,7 @@ def large(walk):
     status, output, _ = written(["solve", "p", "--domain", "octagons"], {"p": text})
     walk.expect("a large program: the status", status, 0)
     walk.expect("a large program", walk.text("report-text").encode(), output)
-    walk.set_program(text + " " * 65536)
+    walk.set_program(text + " " * 1048576)
     walk.settle()
     walk.expect("a program that is too long", walk.text("said"), "Too long: the program.")
 

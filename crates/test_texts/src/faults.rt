@@ -296,6 +296,9 @@ const COUNTED: &[(usize, &[u8], Option<ParseFault>)] = &[
     (2047, b"for (;; y = 1) ; }", STATEMENTS),
     (2046, b"for (;; x = 1) ; }", CHANGE),
     (2047, b"break; }", OUTSIDE),
+];
+
+const ASSERTED: &[(usize, &[u8], Option<ParseFault>)] = &[
     // An `assert` is two nodes, both counted before its condition is read; the declaration is one.
     (2045, b"assert(x); }", None),
     (2045, b"assert(y); }", UNKNOWN_ASKED),
@@ -347,7 +350,16 @@ const SHAPES: &[(&[u8], &[u8], usize, &[u8], Option<ParseFault>)] = &[
 ];
 
 #[test]
-fn limits_are_kept(rt: HostRuntime) {
+fn statements_are_counted(rt: HostRuntime) {
     assert_eq!(rt; first_wrong(rt.alloc(), COUNTED), None);
+}
+
+#[test]
+fn asserts_are_counted_twice(rt: HostRuntime) {
+    assert_eq!(rt; first_wrong(rt.alloc(), ASSERTED), None);
+}
+
+#[test]
+fn limits_are_kept(rt: HostRuntime) {
     assert_eq!(rt; first_wrong(rt.alloc(), SHAPES), None);
 }

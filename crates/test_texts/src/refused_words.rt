@@ -32,7 +32,7 @@ const REFUSED: &[&str] = &[
     "bench --seed 1",
     "bench --seed 2147483648 --loops 1",
     "bench --seed 1 --loops 0",
-    "bench --seed 1 --loops 47",
+    "bench --seed 1 --loops 501",
     "upgrade",
     "upgrade c d",
     "c upgrade",

@@ -1,6 +1,5 @@
 -- Where no edge of a small template leads back, and each has few actions, no joint problem of a turn is too large.
-use Rattle.std.proofs.Common.{◌≡◌, ◌∙◌, inl, inr, ℕ, zero, suc, ◌+◌, ◌*◌, ◌<◌, ◌≤◌, List, [], ◌∷◌, length, map, get_or, Option, refl, sym}
-use Rattle.std.proofs.Common.{ap}
+use Rattle.std.proofs.Common.{◌≡◌, inl, inr, ℕ, zero, suc, ◌+◌, ◌*◌, ◌<◌, ◌≤◌, List, [], ◌∷◌, length, get_or, Option, refl, sym}
 use Rattle.std.proofs.Common.{subst, subst₂, arith}
 use Rattle.std.specs.List.{range_with_len}
 use Rattle.std.proofs.lemmas.Nat.{mul-le}
@@ -22,15 +21,14 @@ use Rattle.theory_validity.specs.Steps.{Item, Unnamed, Distinct, edge_of}
 use Rattle.theory_validity.specs.Words.{Affine, column, columns, composed, free_count, guard_forms, guards_from, width, with_form}
 use Rattle.theory_validity.proofs.steps.Puts.{not_unnamed}
 use Rattle.theory_transformers.specs.EdgeProblems.{transformer}
-use Rattle.theory_strategy.specs.Picks.{IsPick, Pick, Picks, choice}
-use Rattle.theory_strategy.specs.Round.{members}
+use Rattle.theory_strategy.specs.Picks.{IsPick, Pick, choice}
 use Rattle.theory_strategy.proofs.round.WholeCut.{cut_is}
 use Rattle.theory_rounds.specs.Cut.{exact_cut, in_order}
 use Rattle.theory_rounds.specs.Evidence.{exact_evidence}
 use Rattle.theory_rounds.specs.Rounds.{exact_rising}
 use Rattle.theory_rounds.proofs.cut.InOrder.{of_order}
 use Rattle.theory_rounds.proofs.rounds.ExactRound.{exact_cuts, exact_sizes}
-use Rattle.solve_joint.specs.Blocks.{edge_at, edge_for, split_columns, split_width}
+use Rattle.solve_joint.specs.Blocks.{edge_at, edge_for, split_columns}
 use Rattle.solve_joint.specs.Sizes.{cells_in, most_rows}
 use Rattle.solve_offers.specs.AtBounds.{vector_at}
 use Rattle.solve_offers.specs.Improvement.{pick_of}

@@ -1,5 +1,5 @@
 -- Where no edge leads back, the unknowns of a turn stand at one point.
-use Rattle.std.proofs.Common.{◌≡◌, ◌∙◌, inl, inr, ⊎_elim, ℕ, ◌≤◌, ◌&&◌, eqb, Bool, true, false, List, [], ◌∷◌, refl, sym, ap, subst, arith}
+use Rattle.std.proofs.Common.{◌≡◌, ◌∙◌, inl, inr, ⊎_elim, ℕ, ◌≤◌, ◌&&◌, Bool, true, false, List, [], ◌∷◌, refl, sym, ap, subst, arith}
 use Rattle.std.specs.Prelude.{if◌then◌else◌}
 use Rattle.std.proofs.lemmas.Bool.{and_parts, or_cases, eqb-true}
 use Rattle.base_facts.specs.Elements.{In}
@@ -20,7 +20,7 @@ use Rattle.theory_strategy.specs.Turns.{Leaves, left_by}
 use Rattle.theory_strategy.proofs.round.TurnLaw.{of_without}
 use Rattle.theory_rounds.specs.ComingTurns.{ComesUp}
 use Rattle.theory_rounds.specs.Cut.{item_for, items_for, items_of_parts, cut_items}
-use Rattle.theory_rounds.specs.JointItems.{listed_item, listed_items}
+use Rattle.theory_rounds.specs.JointItems.{listed_items}
 use Rattle.theory_rounds.proofs.joint_items.ListedItems.{of_listed}
 
 -- an unknown stands at the source of its picked edge or behind it
