@@ -104,8 +104,8 @@ fault_or (Some f) other = Some f
 abbrev pub checks_fault : Statements → Option FlowFault
 checks_fault body = if nat_lt MOST_CHECKS (length (checks_in body)) then Some (fault.Checks (length (checks_in body))) else None
 
--- the first fault of a program: what is seen by counting, or else the first edge that is too long, or else too many actions of all edges, or
--- else too many checks
+-- the first fault of a program: what is seen by counting, or else the first edge that is too long, or else too many actions of all edges,
+-- or else too many checks
 abbrev pub fault_of_program : Statements → Option FlowFault
 fault_of_program body = fault_or (counted_fault body) (fault_or (long_fault (edges_of_program body))
     (fault_or (actions_fault (edges_of_program body)) (checks_fault body)))

@@ -39,7 +39,8 @@ pub fn layout(
     requires composed { AreComposed (equations_of system.now) paths.now }
     requires pick { length pick.now ≡ length system.now.flow.points * length system.now.template }
     requires picked { ArePicked system.now pick.now list.now }
-    requires few { length list.now + split_columns system.now pick.now list.now ≤ MOST_UNKNOWNS * (2 * MOST_VARIABLES + 2 * MOST_ACTIONS + 1) }
+    requires few { length list.now + split_columns system.now pick.now list.now
+        ≤ MOST_UNKNOWNS * (2 * MOST_VARIABLES + 2 * MOST_ACTIONS + 1) }
     ensures { IfOk result (λ v. v.items ≡ layout_of system.now pick.now list.now) }
 {
     let names = system.flow.names.as_slice().len();

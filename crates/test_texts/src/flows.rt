@@ -167,7 +167,7 @@ const LOOPS: &[u8] = b"while (nondet()) ; ";
 const SHAPES: &[(&[u8], &[u8], usize, Option<FlowFault>)] = &[
     // There are fewer statements than points.
     (START, LOOPS, 511, None),
-    (MARKED, b"x++; ", 511, None),
+    (MARKED, b"x++; ", 510, None),
 ];
 
 #[test]
@@ -178,7 +178,11 @@ fn programs_of_many_statements_have_points_and_edges(rt: HostRuntime) {
 // A program whose second edge has 16 assumptions of 64 guards, and one action more or none.
 fn many_actions(alloc: Global, more: bool) -> Result<Vec<u8>, AllocError> {
     let assumption = repeated(alloc, b"assume(x<1", b"&&x<1", 63, b");")?;
-    let end = if more { b"x++; }".as_slice() } else { b"}".as_slice() };
+    let end = if more {
+        b"x++; }".as_slice()
+    } else {
+        b"}".as_slice()
+    };
     repeated(alloc, MARKED, assumption.as_slice(), 16, end)
 }
 

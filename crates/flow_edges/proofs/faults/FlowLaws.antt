@@ -81,7 +81,8 @@ none_after [] body h =
     (ltb-false MOST_POINTS (point_count body) p.0, ltb-false MOST_EDGES (length (edges_of_program body)) p.1)
 none_after (line ∷ lines) body h = cc
 
-none_counted : (body : Statements) → counted_fault body ≡ None → (point_count body ≤ MOST_POINTS) × (length (edges_of_program body) ≤ MOST_EDGES)
+none_counted : (body : Statements) → counted_fault body ≡ None
+    → (point_count body ≤ MOST_POINTS) × (length (edges_of_program body) ≤ MOST_EDGES)
 none_counted body h = none_after (wide_lines_in body) body h
 
 -- ---- edges that are too long
@@ -244,7 +245,8 @@ edge_within n m e r h k =
     and_from (nat_lt e.from m) _ (lt-ltb e.from m r.from)
     (and_from (nat_lt 0 e.to) _ (lt-ltb 0 e.to r.later)
     (and_from (nat_lt e.to m) _ (lt-ltb e.to m r.to)
-    (and_from (nat_le (length e.actions) MOST_ACTIONS) _ (le-leb (length e.actions) MOST_ACTIONS k) (each_passes (is_action n) e.actions h))))
+    (and_from (nat_le (length e.actions) MOST_ACTIONS) _ (le-leb (length e.actions) MOST_ACTIONS k)
+    (each_passes (is_action n) e.actions h))))
 
 edges_within : (n : ℕ) (body : Statements) → IsTrue (are_statements n false body) → position is_long (kept_edges body) ≡ None →
     IsTrue (list_all (is_edge n (point_count body)) (kept_edges body))

@@ -24,7 +24,8 @@ second_true : (b c : Bool) → c ≡ true → (b || c) ≡ true
 second_true true c e = refl
 second_true false c e = e
 
-any_at : (test : ℤ → Bool) (f : ℕ → ℤ) (i a n : ℕ) → a ≤ i → i < a + n → test (f i) ≡ true → list_any test (map f (range_with_len a n)) ≡ true
+any_at : (test : ℤ → Bool) (f : ℕ → ℤ) (i a n : ℕ) → a ≤ i → i < a + n → test (f i) ≡ true
+    → list_any test (map f (range_with_len a n)) ≡ true
 any_at test f i a zero l h t = absurd (omega arith)
 any_at test f i a (suc n) l h t =
     let rest = list_any test (map f (range_with_len (a + 1) n)) in
@@ -81,7 +82,8 @@ one_over n i c j d l m h = row_over n _ i l (ap (λ x. not (nat_abs x == 0)) (te
 
 same_or_not : (i j : ℕ) → (i ≡ j) ⊎ (i ≢ j)
 same_or_not i j =
-    ⊎_elim (λ e. inl e) (λ o. inr (λ e. ⊎_elim (λ (k : i < j). absurd (omega arith)) (λ (k : j < i). absurd (omega arith)) o)) (cases_order i j)
+    ⊎_elim (λ e. inl e) (λ o. inr (λ e. ⊎_elim (λ (k : i < j). absurd (omega arith)) (λ (k : j < i). absurd (omega arith)) o))
+    (cases_order i j)
 
 difference_over : (n i j : ℕ) → i < n → list_all (is_row_over n) (difference n i j) ≡ true
 difference_over n i j l =
@@ -103,6 +105,10 @@ one_difference n i j m = ap length (sym (difference_one n i j m))
 no_difference : (n i j : ℕ) → i ≡ j → length (difference n i j) ≡ 0
 no_difference n i j e = ap length (sym (difference_none n i j e))
 
+strictly_above : (i a : ℕ) → a ≤ i → i ≢ a → a < i
+strictly_above i a l d =
+    ⊎_elim (λ e. absurd (d e)) (λ o. ⊎_elim (λ (k : i < a). absurd (omega arith)) (λ (k : a < i). k) o) (cases_order i a)
+
 -- a variable among others has one difference fewer than these are
 length-differences : (n i a m : ℕ) → a ≤ i → i < a + m → length (flat_map (difference n i) (range_with_len a m)) + 1 ≡ m
 length-differences n i a zero l h = absurd (omega arith)
@@ -113,7 +119,7 @@ length-differences n i a (suc m) l h =
     let more = length_parts (difference n i) 1 (a + 1) m (λ k p q. one_difference n i k (λ f. absurd (omega arith))) in
     omega (arith, length-append (difference n i a) rest, no_difference n i a e, more))
     (λ (d : i ≢ a).
-    let above : a < i = ⊎_elim (λ f. absurd (d f)) (λ o. ⊎_elim (λ (k : i < a). absurd (omega arith)) (λ (k : a < i). k) o) (cases_order i a) in
+    let above = strictly_above i a l d in
     let more = length-differences n i (a + 1) m (omega arith) (omega arith) in
     omega (arith, length-append (difference n i a) rest, one_difference n i a d, more))
     (same_or_not i a)
@@ -163,7 +169,7 @@ length-sums n i a (suc m) l h =
     let more = length_parts (signed_sums n i) 4 (a + 1) m (λ k p q. ap length (four n i k (omega arith))) in
     omega (arith, length-append (signed_sums n i a) rest, none, more))
     (λ (d : i ≢ a).
-    let above : a < i = ⊎_elim (λ f. absurd (d f)) (λ o. ⊎_elim (λ (k : i < a). absurd (omega arith)) (λ (k : a < i). k) o) (cases_order i a) in
+    let above = strictly_above i a l d in
     let more = length-sums n i (a + 1) m (omega arith) (omega arith) in
     omega (arith, length-append (signed_sums n i a) rest, none, more))
     (same_or_not i a)
@@ -196,7 +202,8 @@ IsCounted rows n count = (is_template rows ≡ true) × (width_of rows ≡ n) ×
 counted : (rows : List (List ℤ)) (n count : ℕ) → list_all (is_row_over n) rows ≡ true → length rows ≡ count → 1 ≤ count → count ≤ MOST_ROWS
     → IsCounted rows n count
 counted rows n count all e some_row few =
-    let t = template_from n rows all (and_from (nat_le 1 (length rows)) (nat_le (length rows) MOST_ROWS) (le-leb 1 (length rows) (omega arith))
+    let t = template_from n rows all (and_from (nat_le 1 (length rows)) (nat_le (length rows) MOST_ROWS)
+    (le-leb 1 (length rows) (omega arith))
     (le-leb (length rows) MOST_ROWS (omega arith))) in
     (t.0, t.1, e)
 
@@ -225,5 +232,6 @@ ready_few rows count e l = rw (le-leb (length rows) MOST_ROWS (omega arith)) ref
 
 -- rows that are too many are refused with their number
 pub ready_many : (rows : List (List ℤ)) (count : ℕ) → length rows ≡ count → MOST_ROWS < count → Err (Large count) ≡ ready rows
-ready_many rows count e l = rw (lt-leb (length rows) MOST_ROWS (omega arith)) (ap (λ (k : ℕ). let r : Result (List (List ℤ)) RowFault = Err (Large k) in r)
-    (sym e))
+ready_many rows count e l =
+    let refused : ℕ → Result (List (List ℤ)) RowFault = λ k. Err (Large k) in
+    rw (lt-leb (length rows) MOST_ROWS (omega arith)) (ap refused (sym e))

@@ -181,7 +181,8 @@ edge_within n m e h k =
     and_from (nat_lt e.from m) _ (lt-ltb e.from m h.from)
     (and_from (nat_lt 0 e.to) _ (lt-ltb 0 e.to h.later)
     (and_from (nat_lt e.to m) _ (lt-ltb e.to m h.to)
-    (and_from (nat_le (length e.actions) flow_limit.MOST_ACTIONS) _ (le-leb (length e.actions) flow_limit.MOST_ACTIONS (omega (arith, k))) (each_passes (is_action n) e.actions h.actions))))
+    (and_from (nat_le (length e.actions) flow_limit.MOST_ACTIONS) _ (le-leb (length e.actions) flow_limit.MOST_ACTIONS (omega (arith, k)))
+    (each_passes (is_action n) e.actions h.actions))))
 
 edges_within : (n m : ℕ) (edges : List AutoEdge) (es : List Edge) → IsTrue (list_all (is_auto_edge n m) edges)
     → es ≡ map kept_edge (edges_of m edges) →
@@ -237,15 +238,19 @@ points_within (p ∷ ps) h =
 -- ---- the flow
 pub flow_within : (names : List (List ℕ)) (points : List Point) (edges : List AutoEdge) (es : List Edge)
     → IsTrue (is_auto names points edges) →
-    es ≡ map kept_edge (edges_of (length points) edges) → length es ≤ MOST_EDGES → position is_long es ≡ None → IsTrue (is_flow names points es)
+    es ≡ map kept_edge (edges_of (length points) edges) → length es ≤ MOST_EDGES → position is_long es ≡ None
+    → IsTrue (is_flow names points es)
 flow_within names points edges es h e f l =
     let n = length names in
     let m = length points in
     let o = limits names points edges h in
-    and_from (nat_le 1 n && nat_le n tree_limit.MOST_VARIABLES) _ (and_from (nat_le 1 n) (nat_le n tree_limit.MOST_VARIABLES) (le-leb 1 n o.some_name)
+    and_from (nat_le 1 n && nat_le n tree_limit.MOST_VARIABLES) _
+    (and_from (nat_le 1 n) (nat_le n tree_limit.MOST_VARIABLES) (le-leb 1 n o.some_name)
     (le-leb n tree_limit.MOST_VARIABLES (omega (arith, o.few_names))))
-    (and_from (nat_le 2 m && nat_le m flow_limit.MOST_POINTS) _ (and_from (nat_le 2 m) (nat_le m flow_limit.MOST_POINTS) (le-leb 2 m o.two_points)
+    (and_from (nat_le 2 m && nat_le m flow_limit.MOST_POINTS) _
+    (and_from (nat_le 2 m) (nat_le m flow_limit.MOST_POINTS) (le-leb 2 m o.two_points)
     (le-leb m flow_limit.MOST_POINTS (omega (arith, o.few_points))))
     (and_from (begins_with_entry points && list_all has_line points) _ (points_within points o.labels)
-    (and_from (nat_le (length es) flow_limit.MOST_EDGES) (list_all (is_edge (n + MOST_HIDDEN) m) es) (le-leb (length es) flow_limit.MOST_EDGES (omega (arith, f)))
+    (and_from (nat_le (length es) flow_limit.MOST_EDGES) (list_all (is_edge (n + MOST_HIDDEN) m) es)
+    (le-leb (length es) flow_limit.MOST_EDGES (omega (arith, f)))
     (edges_grow n (n + MOST_HIDDEN) m es (omega arith) (edges_within n m edges es o.along e l)))))

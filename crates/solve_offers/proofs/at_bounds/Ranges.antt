@@ -33,7 +33,8 @@ ends_pass system edge c =
     let a = both (nat_lt edge.from points) (nat_lt 0 edge.to && (nat_lt edge.to points
     && (nat_le (length edge.actions) MOST_ACTIONS && list_all (is_action n) edge.actions)))
     (edge_passes n points system.flow.edges (flow_sizes system.flow).edges edge (in_of_contains system.flow.edges edge c)) in
-    let b = both (nat_lt 0 edge.to) (nat_lt edge.to points && (nat_le (length edge.actions) MOST_ACTIONS && list_all (is_action n) edge.actions))
+    let b = both (nat_lt 0 edge.to)
+    (nat_lt edge.to points && (nat_le (length edge.actions) MOST_ACTIONS && list_all (is_action n) edge.actions))
     a.1 in
     let d = both (nat_lt edge.to points) (nat_le (length edge.actions) MOST_ACTIONS && list_all (is_action n) edge.actions) b.1 in
     (ltb-true edge.from points a.0, ltb-true edge.to points d.0)

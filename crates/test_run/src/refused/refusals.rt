@@ -220,9 +220,13 @@ const PROGRAMS: &[(&[u8], &str)] = &[
 ];
 
 // Programs with a point too many, and the fault.
-const POINTED: &[Long] = &[
-    (b"int main() { int x;", b" if (x < 1) ;", 1023, b" }", "1025 points"),
-];
+const POINTED: &[Long] = &[(
+    b"int main() { int x;",
+    b" if (x < 1) ;",
+    1023,
+    b" }",
+    "1025 points",
+)];
 
 // Octagons over 32 variables have 2,048 rows, so that there may be 32 points; over 33 variables there are too many rows, which come before
 // the unknowns.
@@ -272,10 +276,7 @@ fn templates_are_too_large(rt: HostRuntime) {
         None
     );
     let zones = "verify p --domain zones";
-    assert_eq!(rt;
-        first_taken(rt.alloc(), zones, "program", None, WIDE),
-        None
-    );
+    assert_eq!(rt; first_taken(rt.alloc(), zones, "program", None, WIDE), None);
 }
 
 const STOPPED: &[(&str, &[u8], Ending)] = &[

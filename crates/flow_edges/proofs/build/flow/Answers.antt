@@ -7,7 +7,8 @@ use Rattle.flow_edges.specs.declared.fault.FlowFault.TheVariants as fault
 use Rattle.flow_edges.specs.Checks.{checks_in}
 use Rattle.flow_edges.specs.Faults.{is_long, has_many_actions}
 use Rattle.flow_edges.proofs.build.EdgeLimits.{room_in}
-use Rattle.flow_edges.proofs.faults.FlowLaws.{limits, few_points, few_kept, long_faulted, actions_faulted, checks_faulted, no_fault, nothing_cut}
+use Rattle.flow_edges.proofs.faults.FlowLaws.{limits, few_points, few_kept, long_faulted, actions_faulted, checks_faulted, no_fault}
+use Rattle.flow_edges.proofs.faults.FlowLaws.{nothing_cut}
 use Rattle.flow_edges.proofs.faults.FlowLaws.{flow_within}
 use Rattle.flow_edges.proofs.build.flow.Goals as goal
 

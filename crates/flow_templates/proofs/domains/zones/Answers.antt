@@ -5,19 +5,23 @@ use Rattle.flow_templates.specs.Domains.{zones_of}
 use Rattle.flow_templates.proofs.domains.zones.Goals as goal
 
 pub returns-then-count-gt-MOST_ROWS-clause-refused : goal.returns-then-count-gt-MOST_ROWS-clause-refused
-returns-then-count-gt-MOST_ROWS-clause-refused c = λ other. ready_many (zones_of c.args.vars) _ (length-zones c.args.vars c.requires.some) c.if-count-gt-MOST_ROWS.true
+returns-then-count-gt-MOST_ROWS-clause-refused c = λ other.
+    ready_many (zones_of c.args.vars) _ (length-zones c.args.vars c.requires.some) c.if-count-gt-MOST_ROWS.true
 
 pub new-requires : goal.new-requires
 new-requires c = rw c.in_ok-zone_rows.ensures ((zones_counted c.args.vars c.requires.some c.if-count-gt-MOST_ROWS.false).0)
 
 pub returns-clause-template : goal.returns-clause-template
 returns-clause-template c =
-    rw (c.new.ensures ∙ c.in_ok-zone_rows.ensures) (ready_few (zones_of c.args.vars) _ (length-zones c.args.vars c.requires.some) c.if-count-gt-MOST_ROWS.false)
+    rw (c.new.ensures ∙ c.in_ok-zone_rows.ensures)
+    (ready_few (zones_of c.args.vars) _ (length-zones c.args.vars c.requires.some) c.if-count-gt-MOST_ROWS.false)
 
 pub returns-clause-count : goal.returns-clause-count
 returns-clause-count c =
-    ap length (c.new.ensures ∙ c.in_ok-zone_rows.ensures) ∙ (zones_counted c.args.vars c.requires.some c.if-count-gt-MOST_ROWS.false).2
+    ap length (c.new.ensures ∙ c.in_ok-zone_rows.ensures)
+    ∙ (zones_counted c.args.vars c.requires.some c.if-count-gt-MOST_ROWS.false).2
 
 pub returns-clause-width : goal.returns-clause-width
 returns-clause-width c =
-    ap width_of (c.new.ensures ∙ c.in_ok-zone_rows.ensures) ∙ (zones_counted c.args.vars c.requires.some c.if-count-gt-MOST_ROWS.false).1
+    ap width_of (c.new.ensures ∙ c.in_ok-zone_rows.ensures)
+    ∙ (zones_counted c.args.vars c.requires.some c.if-count-gt-MOST_ROWS.false).1
