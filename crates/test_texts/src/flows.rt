@@ -167,7 +167,7 @@ const LOOPS: &[u8] = b"while (nondet()) ; ";
 const SHAPES: &[(&[u8], &[u8], usize, Option<FlowFault>)] = &[
     // There are fewer statements than points.
     (START, LOOPS, 511, None),
-    (MARKED, b"x++; ", 511, None),
+    (MARKED, b"x++; ", 510, None),
 ];
 
 #[test]

@@ -32,24 +32,6 @@ count_unknowns system =
     (λ p. let e = length-map-range_with_len (λ r. let u : Unknown = record { point = p; row = r } in u) 0 (length system.template) in
     omega arith))
 
--- and at most as many choices
-pub count_choices : (system : Equations) (pick : Pick) → length (choices system pick) ≤ system.points * length system.template
-unfolding choices choice_at
-count_choices system pick =
-    subst (λ n. length (flat_map (λ p. flat_map (λ r. choice_at p r (pick p r)) (range_with_len 0 (length system.template)))
-    (range_with_len 0 system.points)) ≤ n * length system.template)
-    (length-range_with_len 0 system.points)
-    (length-flat_most (λ p. flat_map (λ r. choice_at p r (pick p r)) (range_with_len 0 (length system.template)))
-    (range_with_len 0 system.points) (length system.template)
-    (λ p. let e = length-range_with_len 0 (length system.template) in let h =
-    length-flat_most (λ r. choice_at p r (pick p r)) (range_with_len 0 (length system.template)) 1 (λ r. one p r (pick p r)) in
-    let d : length (range_with_len 0 (length system.template)) * 1 ≡ length (range_with_len 0 (length system.template)) = grind arith in
-    omega arith))
-  where
-    one : (p r : ℕ) (o : Option ℕ) → length (choice_at p r o) ≤ 1
-    one p r None = omega arith
-    one p r (Some k) = omega arith
-
 -- an item at a place is of the list
 in_place : (items : List Item) (k : ℕ) (none : Item) → k < length items → In items (get_or items k none)
 in_place [] k none l = absurd (omega arith)
@@ -82,16 +64,3 @@ distinct_few system items d within =
 
     unknown : ℕ → Unknown
     unknown k = record { point = (get_or items k none).point; row = (get_or items k none).row }
-
--- two lists with no common unknown
-pub distinct_append : (xs ys : List Item) → Distinct xs → Distinct ys → ((u : Item) → In xs u → Unnamed ys u.point u.row)
-    → Distinct (xs ++ ys)
-distinct_append [] ys a b none = b
-distinct_append (x ∷ xs) ys a b none = (
-  unnamed_append xs ys x.point x.row a.0 (none x (inl refl)),
-  distinct_append xs ys a.1 b (λ u m. none u (inr m)),
-)
-  where
-    unnamed_append : (xs ys : List Item) (p r : ℕ) → Unnamed xs p r → Unnamed ys p r → Unnamed (xs ++ ys) p r
-    unnamed_append [] ys p r a b = b
-    unnamed_append (x ∷ xs) ys p r a b = (a.0, unnamed_append xs ys p r a.1 b)

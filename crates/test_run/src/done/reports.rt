@@ -419,8 +419,7 @@ fn write_point(
     text.push_str("\n")
 }
 
-// Its report: nothing is known at the entry, all are 0 at the label, and the last one is 7 at the exit. Each of the two edges takes a
-// round.
+// Its report: nothing is known at the entry, all are 0 at the label, and the last one is 7 at the exit. Each of two edges takes a round.
 fn many_bounds(alloc: Global) -> Result<Vec<u8>, AllocError> {
     let mut text = String::from_str(alloc, "variables v0")?;
     for number in 1..64u32 {
