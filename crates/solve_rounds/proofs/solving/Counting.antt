@@ -1,7 +1,7 @@
 -- Lists whose items name different unknowns are at most as long as there are unknowns.
-use Rattle.std.proofs.Common.{◌≡◌, inl, inr, ℕ, zero, suc, ◌+◌, ◌*◌, ◌<◌, ◌≤◌, List, [], ◌∷◌, ◌++◌, length, length-append, map, get_or}
+use Rattle.std.proofs.Common.{◌≡◌, inl, inr, ℕ, zero, suc, ◌+◌, ◌*◌, ◌<◌, ◌≤◌, List, [], ◌∷◌, length, length-append, map, get_or}
 use Rattle.std.proofs.Common.{refl, ap, subst, subst₂, arith}
-use Rattle.std.specs.Prelude.{flat_map, Option, Some, None}
+use Rattle.std.specs.Prelude.{flat_map}
 use Rattle.std.specs.List.{range_with_len}
 use Rattle.std.proofs.lemmas.List.FromFn.{length-range_with_len, length-map-range_with_len}
 use Rattle.base_facts.proofs.elements.Pigeonhole.{pigeonhole}
@@ -9,7 +9,7 @@ use Rattle.base_facts.specs.Elements.{In}
 use Rattle.flow_systems.specs.Equations.{Equations}
 use Rattle.theory_validity.specs.Steps.{Item, Unnamed, Distinct}
 use Rattle.theory_validity.proofs.steps.Puts.{not_unnamed}
-use Rattle.theory_strategy.specs.Picks.{Pick, choice, choice_at, choices}
+use Rattle.theory_strategy.specs.Picks.{choice}
 use Rattle.theory_strategy.specs.PickCount.{Unknown, unknowns}
 use Rattle.theory_strategy.proofs.round.FewRounds.{in_unknowns}
 

@@ -12,6 +12,16 @@ loop-alloc-init g c =
     (parting_starts at.system.now at.pick.now at.raises.now at.places.now c.args.list.now c.args.turning.now
     c.requires.part)
 
+pub turn-requires-clause-few : goal.turn-requires-clause-few
+turn-requires-clause-few g c =
+    let at = c.args.at.now in
+    let left = c.as_slice.result.now in
+    let h = subst (λ l. IsParting at.system.now at.pick.now at.raises.now at.places.now c.args.list.now c.args.turning.now l
+    c.loop-alloc.turning) (sym c.as_slice.ensures.value) c.loop-alloc.invariant in
+    let some : 0 < length left = subst (λ n. 0 < n) (sym c.as_slice.ensures.len)
+    (not_none _ (sym c.is_empty.ensures ∙ c.loop-alloc-test.true)) in
+    omega (arith, h.few, c.requires.few, some)
+
 pub turn-requires-clause-condition : goal.turn-requires-clause-condition
 turn-requires-clause-condition g c =
     let at = c.args.at.now in
