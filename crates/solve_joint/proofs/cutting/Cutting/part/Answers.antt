@@ -1,0 +1,11 @@
+use Rattle.std.proofs.Common.{◌≡◌, ◌∙◌, ◌<◌, ◌∷◌, [], ◌++◌, length, map, get_or, sym, ap, arith}
+use Rattle.std.proofs.lemmas.List.{map-append, take_more, take_all}
+use Rattle.solve_joint.specs.Classes.{node_at}
+use Rattle.solve_joint.proofs.cutting.Blocking.{member_at}
+use Rattle.solve_joint.proofs.cutting.Cutting.part.Goals as goal
+
+pub bounds-self-member : goal.bounds-self-member
+bounds-self-member c =
+    let cutting = c.args.self.now in
+    (member_at cutting.nodes.now cutting.classes.items cutting.sized c.args.head c.members_of-members.result.now
+    c.loop-member.member-index c.members_of-members.ensures c.loop-member-test.true).0
