@@ -68,7 +68,12 @@ fn classes_by(
 }
 
 /// For each unknown of a list the place of a member of its part: the same one for all members, and not behind any.
-pub fn classes(alloc: Global, points: u32, rows: &[Row], nodes: &[Node]) -> Result<Vec<u32>, AllocError>
+pub fn classes(
+    alloc: Global,
+    points: u32,
+    rows: &[Row],
+    nodes: &[Node],
+) -> Result<Vec<u32>, AllocError>
     requires rows { rows.now ≡ closed points nodes.now }
     requires within { (a : Node) → In nodes.now a → (a.point < points) × (a.source < points) }
     requires rises { Rises 0 (map (λ (a : Node). a.unknown) nodes.now) }

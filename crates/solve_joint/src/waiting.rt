@@ -95,7 +95,13 @@ impl Waiting {
     }
 
     /// The members of a part are gone: the parts that are noted there are placed anew.
-    pub fn go_on(&mut self, alloc: Global, cutting: &Cutting, gone: &Row, head: u32) -> Result<(), AllocError>
+    pub fn go_on(
+        &mut self,
+        alloc: Global,
+        cutting: &Cutting,
+        gone: &Row,
+        head: u32,
+    ) -> Result<(), AllocError>
         requires head { head < length cutting.now.nodes.now }
         requires out { (i : ℕ) → In (places_of cutting.now.classes.items head) i → get_or gone.now i false ≡ true }
         requires waiting { AreWaiting cutting.now.nodes.now cutting.now.classes.items gone.now self.old.ready.keys self.old.noted.items }

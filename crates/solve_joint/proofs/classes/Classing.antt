@@ -1,10 +1,10 @@
 -- Classes, unknown by unknown.
-use Rattle.std.proofs.Common.{◌≡◌, ◌∙◌, ◌⊎◌, inl, inr, ⊎_elim, ℕ, ◌+◌, ◌<◌, ◌≤◌, ◌==◌, Bool, true, false, true≢false, List, [], ◌∷◌, ◌++◌}
+use Rattle.std.proofs.Common.{◌≡◌, ◌∙◌, ◌⊎◌, inl, inr, ⊎_elim, ℕ, ◌+◌, ◌<◌, ◌≤◌, ◌==◌, Bool, true, List, [], ◌∷◌, ◌++◌}
 use Rattle.std.proofs.Common.{length, get_or, set, refl, sym, ap, subst, arith, length-set}
 use Rattle.std.specs.Prelude.{Option, Some, None, replicate}
-use Rattle.std.proofs.lemmas.Bool.{cases_lt, eqb-true}
+use Rattle.std.proofs.lemmas.Bool.{eqb-true}
 use Rattle.std.proofs.lemmas.Bool.Decides.{eqb_tells}
-use Rattle.std.proofs.lemmas.List.{get_or-set_same, get_or-set_other, get_or-replicate, get_or_past, length-replicate}
+use Rattle.std.proofs.lemmas.List.{get_or-set_same, get_or-set_other, length-replicate}
 use Rattle.std.proofs.lemmas.List.{length-append, get_or_append_left, get_or_push}
 use Rattle.base_facts.proofs.Lists.{get_or_replicate_default}
 use Rattle.base_facts.specs.Elements.{In}
@@ -106,13 +106,15 @@ module _ (points : ℕ) (homes : List ℕ) (nodes : List Node) where
     }
 
     -- an inner unknown, of the class that its home has
-    pub class_inner : (next : List (Option ℕ)) → IsInner homes nodes n → IsFirstPlace firsts (home_of homes nodes n) n next class → ClassesTo next new (n + 1)
+    pub class_inner : (next : List (Option ℕ)) → IsInner homes nodes n → IsFirstPlace firsts (home_of homes nodes n) n next class
+        → ClassesTo next new (n + 1)
     class_inner next is first = record {
       size = longer;
       places = first.size ∙ to.places;
       kept = kept;
       inner = λ k l i. ⊎_elim
-          (λ s. ap (λ j. get_or next (home_of homes nodes j) None) s.1 ∙ first.here ∙ ap Some (sym here) ∙ ap (λ j. Some (get_or new j 0)) (sym s.1))
+          (λ s. ap (λ j. get_or next (home_of homes nodes j) None) s.1 ∙ first.here ∙ ap Some (sym here)
+          ∙ ap (λ j. Some (get_or new j 0)) (sym s.1))
           (λ s. let m : k < n = (let t = s.1 in omega (arith, l, t)) in
           first.keeps (home_of homes nodes k) (get_or new k 0) (to.inner k m i ∙ ap Some (sym (earlier k m))))
           (eqb_tells k n);

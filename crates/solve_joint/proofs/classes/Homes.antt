@@ -1,7 +1,6 @@
 -- Unknowns in one part, by the homes of their points.
-use Rattle.std.proofs.Common.{◌≡◌, ◌∙◌, ◌⊎◌, inl, inr, ⊎_elim, ℕ, zero, suc, ◌+◌, ◌<◌, ◌≤◌, ◌==◌, ◌&&◌, ◌||◌, Bool, true, false, true≢false}
-use Rattle.std.proofs.Common.{List, [], ◌∷◌, length, get_or, map, refl, sym, ap, ap₂, subst, arith}
-use Rattle.std.specs.List.{range_with_len}
+use Rattle.std.proofs.Common.{◌≡◌, ◌∙◌, ◌⊎◌, inl, inr, ⊎_elim, ℕ, zero, suc, ◌+◌, ◌<◌, ◌≤◌, ◌==◌, Bool, true, false, true≢false}
+use Rattle.std.proofs.Common.{List, [], ◌∷◌, length, get_or, map, refl, sym, ap, subst, arith}
 use Rattle.std.proofs.lemmas.Bool.{cases_lt, eqb-true}
 use Rattle.std.proofs.lemmas.Bool.Decides.{eqb_tells}
 use Rattle.std.proofs.lemmas.List.FromFn.{get_or-map-range_with_len}
@@ -10,7 +9,7 @@ use Rattle.solve_joint.specs.declared.node.Node.{Node}
 use Rattle.solve_joint.specs.Numbers.{Rises}
 use Rattle.solve_joint.specs.Tables.{row_by, leads, closed, cell, gets_to}
 use Rattle.solve_joint.specs.Cuts.{are_one_part}
-use Rattle.solve_joint.specs.Classes.{node_at, are_mutual, IsHome, AreHomes}
+use Rattle.solve_joint.specs.Classes.{node_at, are_mutual, AreHomes}
 use Rattle.solve_joint.proofs.group.Members.{in_at}
 use Rattle.solve_joint.proofs.closure.Leading.{or_cases, or_left, or_right, and_both, and_first, and_second, leads_itself, leads_goes}
 use Rattle.solve_joint.proofs.closure.Leading.{leads_on}
@@ -65,9 +64,10 @@ module _ (points : ℕ) (rows : List (List Bool)) (nodes : List Node) (are : row
       ∙ get_or-map-range_with_len (leads nodes p) 0 points q q false m (omega arith)
 
   mutual_leads : (p q : ℕ) → p < points → q < points → are_mutual rows p q ≡ true → (leads nodes p q ≡ true) × (leads nodes q p ≡ true)
-  mutual_leads p q l m h =
-      (sym (cell_leads p q l m) ∙ and_first (cell rows p q) (cell rows q p) h,
-      sym (cell_leads q p m l) ∙ and_second (cell rows p q) (cell rows q p) h)
+  mutual_leads p q l m h = (
+    sym (cell_leads p q l m) ∙ and_first (cell rows p q) (cell rows q p) h,
+    sym (cell_leads q p m l) ∙ and_second (cell rows p q) (cell rows q p) h,
+  )
 
   leads_mutual : (p q : ℕ) → p < points → q < points → leads nodes p q ≡ true → leads nodes q p ≡ true → are_mutual rows p q ≡ true
   leads_mutual p q l m h k = and_both (cell rows p q) (cell rows q p) (cell_leads p q l m ∙ h) (cell_leads q p m l ∙ k)
@@ -113,21 +113,22 @@ module _ (points : ℕ) (rows : List (List Bool)) (nodes : List Node) (are : row
     steps i l = leads_goes nodes (node_at nodes i).point (node_at nodes i) (node_in i l) (leads_itself nodes (node_at nodes i).point)
 
     round : (i k : ℕ) → i < length nodes → k < length nodes → leads nodes (node_at nodes i).source (node_at nodes k).point ≡ true
-        → leads nodes (node_at nodes k).source (node_at nodes i).point ≡ true → IsInner homes nodes i × (home_of homes nodes i ≡ home_of homes nodes k)
+        → leads nodes (node_at nodes k).source (node_at nodes i).point ≡ true → IsInner homes nodes i
+        × (home_of homes nodes i ≡ home_of homes nodes k)
     round i k l m h j =
         let a = node_at nodes i in
         let b = node_at nodes k in
         let p = within a (node_in i l) in
         let q = within b (node_in k m) in
-        let from_b : leads nodes b.point a.point ≡ true = leads_on nodes b.point b.source a.point (steps k m) j in
-        (
+        let from_b : leads nodes b.point a.point ≡ true = leads_on nodes b.point b.source a.point (steps k m) j in (
           one_home a.point a.source p.0 p.1 (steps i l) (leads_on nodes a.source b.point a.point h from_b),
           one_home a.point b.point p.0 q.0 (leads_on nodes a.point a.source b.point (steps i l) h) from_b,
         )
 
     -- two unknowns of one part are one, or both inner and of one home
     pub one_part_means : Rises 0 (unknowns nodes) → (i k : ℕ) → i < length nodes → k < length nodes
-        → are_one_part rows (node_at nodes i) (node_at nodes k) ≡ true → (i ≡ k) ⊎ (IsInner homes nodes i × IsInner homes nodes k × (home_of homes nodes i ≡ home_of homes nodes k))
+        → are_one_part rows (node_at nodes i) (node_at nodes k) ≡ true → (i ≡ k) ⊎ (IsInner homes nodes i × IsInner homes nodes k
+        × (home_of homes nodes i ≡ home_of homes nodes k))
     one_part_means rises i k l m h =
         let a = node_at nodes i in
         let b = node_at nodes k in
@@ -138,11 +139,11 @@ module _ (points : ℕ) (rows : List (List Bool)) (nodes : List Node) (are : row
         (λ f. ⊎_elim
         (λ e. inl (one_place nodes i k rises l m (sym (eqb-true b.unknown a.unknown e))))
         (λ g.
-          let to_b = sym (cell_leads a.source b.point p.1 q.0) ∙ f in
-          let to_a = sym (cell_leads b.source a.point q.1 p.0) ∙ g in
-          let one = round i k l m to_b to_a in
-          let other = round k i m l to_a to_b in
-          inr (one.0, other.0, one.1))
+        let to_b = sym (cell_leads a.source b.point p.1 q.0) ∙ f in
+        let to_a = sym (cell_leads b.source a.point q.1 p.0) ∙ g in
+        let one = round i k l m to_b to_a in
+        let other = round k i m l to_a to_b in
+        inr (one.0, other.0, one.1))
         (or_cases (b.unknown == a.unknown) (cell rows b.source a.point) (and_second (gets_to rows a b) (gets_to rows b a) h)))
         (or_cases (a.unknown == b.unknown) (cell rows a.source b.point) (and_first (gets_to rows a b) (gets_to rows b a) h))
 
@@ -167,6 +168,7 @@ module _ (points : ℕ) (rows : List (List Bool)) (nodes : List Node) (are : row
         (cell_leads a.source b.point p.1 q.0 ∙ home_one a.source b.point p.1 q.0 (sym h ∙ e))
 
     -- inner unknowns of one home are in one part
-    pub one_part_inner : (i k : ℕ) → i < length nodes → k < length nodes → IsInner homes nodes i → IsInner homes nodes k → home_of homes nodes i ≡ home_of homes nodes k
+    pub one_part_inner : (i k : ℕ) → i < length nodes → k < length nodes → IsInner homes nodes i → IsInner homes nodes k
+        → home_of homes nodes i ≡ home_of homes nodes k
         → are_one_part rows (node_at nodes i) (node_at nodes k) ≡ true
     one_part_inner i k l m h j e = and_both _ _ (back i k l m h e) (back k i m l j (sym e))

@@ -3,7 +3,8 @@ use Rattle.std.proofs.Common.{◌≡◌, ◌∙◌, ◌⊎◌, inl, inr, ⊎_eli
 use Rattle.std.proofs.Common.{length, get_or, set, take, refl, sym, ap, subst, arith, length-set}
 use Rattle.std.specs.Prelude.{replicate}
 use Rattle.std.proofs.lemmas.Bool.Decides.{eqb_tells}
-use Rattle.std.proofs.lemmas.List.{get_or-set_same, get_or-set_other, get_or-replicate, length-replicate, length-append, take_more, take_all}
+use Rattle.std.proofs.lemmas.List.{get_or-set_same, get_or-set_other, get_or-replicate, length-replicate, length-append, take_more}
+use Rattle.std.proofs.lemmas.List.{take_all}
 use Rattle.std.proofs.lemmas.List.Sums.{sum_by-set}
 use Rattle.base_facts.specs.Elements.{In}
 use Rattle.base_facts.proofs.elements.Membership.{in_left, in_right, of_append}
@@ -138,7 +139,8 @@ module _ (points : ℕ) (steps : List (List ℕ)) (p : ℕ) where
     size = a.size ∙ is.size;
     start = a.keeps p is.start;
     sound = λ r h. ⊎_elim (λ k. is.sound r k) (λ m. Led.goes p q r (is.sound q here) m) (a.only r h);
-    gone_on = λ r h. ⊎_elim (λ k. ⊎_elim (λ m. still r m) (λ f. inr (λ s m. a.keeps s (f s m))) (is.gone_on r k)) (λ m. inl m) (a.opens r h);
+    gone_on = λ r h. ⊎_elim (λ k. ⊎_elim (λ m. still r m) (λ f. inr (λ s m. a.keeps s (f s m))) (is.gone_on r k)) (λ m. inl m)
+        (a.opens r h);
     opened = λ r m. ⊎_elim (λ k. a.keeps r (is.opened r (within r (inl k)))) (λ k. a.finds r k) (a.opens_only r m);
   }
     where

@@ -86,7 +86,8 @@ pub leads_on : (xs : List Node) (p r q : ℕ) → leads xs p r ≡ true → lead
 leads_on xs p r q h k = leads_least xs (λ s. leads xs p s ≡ true) (λ x m g. leads_goes xs p x m g) r q h k
 
 -- ---- chains of steps
-module _ (points : ℕ) (nodes : List Node) (steps : List (List ℕ)) (within : (a : Node) → In nodes a → (a.point < points) × (a.source < points))
+module _ (points : ℕ) (nodes : List Node) (steps : List (List ℕ)) (within : (a : Node) → In nodes a
+    → (a.point < points) × (a.source < points))
     (are : AreSteps points nodes steps) where
   led_leads : (p q : ℕ) → Led steps p q → leads nodes p q ≡ true
   led_leads p q (Led.stays r) = leads_itself nodes r
@@ -107,7 +108,8 @@ module _ (points : ℕ) (nodes : List Node) (steps : List (List ℕ)) (within : 
       (λ q l. same_test (get_or row q false) (leads nodes p q) (λ k. led_leads p q ((h.each q).0 k)) (λ k. (h.each q).1 (leads_led p q k)))
 
   -- one more row
-  pub rows_more : (p : ℕ) (rows new : List (List Bool)) (row : List Bool) → rows ≡ map (λ q. row_by points (leads nodes q)) (range_with_len 0 p)
+  pub rows_more : (p : ℕ) (rows new : List (List Bool)) (row : List Bool) → rows ≡ map (λ q. row_by points (leads nodes q))
+      (range_with_len 0 p)
       → IsReached points steps p row → new ≡ rows ++ row ∷ []
       → new ≡ map (λ q. row_by points (leads nodes q)) (range_with_len 0 (p + 1))
   rows_more p rows new row before h e =

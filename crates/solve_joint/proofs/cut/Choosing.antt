@@ -1,6 +1,6 @@
 -- Which of the unknowns left is the first whose part may come next.
-use Rattle.std.proofs.Common.{◌≡◌, ◌∙◌, ◌⊎◌, inl, inr, ⊎_elim, ℕ, zero, suc, ◌+◌, ◌<◌, ◌≤◌, ◌==◌, ◌&&◌, ◌||◌, not, cond, Bool, true, false}
-use Rattle.std.proofs.Common.{true≢false, List, [], ◌∷◌, length, map, get_or, Option, Some, None, refl, ap, sym, subst, arith}
+use Rattle.std.proofs.Common.{◌≡◌, ◌∙◌, inl, inr, ⊎_elim, ℕ, zero, suc, ◌+◌, ◌<◌, ◌≤◌, ◌==◌, ◌&&◌, ◌||◌, not, cond, Bool, true, false}
+use Rattle.std.proofs.Common.{true≢false, List, [], ◌∷◌, length, map, get_or, Some, None, refl, ap, sym, subst, arith}
 use Rattle.std.specs.Prelude.{find}
 use Rattle.std.specs.List.{list_all, filter, range_with_len}
 use Rattle.std.proofs.lemmas.Bool.{eqb-true}
@@ -10,8 +10,8 @@ use Rattle.base_facts.proofs.elements.Membership.{in_map, of_map, in_range, of_r
 use Rattle.solve_joint.specs.declared.node.Node.{Node}
 use Rattle.solve_joint.specs.Cuts.{are_one_part, keeps_within, may_come}
 use Rattle.solve_joint.specs.Classes.{node_at, AreClasses}
-use Rattle.solve_joint.specs.Waits.{left_of, is_outside, Blocks, IsHead}
-use Rattle.solve_joint.proofs.closure.Leading.{and_first, and_second, and_both}
+use Rattle.solve_joint.specs.Waits.{left_of, Blocks, IsHead}
+use Rattle.solve_joint.proofs.closure.Leading.{and_second, and_both}
 use Rattle.solve_joint.proofs.group.Grouping.{in_filter, of_filter}
 use Rattle.solve_joint.proofs.waiting.Placing.{not_true, blocker_left}
 
@@ -81,7 +81,8 @@ true_not false e = refl
 
 module _ (nodes : List Node) (gone : List Bool) where
   -- the unknowns left are those at places that aren't gone
-  pub of_left : (a : Node) → In (left_of nodes gone) a → (i : ℕ) × (i < length nodes) × (get_or gone i false ≡ false) × (node_at nodes i ≡ a)
+  pub of_left : (a : Node) → In (left_of nodes gone) a → (i : ℕ) × (i < length nodes) × (get_or gone i false ≡ false)
+      × (node_at nodes i ≡ a)
   of_left a m =
       let r = of_map (node_at nodes) (filter (λ i. not (get_or gone i false)) (range_with_len 0 (length nodes))) a m in
       let s = of_filter (λ i. not (get_or gone i false)) (range_with_len 0 (length nodes)) r.0 r.1 in
@@ -105,7 +106,8 @@ module _ (rows : List (List Bool)) (nodes : List Node) (classes : List ℕ) (are
   pub class_head : (i : ℕ) → i < length nodes → IsHead nodes classes (class i)
   class_head i l = record { within = (let h = are.low i l in omega (arith, h, l)); itself = are.head i l }
 
-  one_part : (i k : ℕ) → i < length nodes → k < length nodes → class i ≡ class k → are_one_part rows (node_at nodes i) (node_at nodes k) ≡ true
+  one_part : (i k : ℕ) → i < length nodes → k < length nodes → class i ≡ class k → are_one_part rows (node_at nodes i)
+      (node_at nodes k) ≡ true
   one_part i k l m e = are.same i k l m ∙ equal (class i) (class k) e
 
   -- a part that nothing blocks may come
@@ -165,19 +167,19 @@ module _ (rows : List (List Bool)) (nodes : List Node) (classes : List ℕ) (are
   next_is head is e free before = find_range (may_come rows left) (node_at nodes) (λ i. not (get_or gone i false)) 0 (length nodes) head
       (omega arith) (let l = is.within in omega (arith, l)) (true_not (get_or gone head false) e) (comes head is free)
       (λ k h l f.
-        let m : k < length nodes = (let w = is.within in omega (arith, l, w)) in
-        let out = not_true (get_or gone k false) f in
-        let low = are.low k m in
-        let b = before (class k) (class_head k m) (whole k m ∙ out) (omega (arith, low, l)) in
-        waits k b.0 m out b.1)
+      let m : k < length nodes = (let w = is.within in omega (arith, l, w)) in
+      let out = not_true (get_or gone k false) f in
+      let low = are.low k m in
+      let b = before (class k) (class_head k m) (whole k m ∙ out) (omega (arith, low, l)) in
+      waits k b.0 m out b.1)
 
   -- where something blocks every part none comes
   pub next_none : ((k : ℕ) → IsHead nodes classes k → get_or gone k false ≡ false → (i : ℕ) × Blocks nodes classes gone k i)
       → find (may_come rows left) left ≡ None
   next_none all = find_nothing (may_come rows left) (node_at nodes) (λ i. not (get_or gone i false)) (range_with_len 0 (length nodes))
       (λ k m f.
-        let l = of_range 0 (length nodes) k m in
-        let within : k < length nodes = omega (arith, l) in
-        let out = not_true (get_or gone k false) f in
-        let b = all (class k) (class_head k within) (whole k within ∙ out) in
-        waits k b.0 within out b.1)
+      let l = of_range 0 (length nodes) k m in
+      let within : k < length nodes = omega (arith, l) in
+      let out = not_true (get_or gone k false) f in
+      let b = all (class k) (class_head k within) (whole k within ∙ out) in
+      waits k b.0 within out b.1)

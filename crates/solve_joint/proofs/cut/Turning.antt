@@ -1,26 +1,23 @@
 -- A cut, part by part.
-use Rattle.std.proofs.Common.{◌≡◌, ◌∙◌, ◌⊎◌, inl, inr, ⊎_elim, ℕ, zero, suc, ◌+◌, ◌-◌, ◌<◌, ◌≤◌, ◌==◌, ◌&&◌, not, cond, Bool, true, false}
-use Rattle.std.proofs.Common.{true≢false, List, [], ◌∷◌, ◌++◌, length, map, get_or, Option, Some, None, refl, ap, ap₂, sym, subst, arith}
-use Rattle.std.specs.Prelude.{find, replicate}
+use Rattle.std.proofs.Common.{◌≡◌, ◌∙◌, inl, inr, ⊎_elim, ℕ, ◌<◌, ◌==◌, ◌&&◌, not, cond, Bool, true, false}
+use Rattle.std.proofs.Common.{true≢false, List, [], ◌∷◌, length, map, get_or, Some, None, refl, ap, sym, subst, arith}
+use Rattle.std.specs.Prelude.{find}
 use Rattle.std.specs.Ordering.{nat_cmp}
 use Rattle.std.specs.declared.cmp.Ordering.TheVariants.{Less}
 use Rattle.std.specs.List.{All, filter, range_with_len}
 use Rattle.std.proofs.lemmas.Bool.Decides.{eqb_tells}
-use Rattle.std.proofs.lemmas.List.{length-replicate}
 use Rattle.std.proofs.lemmas.List.FromFn.{fill_by_all}
-use Rattle.base_facts.proofs.Lists.{get_or_replicate_default}
 use Rattle.base_facts.specs.Elements.{In}
 use Rattle.base_facts.proofs.elements.Membership.{of_range}
 use Rattle.solve_joint.specs.declared.node.Node.{Node}
-use Rattle.solve_joint.specs.Cuts.{are_one_part, are_apart, may_come, cut_from}
+use Rattle.solve_joint.specs.Cuts.{are_one_part, are_apart, may_come}
 use Rattle.solve_joint.specs.Classes.{node_at, places_of, AreClasses}
-use Rattle.solve_joint.specs.Waits.{left_of, is_outside, Blocks, IsHead, AreWaiting, IsPlaced, AllPlaced, AllPlacedBut}
-use Rattle.solve_joint.proofs.closure.Leading.{same_test, and_first, and_second, and_both}
+use Rattle.solve_joint.specs.Waits.{left_of, Blocks, IsHead, AreWaiting, AllPlaced, AllPlacedBut}
+use Rattle.solve_joint.proofs.closure.Leading.{and_second, and_both}
 use Rattle.solve_joint.proofs.cutting.Blocking.{member_is, is_member}
 use Rattle.solve_joint.proofs.waiting.Keys.{above_first}
-use Rattle.solve_joint.proofs.waiting.Placing.{not_true, blocker_left}
+use Rattle.solve_joint.proofs.waiting.Placing.{blocker_left}
 use Rattle.solve_joint.proofs.cut.Choosing.{equal, not_equal, true_not, next_is, next_none}
-use Rattle.solve_joint.proofs.cut.Cutting.{cut_more, cut_stops, cut_all}
 
 -- ---- filters
 filter_map : (p : Node → Bool) (node : ℕ → Node) (xs : List ℕ) → filter p (map node xs) ≡ map node (filter (λ k. p (node k)) xs)
@@ -87,8 +84,10 @@ module _ (rows : List (List Bool)) (nodes : List Node) (classes : List ℕ) (are
         ≡ map (λ i. (node_at nodes i).unknown) (places_of classes head)
     part_is =
         ap (map (λ (a : Node). a.unknown))
-        (filter_map (are_one_part rows (node_at nodes head)) (node_at nodes) (filter (λ i. not (get_or gone i false)) (range_with_len 0 (length nodes)))
-        ∙ ap (map (node_at nodes)) (filter_twice (λ i. not (get_or gone i false)) (λ i. are_one_part rows (node_at nodes head) (node_at nodes i))
+        (filter_map (are_one_part rows (node_at nodes head)) (node_at nodes) (filter (λ i. not (get_or gone i false))
+        (range_with_len 0 (length nodes)))
+        ∙ ap (map (node_at nodes)) (filter_twice (λ i. not (get_or gone i false)) (λ i. are_one_part rows (node_at nodes head)
+        (node_at nodes i))
         (λ i. class i == head) (range_with_len 0 (length nodes)) same
         ∙ ap (λ n. filter (λ i. class i == head) (range_with_len 0 n)) (sym are.size)))
         ∙ map_twice (λ (a : Node). a.unknown) (node_at nodes) (places_of classes head)
@@ -112,8 +111,10 @@ module _ (rows : List (List Bool)) (nodes : List Node) (classes : List ℕ) (are
     -- the unknowns left behind it
     pub left_is : left_of nodes gone' ≡ filter (are_apart rows (node_at nodes head)) (left_of nodes gone)
     left_is = sym (
-        filter_map (are_apart rows (node_at nodes head)) (node_at nodes) (filter (λ i. not (get_or gone i false)) (range_with_len 0 (length nodes)))
-        ∙ ap (map (node_at nodes)) (filter_twice (λ i. not (get_or gone i false)) (λ i. are_apart rows (node_at nodes head) (node_at nodes i))
+        filter_map (are_apart rows (node_at nodes head)) (node_at nodes) (filter (λ i. not (get_or gone i false)) (range_with_len 0
+        (length nodes)))
+        ∙ ap (map (node_at nodes)) (filter_twice (λ i. not (get_or gone i false)) (λ i. are_apart rows (node_at nodes head)
+        (node_at nodes i))
         (λ i. not (get_or gone' i false)) (range_with_len 0 (length nodes)) same))
       where
         same : (i : ℕ) → In (range_with_len 0 (length nodes)) i

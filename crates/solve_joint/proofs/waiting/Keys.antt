@@ -1,5 +1,5 @@
 -- Keys of a set of numbers.
-use Rattle.std.proofs.Common.{◌≡◌, ◌∙◌, ◌⊎◌, ◌↔◌, inl, inr, ⊎_elim, ℕ, ◌<◌, ◌≤◌, List, [], ◌∷◌, refl, sym, ap, subst, arith}
+use Rattle.std.proofs.Common.{◌≡◌, ◌∙◌, ◌⊎◌, ◌↔◌, inl, inr, ⊎_elim, ℕ, ◌<◌, List, [], ◌∷◌, sym, subst, arith}
 use Rattle.std.specs.declared.cmp.Ordering.TheVariants.{Less, Equal, Greater}
 use Rattle.std.specs.Ordering.{nat_cmp, match_ordering}
 use Rattle.std.specs.Cmp.{nat_cmp_is}
@@ -44,13 +44,15 @@ in_insert (y ∷ ks) k x = by (order k y) (in_insert ks k x)
     by (Order.less l o) more = subst (λ r. In (match_ordering r (k ∷ y ∷ ks) (y ∷ ks) (y ∷ insert_key nat_cmp ks k)) x
         ↔ (In (y ∷ ks) x ⊎ (k ≡ x))) (sym o) (
           λ h. ⊎_elim (λ s. inr s) (λ s. inl s) h,
-          λ h. ⊎_elim (λ s. inr s) (λ s. inl s) h)
+          λ h. ⊎_elim (λ s. inr s) (λ s. inl s) h,
+        )
     by (Order.same l o) more = subst (λ r. In (match_ordering r (k ∷ y ∷ ks) (y ∷ ks) (y ∷ insert_key nat_cmp ks k)) x
         ↔ (In (y ∷ ks) x ⊎ (k ≡ x))) (sym o) (λ h. inl h, λ h. ⊎_elim (λ s. s) (λ s. inl (sym l ∙ s)) h)
     by (Order.greater l o) more = subst (λ r. In (match_ordering r (k ∷ y ∷ ks) (y ∷ ks) (y ∷ insert_key nat_cmp ks k)) x
         ↔ (In (y ∷ ks) x ⊎ (k ≡ x))) (sym o) (
           λ h. ⊎_elim (λ s. inl (inl s)) (λ s. ⊎_elim (λ t. inl (inr t)) (λ t. inr t) (more.0 s)) h,
-          λ h. ⊎_elim (λ s. ⊎_elim (λ t. inl t) (λ t. inr (more.1 (inl t))) s) (λ s. inr (more.1 (inr s))) h)
+          λ h. ⊎_elim (λ s. ⊎_elim (λ t. inl t) (λ t. inr (more.1 (inl t))) s) (λ s. inr (more.1 (inr s))) h,
+        )
 
 -- a number below all keys is below each
 pub above_first : (k : ℕ) (ks : List ℕ) → All (λ y. nat_cmp k y ≡ Less) ks → (x : ℕ) → In ks x → k < x

@@ -1,5 +1,6 @@
 -- Parts that are placed: where they are ready, or noted at unknowns that block them.
-use Rattle.std.proofs.Common.{◌≡◌, ◌∙◌, ◌⊎◌, inl, inr, ⊎_elim, ℕ, ◌+◌, ◌<◌, ◌≤◌, ◌==◌, not, Bool, true, false, true≢false, List, [], ◌∷◌, ◌++◌}
+use Rattle.std.proofs.Common.{◌≡◌, ◌∙◌, ◌⊎◌, inl, inr, ⊎_elim, ℕ, ◌+◌, ◌<◌, ◌≤◌, ◌==◌, not, Bool, true, false, true≢false, List, []}
+use Rattle.std.proofs.Common.{◌∷◌, ◌++◌}
 use Rattle.std.proofs.Common.{length, get_or, set, take, drop, refl, sym, ap, subst, arith, length-set}
 use Rattle.std.specs.Prelude.{replicate}
 use Rattle.std.specs.Ordering.{nat_cmp}
@@ -12,7 +13,7 @@ use Rattle.base_facts.proofs.Lists.{get_or_replicate_default}
 use Rattle.base_facts.specs.Elements.{In}
 use Rattle.base_facts.proofs.elements.Membership.{in_left, in_right, of_append}
 use Rattle.solve_joint.specs.declared.node.Node.{Node}
-use Rattle.solve_joint.specs.Waits.{is_outside, Blocks, IsHead, AreWaiting, AreKept, IsPlaced, AllPlaced, AllPlacedBut}
+use Rattle.solve_joint.specs.Waits.{Blocks, IsHead, AreWaiting, AreKept, IsPlaced, AllPlacedBut}
 use Rattle.solve_joint.proofs.closure.Leading.{and_first}
 use Rattle.solve_joint.proofs.waiting.Keys.{in_insert}
 
@@ -150,7 +151,8 @@ module _ (nodes : List Node) (classes : List ℕ) (gone : List Bool) where
     }
 
     -- once those that were noted there are placed anew
-    pub placed_again : (heads rest : List ℕ) (ready' : List ℕ) (noted' : List (List ℕ)) → heads ≡ get_or noted i [] → get_or gone i false ≡ true
+    pub placed_again : (heads rest : List ℕ) (ready' : List ℕ) (noted' : List (List ℕ)) → heads ≡ get_or noted i []
+        → get_or gone i false ≡ true
         → AllPlacedBut nodes classes gone ready noted (i ∷ rest) → AreKept ready new ready' noted'
         → ((k : ℕ) → In heads k → get_or gone k false ≡ false → IsPlaced nodes classes gone ready' noted' k)
         → AllPlacedBut nodes classes gone ready' noted' rest
@@ -158,14 +160,21 @@ module _ (nodes : List Node) (classes : List ℕ) (gone : List Bool) where
         ⊎_elim
         (λ p. inl (⊎_elim
         (λ m. inl (kept.still_ready k m))
-        (λ b. inr (b.0, b.1, kept.still_noted b.0 k (subst (λ g. In g k)
-        (sym (elsewhere b.0 (λ s. true≢false (sym out ∙ ap (λ j. get_or gone j false) (sym s)
-        ∙ blocker_left nodes classes gone k b.0 b.1)))) b.2)))
+        (λ b. inr (
+          b.0,
+          b.1,
+          kept.still_noted b.0 k (subst (λ g. In g k)
+              (sym (elsewhere b.0 (λ s. true≢false (sym out ∙ ap (λ j. get_or gone j false) (sym s)
+              ∙ blocker_left nodes classes gone k b.0 b.1)))) b.2),
+        ))
         p))
         (λ q. ⊎_elim
         (λ t. inl (again k (subst (λ g. In g k) (ap (λ j. get_or noted j []) t.1 ∙ sym h) q.2) left))
-        (λ t. inr (q.0, ⊎_elim (λ s. absurd (t.1 (sym s))) (λ m. m) q.1,
-        kept.still_noted q.0 k (subst (λ g. In g k) (sym (elsewhere q.0 t.1)) q.2)))
+        (λ t. inr (
+          q.0,
+          ⊎_elim (λ s. absurd (t.1 (sym s))) (λ m. m) q.1,
+          kept.still_noted q.0 k (subst (λ g. In g k) (sym (elsewhere q.0 t.1)) q.2),
+        ))
         (eqb_tells q.0 i))
         (but k is left)
 

@@ -1,4 +1,4 @@
-use Rattle.std.proofs.Common.{◌≡◌, ◌∙◌, ◌+◌, ◌<◌, ◌≤◌, length, get_or, sym, ap, subst, arith}
+use Rattle.std.proofs.Common.{◌+◌, get_or, sym, ap, subst, arith}
 use Rattle.solve_joint.specs.declared.node.Node.{Node}
 use Rattle.solve_joint.specs.Classes.{IsFirstPlace}
 use Rattle.solve_joint.proofs.classes.Homes.{home_of}
@@ -52,7 +52,8 @@ loop-place-preserved c =
           subst (λ xs. ClassesTo points homes nodes xs c.push.new.self.items (place + 1)) (ap (λ v. v.items) (sym w.firsts-is))
           (class_inner points homes nodes firsts classes place c.loop-place.invariant c.push.new.self.items c.if-home-homes.class
           c.in_ok-push.ensures.items w.first_place-class.new.firsts.items w.if-home-homes.true
-          (subst (λ class. IsFirstPlace firsts (home_of homes nodes place) place w.first_place-class.new.firsts.items class) (sym w.class-is)
+          (subst (λ class. IsFirstPlace firsts (home_of homes nodes place) place w.first_place-class.new.firsts.items class)
+          (sym w.class-is)
           w.first_place-class.ensures))
       | else-home-homes w ↦
           subst (λ xs. ClassesTo points homes nodes xs c.push.new.self.items (place + 1)) (ap (λ v. v.items) (sym w.firsts-is))

@@ -13,5 +13,6 @@ reached-requires-clause-within c =
 pub loop-point-preserved : goal.loop-point-preserved
 loop-point-preserved c = rows_more c.args.points c.args.nodes.now c.in_ok-steps.steps.items c.requires c.in_ok-steps.ensures
     c.loop-point.point c.loop-point.rows.items _ _ c.loop-point.invariant
-    (subst (λ (lists : List (List ℕ)). IsReached c.args.points lists c.loop-point.point c.in_ok-reached.field-0) c.as_slice.ensures.value c.in_ok-reached.ensures)
+    (subst (λ (lists : List
+    (List ℕ)). IsReached c.args.points lists c.loop-point.point c.in_ok-reached.field-0) c.as_slice.ensures.value c.in_ok-reached.ensures)
     c.in_ok-push.ensures.items

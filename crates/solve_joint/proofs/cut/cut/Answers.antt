@@ -1,15 +1,13 @@
-use Rattle.std.proofs.Common.{◌≡◌, ◌∙◌, ◌+◌, ◌-◌, ◌<◌, ◌≤◌, ◌∷◌, [], ◌++◌, inl, ⊎_elim, ℕ, List, Bool, false, length, map, get_or, Some, None}
+use Rattle.std.proofs.Common.{◌≡◌, ◌∙◌, ◌-◌, ◌<◌, ◌++◌, inl, ⊎_elim, ℕ, List, Bool, false, length, get_or}
 use Rattle.std.proofs.Common.{true≢false, refl, ap, sym, subst, arith}
-use Rattle.std.specs.Prelude.{find}
 use Rattle.std.proofs.lemmas.Bool.{cases_lt}
 use Rattle.std.proofs.lemmas.List.{length-replicate}
 use Rattle.base_facts.proofs.Lists.{empty_from_length, get_or_replicate_default}
 use Rattle.base_facts.specs.Elements.{In}
-use Rattle.solve_joint.specs.declared.node.Node.{Node}
 use Rattle.solve_joint.specs.Tables.{closed}
-use Rattle.solve_joint.specs.Cuts.{cut_from, may_come}
+use Rattle.solve_joint.specs.Cuts.{cut_from}
 use Rattle.solve_joint.specs.Classes.{node_at}
-use Rattle.solve_joint.specs.Waits.{left_of, IsHead}
+use Rattle.solve_joint.specs.Waits.{left_of}
 use Rattle.solve_joint.proofs.cut.Cutting.{cut_more, cut_stops, cut_all}
 use Rattle.solve_joint.proofs.cut.Turning.{all_left, part_is, left_is, still_whole, still_waiting, placed_but, popped_is, none_ready}
 use Rattle.solve_joint.proofs.cut.cut.Goals as goal
@@ -19,7 +17,8 @@ loop-turn-init c =
     let nodes = c.args.cutting.now.nodes.now in
     let rows = closed c.args.cutting.now.points nodes in
     let gone = c.in_ok-gone.gone in
-    let none = λ (i : ℕ). ap (λ (xs : List Bool). get_or xs i false) c.in_ok-gone.ensures ∙ get_or_replicate_default (length nodes) i false in
+    let none = λ (i : ℕ). ap (λ (xs : List Bool). get_or xs i false) c.in_ok-gone.ensures ∙ get_or_replicate_default
+    (length nodes) i false in
     record {
       size = ap (λ xs. length xs) c.in_ok-gone.ensures ∙ length-replicate (length nodes) false;
       whole = λ i l. none (get_or c.args.cutting.now.classes.items i 0) ∙ sym (none i);
@@ -106,7 +105,8 @@ returns-in-None c =
     let none = none_ready rows nodes cutting.classes.items c.requires.classes c.loop-turn.gone c.loop-turn.waiting.ready.keys
     c.loop-turn.waiting.noted.items before.whole
     (empty_from_length c.loop-turn.waiting.ready.keys
-    (⊎_elim (λ l. absurd (true≢false (sym (c.in-None.ensures.variant.1 l)))) (λ l. omega (arith, l)) (cases_lt 0 (length c.loop-turn.waiting.ready.keys))))
+    (⊎_elim (λ l. absurd (true≢false (sym (c.in-None.ensures.variant.1 l)))) (λ l. omega (arith, l)) (cases_lt 0
+    (length c.loop-turn.waiting.ready.keys))))
     before.placed in
     cut_stops rows (length nodes) (cut_from rows (length nodes) nodes) c.loop-turn.lists.items c.loop-turn._turn
     (left_of nodes c.loop-turn.gone) before.parts

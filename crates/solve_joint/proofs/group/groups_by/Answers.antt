@@ -1,4 +1,4 @@
-use Rattle.std.proofs.Common.{◌≡◌, ◌∙◌, ◌<◌, ◌∷◌, [], ◌++◌, length, get_or, refl, ap, arith}
+use Rattle.std.proofs.Common.{get_or, refl, ap, arith}
 use Rattle.std.specs.Prelude.{slice_set}
 use Rattle.solve_joint.proofs.group.Members.{in_at}
 use Rattle.solve_joint.proofs.group.Grouping.{grouped_none, grouped_more, grouped_all}
@@ -18,7 +18,8 @@ pub loop-place-preserved : goal.loop-place-preserved
 loop-place-preserved c =
     let keys = c.args.keys.now in
     let place = c.loop-place.place in
-    grouped_more c.args.count keys c.loop-place.groups.items _ place (get_or keys place 0) c.index_mut.result.now c.loop-place.invariant refl
+    grouped_more c.args.count keys c.loop-place.groups.items _ place
+    (get_or keys place 0) c.index_mut.result.now c.loop-place.invariant refl
     (c.requires.within (get_or keys place 0) (in_at keys place 0 c.loop-place-test.true)) c.index_mut.ensures.value
     (ap (λ g. slice_set c.loop-place.groups.items (get_or keys place 0) g) c.in_ok-add.ensures)
 

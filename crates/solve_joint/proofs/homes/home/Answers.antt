@@ -1,4 +1,4 @@
-use Rattle.std.proofs.Common.{◌∙◌, ◌<◌, sym, arith, below_more}
+use Rattle.std.proofs.Common.{◌∙◌, sym, arith, below_more}
 use Rattle.solve_joint.proofs.homes.home.Goals as goal
 
 pub loop-other-preserved : goal.loop-other-preserved

@@ -1,4 +1,4 @@
-use Rattle.std.proofs.Common.{◌≡◌, ◌∙◌, ℕ, ◌+◌, ◌<◌, ◌∷◌, [], ◌++◌, length, get_or, sym, ap, subst, arith, below_more}
+use Rattle.std.proofs.Common.{◌≡◌, ◌∙◌, ◌+◌, ◌∷◌, [], length, get_or, sym, ap, subst, arith, below_more}
 use Rattle.std.proofs.lemmas.List.{length-append, get_or_append_left, get_or_push}
 use Rattle.solve_joint.specs.Classes.{IsHome}
 use Rattle.solve_joint.proofs.homes.homes.Goals as goal
@@ -20,7 +20,8 @@ loop-point-preserved c =
 
 pub returns : goal.returns
 returns c =
-    let all : c.loop-point.point ≡ c.args.points = (let t = c.loop-point-test.false in let k = c.loop-point.auto.point-end in omega arith) in
+    let all : c.loop-point.point ≡ c.args.points =
+    (let t = c.loop-point-test.false in let k = c.loop-point.auto.point-end in omega arith) in
     record {
       size = c.loop-point.invariant.size ∙ all;
       each = λ p l. c.loop-point.invariant.each p (omega (arith, l, all));

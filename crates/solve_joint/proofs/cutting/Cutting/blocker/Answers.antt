@@ -1,4 +1,4 @@
-use Rattle.std.proofs.Common.{◌≡◌, ◌<◌, length, get_or, arith}
+use Rattle.std.proofs.Common.{get_or}
 use Rattle.solve_joint.specs.Classes.{node_at}
 use Rattle.solve_joint.proofs.group.Members.{in_at}
 use Rattle.solve_joint.proofs.cutting.Blocking.{member_at, found_blocker, no_blocker}

@@ -1,4 +1,4 @@
-use Rattle.std.proofs.Common.{◌≡◌, ◌∙◌, ℕ, ◌-◌, ◌<◌, length, get_or, sym, ap, subst, arith, below_more}
+use Rattle.std.proofs.Common.{◌≡◌, ◌∙◌, ◌-◌, length, get_or, sym, ap, subst, arith, below_more}
 use Rattle.base_facts.specs.Elements.{In}
 use Rattle.solve_joint.specs.Waits.{is_outside}
 use Rattle.solve_joint.proofs.group.Members.{in_at, place_in}

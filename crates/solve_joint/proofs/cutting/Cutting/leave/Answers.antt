@@ -1,4 +1,4 @@
-use Rattle.std.proofs.Common.{◌<◌, length, get_or, sym, subst, arith}
+use Rattle.std.proofs.Common.{sym, subst, arith}
 use Rattle.std.proofs.lemmas.List.{take_all}
 use Rattle.base_facts.specs.Elements.{In}
 use Rattle.solve_joint.proofs.cutting.Blocking.{member_at, set_none, set_more}

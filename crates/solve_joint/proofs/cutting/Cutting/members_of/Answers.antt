@@ -1,5 +1,4 @@
-use Rattle.std.proofs.Common.{◌≡◌, ◌∙◌, ◌<◌, length, map, ap, arith}
-use Rattle.std.specs.List.{range_with_len}
+use Rattle.std.proofs.Common.{◌∙◌, length, ap, arith}
 use Rattle.std.proofs.lemmas.List.FromFn.{length-map-range_with_len}
 use Rattle.solve_joint.specs.Classes.{places_of}
 use Rattle.solve_joint.proofs.group.Grouping.{group_at}
@@ -17,4 +16,5 @@ pub returns : goal.returns
 returns c =
     let cutting = c.args.self.now in
     c.as_slice.ensures ∙ c.index.ensures
-    ∙ group_at (length cutting.nodes.now) cutting.classes.items cutting.members.items c.args.head c.index.result.now cutting.grouped c.requires
+    ∙ group_at (length cutting.nodes.now) cutting.classes.items cutting.members.items c.args.head c.index.result.now cutting.grouped
+    c.requires

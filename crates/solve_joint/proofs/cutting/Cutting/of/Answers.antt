@@ -1,4 +1,4 @@
-use Rattle.std.proofs.Common.{◌≡◌, ◌∙◌, ◌<◌, ◌≤◌, length, map, subst, arith}
+use Rattle.std.proofs.Common.{◌∙◌, ◌<◌, subst, arith}
 use Rattle.base_facts.specs.Elements.{In}
 use Rattle.base_facts.proofs.elements.Membership.{of_map}
 use Rattle.solve_joint.specs.declared.node.Node.{Node}

@@ -1,6 +1,3 @@
-use Rattle.std.proofs.Common.{◌≡◌, ◌∙◌, ◌<◌, ◌∷◌, [], ◌++◌, length, map, get_or, sym, ap, arith}
-use Rattle.std.proofs.lemmas.List.{map-append, take_more, take_all}
-use Rattle.solve_joint.specs.Classes.{node_at}
 use Rattle.solve_joint.proofs.cutting.Blocking.{member_at}
 use Rattle.solve_joint.proofs.cutting.Cutting.part.Goals as goal
 

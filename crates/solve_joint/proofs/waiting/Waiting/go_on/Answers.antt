@@ -1,8 +1,8 @@
-use Rattle.std.proofs.Common.{◌≡◌, ◌∙◌, ◌+◌, ◌<◌, ◌≤◌, ⊎_elim, ◌∷◌, [], ℕ, List, length, get_or, drop, refl, sym, ap, subst, arith}
+use Rattle.std.proofs.Common.{◌∙◌, ◌+◌, ⊎_elim, [], get_or, drop, sym, ap, subst, arith}
 use Rattle.std.specs.Prelude.{slice_set}
 use Rattle.std.proofs.lemmas.List.{get_or_default}
 use Rattle.base_facts.specs.Elements.{In}
-use Rattle.solve_joint.specs.Waits.{IsHead, AreWaiting, AreKept, IsPlaced, AllPlacedBut}
+use Rattle.solve_joint.specs.Waits.{AllPlacedBut}
 use Rattle.solve_joint.proofs.group.Members.{in_at}
 use Rattle.solve_joint.proofs.cutting.Blocking.{member_at}
 use Rattle.solve_joint.proofs.waiting.Placing.{taken_waiting, placed_again, rest_more, rest_none}

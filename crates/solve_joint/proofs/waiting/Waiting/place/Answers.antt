@@ -1,4 +1,4 @@
-use Rattle.std.proofs.Common.{◌≡◌, ◌∙◌, ap}
+use Rattle.std.proofs.Common.{ap}
 use Rattle.std.specs.Prelude.{slice_set}
 use Rattle.solve_joint.proofs.waiting.Placing.{noted_waiting, noted_kept, noted_placed, ready_waiting, ready_kept, ready_placed}
 use Rattle.solve_joint.proofs.waiting.Waiting.place.Goals as goal

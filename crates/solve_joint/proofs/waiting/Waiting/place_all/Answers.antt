@@ -1,4 +1,4 @@
-use Rattle.std.proofs.Common.{◌≡◌, ◌∙◌, ◌+◌, ℕ, true, false, not, length, get_or, take, sym, ap, subst, true≢false}
+use Rattle.std.proofs.Common.{◌≡◌, ◌∙◌, ◌+◌, ℕ, false, get_or, take, sym, subst, true≢false}
 use Rattle.std.proofs.lemmas.List.{take_all}
 use Rattle.base_facts.specs.Elements.{In}
 use Rattle.solve_joint.specs.Waits.{AreWaiting, AreKept, IsPlaced}

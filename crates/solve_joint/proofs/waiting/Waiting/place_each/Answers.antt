@@ -1,4 +1,4 @@
-use Rattle.std.proofs.Common.{◌≡◌, ◌∙◌, ◌+◌, ◌<◌, ◌≤◌, ⊎_elim, ℕ, length, sym, ap, subst, arith, below_more}
+use Rattle.std.proofs.Common.{◌∙◌, ◌+◌, ◌<◌, ℕ, sym, subst, arith, below_more}
 use Rattle.solve_joint.specs.Waits.{IsHead, AreWaiting, IsPlaced}
 use Rattle.solve_joint.proofs.waiting.Placing.{still_placed}
 use Rattle.solve_joint.proofs.waiting.Waiting.place_each.Goals as goal
