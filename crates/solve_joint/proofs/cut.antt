@@ -1,3 +1,5 @@
 pub mod Cutting
+pub mod Choosing
+pub mod Turning
 pub mod SameParts
 pub mod PartFacts

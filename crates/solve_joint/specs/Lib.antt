@@ -2,6 +2,8 @@ pub mod Numbers
 pub mod Tables
 pub mod Searches
 pub mod Cuts
+pub mod Classes
+pub mod Waits
 pub mod PartLists
 pub mod Rows
 pub mod Blocks

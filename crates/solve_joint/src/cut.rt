@@ -1,8 +1,6 @@
 //! The cut of a list of picked unknowns into parts.
 
-ghost use Rattle.std.specs.Prelude.{◌≡◌, ◌*◌, ◌<◌, ℕ, IfOk, length, map, find};
-ghost use Rattle.std.specs.List.{list_all, filter};
-ghost use Rattle.solve_joint.specs.declared.node.Node.{Node};
+ghost use Rattle.std.specs.Prelude.{◌≡◌, ◌*◌, ◌^◌, ◌<◌, IfOk, length};
 ghost use Rattle.solve_joint.specs.Numbers.{ArePicked, Rises};
 ghost use Rattle.solve_joint.specs.PartLists.{
   EachRises,
@@ -13,80 +11,36 @@ ghost use Rattle.solve_joint.specs.PartLists.{
   listed_parts,
   part_numbers,
 };
-ghost use Rattle.solve_joint.specs.Cuts.{are_one_part, keeps_within, may_come, are_apart, cut_from};
+ghost use Rattle.solve_joint.specs.Tables.{closed};
+ghost use Rattle.solve_joint.specs.Cuts.{cut_from};
+ghost use Rattle.solve_joint.specs.Classes.{AreClasses};
 
-use crate::closure::reaching;
-use crate::node::{Node, nodes};
+use crate::cutting::Cutting;
+use crate::node::nodes;
 use crate::part_lists::{Members, Parts};
-use crate::table::{Row, gets_to};
+use crate::table::Row;
+use crate::waiting::Waiting;
 use flow_systems::{Pick, System};
 use std::alloc::{AllocError, Global};
 
-// Whether two unknowns are in one part.
-fn are_together(rows: &[Row], a: &Node, b: &Node) -> bool
-    ensures { result ≡ are_one_part rows.now a.now b.now }
-{
-    gets_to(rows, a, b) && gets_to(rows, b, a)
-}
-
-// Whether an unknown leans, among those left, only on those of a part.
-fn stays_within(rows: &[Row], left: &[Node], part: &Node, member: &Node) -> bool
-    ensures { result ≡ list_all (keeps_within rows.now part.now member.now) left.now }
-{
-    left.iter().all(|other| member.source != other.point || are_together(rows, part, other))
-}
-
-// Whether the part of an unknown may come next.
-fn may_be_next(rows: &[Row], left: &[Node], part: &Node) -> bool
-    ensures { result ≡ may_come rows.now left.now part.now }
-{
-    left.iter().all(|member| {
-        !are_together(rows, part, member) || stays_within(rows, left, part, member)
-    })
-}
-
-// The first unknown whose part may come next.
-fn next(rows: &[Row], left: &[Node]) -> Option<Node>
-    ensures { result ≡ find (may_come rows.now left.now) left.now }
-{
-    left.iter()
-        .copied()
-        .find(|part| may_be_next(rows, left, part))
-}
-
-// The unknowns of a part, by their numbers.
-fn members(alloc: Global, rows: &[Row], left: &[Node], part: &Node) -> Result<Vec<u32>, AllocError>
-    ensures { IfOk result (λ v. v.items ≡ map (λ (a : Node). a.unknown) (filter (are_one_part rows.now part.now) left.now)) }
-{
-    left.iter()
-        .filter(|a| are_together(rows, part, a))
-        .map(|a| a.unknown)
-        .collect(alloc)
-}
-
-// The unknowns that are in other parts.
-fn others(alloc: Global, rows: &[Row], left: &[Node], part: &Node) -> Result<Vec<Node>, AllocError>
-    ensures { IfOk result (λ v. v.items ≡ filter (are_apart rows.now part.now) left.now) }
-{
-    left.iter()
-        .copied()
-        .filter(|a| !are_together(rows, part, a))
-        .collect(alloc)
-}
-
 // The parts of unknowns, in order.
-fn cut(alloc: Global, rows: &[Row], nodes: Vec<Node>) -> Result<Vec<Members>, AllocError>
-    ensures { IfOk result (λ v. v.items ≡ cut_from rows.now (length nodes.items) nodes.items) }
+fn cut(alloc: Global, cutting: &Cutting) -> Result<Vec<Members>, AllocError>
+    requires few { length cutting.now.nodes.now < 2 ^ 32 }
+    requires classes { AreClasses (closed cutting.now.points cutting.now.nodes.now) cutting.now.nodes.now cutting.now.classes.items }
+    ensures { IfOk result (λ v. v.items ≡ cut_from (closed cutting.now.points cutting.now.nodes.now) (length cutting.now.nodes.now)
+        cutting.now.nodes.now) }
 {
-    let turns = nodes.len();
-    let mut left = nodes;
+    let turns = cutting.nodes.len();
+    let mut gone = Row::none(alloc, turns)?;
+    let mut waiting = Waiting::begun(alloc, cutting, &gone)?;
     let mut lists = Vec::new(alloc);
     for _turn in 0..turns {
-        match next(rows, left.as_slice()) {
-            Some(part) => {
-                let list = members(alloc, rows, left.as_slice(), &part)?;
+        match waiting.ready.pop_first() {
+            Some(head) => {
+                let list = cutting.part(alloc, head)?;
                 lists.push(Members::new(list))?;
-                left = others(alloc, rows, left.as_slice(), &part)?;
+                cutting.leave(&mut gone, head);
+                waiting.go_on(alloc, cutting, &gone, head)?;
             }
             None => return Ok(lists),
         }
@@ -116,7 +70,7 @@ pub fn parts(alloc: Global, system: &System, pick: &Pick, list: &[u32]) -> Resul
 {
     let nodes = nodes(alloc, system, pick, list)?;
     let points = system.flow.points.as_slice().len() as u32;
-    let rows = reaching(alloc, points, nodes.as_slice())?;
-    let lists = cut(alloc, rows.as_slice(), nodes)?;
+    let cutting = Cutting::of(alloc, points, nodes.as_slice())?;
+    let lists = cut(alloc, &cutting)?;
     Ok(Parts::new(lists))
 }

@@ -1,11 +1,13 @@
 //! Groups of numbers.
 
-ghost use Rattle.std.specs.Prelude.{◌≡◌, ◌==◌, ◌⊎◌, ◌↔◌, ◌∷◌, ◌++◌, [], ℕ, IfOk, OnOk, replicate};
+ghost use Rattle.std.specs.Prelude.{◌≡◌, ◌==◌, ◌⊎◌, ◌↔◌, ◌∷◌, ◌++◌, ◌<◌, ◌^◌, [], ℕ, IfOk, OnOk, length, replicate};
 ghost use Rattle.std.specs.List.{list_any};
 ghost use Rattle.base_facts.specs.Elements.{In};
+ghost use Rattle.solve_joint.specs.Classes.{groups_by};
 
 use std::alloc::{AllocError, Global};
 use std::marker::Model;
+use std::mem::replace;
 
 /// Numbers in order, to which more are added.
 #[derive(Drop)]
@@ -62,6 +64,14 @@ impl Group {
         self.add(number)?;
         Ok(())
     }
+
+    /// Hands out the numbers, which aren't there any more.
+    pub fn take(&mut self, alloc: Global) -> Group
+        ensures taken { result ≡ self.old }
+        ensures left { self.new ≡ [] }
+    {
+        replace(self, Group::none(alloc))
+    }
 }
 
 /// So many groups without a number.
@@ -71,6 +81,19 @@ pub fn empty_groups(alloc: Global, count: usize) -> Result<Vec<Group>, AllocErro
     let mut groups = Vec::with_capacity(alloc, count)?;
     for _group in 0..count {
         groups.push(Group::none(alloc))?;
+    }
+    Ok(groups)
+}
+
+/// For each of so many keys the places of a list at which it stands.
+pub fn groups_by(alloc: Global, count: usize, keys: &[u32]) -> Result<Vec<Group>, AllocError>
+    requires few { length keys.now < 2 ^ 32 }
+    requires within { (k : ℕ) → In keys.now k → k < count }
+    ensures { IfOk result (λ v. v.items ≡ groups_by count keys.now) }
+{
+    let mut groups = empty_groups(alloc, count)?;
+    for (place, key) in keys.iter().enumerate() {
+        groups[*key as usize].add(place as u32)?;
     }
     Ok(groups)
 }

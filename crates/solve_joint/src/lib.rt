@@ -4,9 +4,12 @@
 mod based;
 mod block;
 mod cells;
+mod classes;
 mod closure;
 mod cut;
+mod cutting;
 mod group;
+mod homes;
 mod joined;
 mod joint_problem;
 mod joint_rows;
@@ -20,6 +23,7 @@ mod row;
 mod solve;
 mod span;
 mod table;
+mod waiting;
 
 pub use cells::joint_cells;
 pub use cut::parts;

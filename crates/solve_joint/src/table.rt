@@ -1,9 +1,8 @@
 //! Tables of tests between points.
 
 ghost use Rattle.std.specs.Prelude.{◌≡◌, ◌<◌, true, false, IfOk, length, get_or, replicate, slice_set};
-ghost use Rattle.solve_joint.specs.Tables.{cell, gets_to};
+ghost use Rattle.solve_joint.specs.Tables.{cell};
 
-use crate::node::Node;
 use std::alloc::{AllocError, Global};
 use std::marker::Model;
 
@@ -53,8 +52,8 @@ impl Row {
     }
 }
 
-// The test of two points; false where there are none.
-fn cell_of(rows: &[Row], i: u32, j: u32) -> bool
+/// The test of two points; false where there are none.
+pub fn cell_of(rows: &[Row], i: u32, j: u32) -> bool
     ensures { result ≡ cell rows.now i j }
 {
     if (i as usize) < rows.len() {
@@ -62,11 +61,4 @@ fn cell_of(rows: &[Row], i: u32, j: u32) -> bool
     } else {
         false
     }
-}
-
-/// Whether an unknown is another one, or its source reaches that one's point.
-pub fn gets_to(rows: &[Row], a: &Node, b: &Node) -> bool
-    ensures { result ≡ gets_to rows.now a.now b.now }
-{
-    a.unknown == b.unknown || cell_of(rows, a.source, b.point)
 }

@@ -36,6 +36,14 @@ in_at [] k d l = absurd (omega (arith, l))
 in_at (x ∷ xs) zero d l = inl refl
 in_at (x ∷ xs) (suc k) d l = inr (in_at xs k d (omega (arith, l)))
 
+-- and each place is found
+pub place_in : {A : Type 0} (xs : List A) (x d : A) → In xs x → (k : ℕ) × (k < length xs) × (get_or xs k d ≡ x)
+place_in [] x d m = absurd m
+place_in (y ∷ xs) x d m = ⊎_elim
+    (λ e. (0, omega arith, e))
+    (λ n. let r = place_in xs x d n in (suc r.0, (let l = r.1 in omega (arith, l)), r.2))
+    m
+
 -- a true test stands within the list
 pub true_within : (xs : List Bool) (k : ℕ) → get_or xs k false ≡ true → k < length xs
 true_within [] k e = absurd (true≢false (sym e))

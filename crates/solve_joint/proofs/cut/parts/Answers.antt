@@ -1,17 +1,19 @@
-use Rattle.std.proofs.Common.{◌≡◌, ◌∙◌, arith, ap, ap₂, length, sym, subst}
+use Rattle.std.proofs.Common.{◌≡◌, ◌∙◌, List, arith, ap, ap₂, length, map, sym, subst}
 use Rattle.base_facts.specs.Elements.{In}
+use Rattle.solve_joint.specs.declared.node.Node.{Node}
+use Rattle.solve_joint.specs.Numbers.{Rises}
 use Rattle.solve_joint.specs.Tables.{closed}
 use Rattle.solve_joint.specs.Cuts.{cut_from}
 use Rattle.solve_joint.specs.PartLists.{part_numbers, each_listed, EachRises, NumberClasses, NumbersAdmissible, NumbersInOrder}
 use Rattle.solve_joint.proofs.joint_rows.Picking.{few_listed}
 use Rattle.solve_joint.proofs.cut.Cutting.{length-cut}
-use Rattle.solve_joint.proofs.numbers.NodeFacts.{length-nodes, node_in}
+use Rattle.solve_joint.proofs.numbers.NodeFacts.{length-nodes, node_in, unknowns_all}
 use Rattle.solve_joint.proofs.cut.SameParts.{parts_shown}
 use Rattle.solve_joint.proofs.cut.PartFacts.{parts_rise, parts_listed, number_classes, numbers_admissible, numbers_in_order}
 use Rattle.solve_joint.proofs.cut.parts.Goals as goal
 
-pub reaching-requires : goal.reaching-requires
-reaching-requires c = λ a m.
+pub of-requires-clause-within : goal.of-requires-clause-within
+of-requires-clause-within c = λ a m.
     let system = c.args.system.now in
     let points = ap length c.as_slice.ensures in
     let node = node_in system c.args.pick.now c.args.list.now c.requires.picked a
@@ -20,16 +22,36 @@ reaching-requires c = λ a m.
     let s = node.source_within in
     (omega (arith, points, p), omega (arith, points, s))
 
+pub of-requires-clause-rises : goal.of-requires-clause-rises
+of-requires-clause-rises c =
+    subst (λ (xs : List Node). Rises 0 (map (λ (a : Node). a.unknown) xs)) (sym (c.as_slice-2.ensures.value ∙ c.in_ok-nodes.ensures))
+    (subst (Rises 0) (sym (unknowns_all c.args.system.now c.args.pick.now c.args.list.now)) c.requires.rises)
+
+pub of-requires-clause-few : goal.of-requires-clause-few
+of-requires-clause-few c =
+    let few = few_listed c.args.system.now c.args.pick.now c.args.list.now c.requires.rises c.requires.picked in
+    let size = ap length (c.as_slice-2.ensures.value ∙ c.in_ok-nodes.ensures) in
+    let same = length-nodes c.args.system.now c.args.pick.now c.args.list.now in
+    omega (arith, few, size, same)
+
+pub cut-requires-clause-few : goal.cut-requires-clause-few
+cut-requires-clause-few c =
+    let few = few_listed c.args.system.now c.args.pick.now c.args.list.now c.requires.rises c.requires.picked in
+    let size = ap length (c.in_ok-cutting.ensures.nodes ∙ c.as_slice-2.ensures.value ∙ c.in_ok-nodes.ensures) in
+    let same = length-nodes c.args.system.now c.args.pick.now c.args.list.now in
+    omega (arith, few, size, same)
+
 pub new-requires : goal.new-requires
 new-requires c =
     let system = c.args.system.now in
     let pick = c.args.pick.now in
     let list = c.args.list.now in
     let few = few_listed system pick list c.requires.rises c.requires.picked in
-    let nodes = c.in_ok-nodes.nodes.items in
-    let size = ap length c.in_ok-nodes.ensures in
+    let cutting = c.in_ok-cutting.cutting in
+    let nodes = cutting.nodes.now in
+    let size = ap length (c.in_ok-cutting.ensures.nodes ∙ c.as_slice-2.ensures.value ∙ c.in_ok-nodes.ensures) in
     let same = length-nodes system pick list in
-    let most = length-cut c.as_slice-3.result.now (length nodes) nodes in
+    let most = length-cut (closed cutting.points nodes) (length nodes) nodes in
     omega (arith, few, size, same, most, ap length c.in_ok-lists.ensures)
 
 pub returns : goal.returns
@@ -37,12 +59,11 @@ returns c =
     let system = c.args.system.now in
     let pick = c.args.pick.now in
     let list = c.args.list.now in
-    let nodes = c.in_ok-nodes.nodes.items in
-    let rows = c.as_slice-3.ensures.value ∙ c.in_ok-rows.ensures ∙ ap₂ closed (ap length c.as_slice.ensures)
-    c.as_slice-2.ensures.value in
+    let cutting = c.in_ok-cutting.cutting in
+    let points = c.in_ok-cutting.ensures.points ∙ ap length c.as_slice.ensures in
+    let nodes = c.in_ok-cutting.ensures.nodes ∙ c.as_slice-2.ensures.value ∙ c.in_ok-nodes.ensures in
     let e : c.new.result ≡ part_numbers system pick list =
-    c.new.ensures ∙ c.in_ok-lists.ensures ∙ ap (λ r. cut_from r (length nodes) nodes) rows
-    ∙ ap (λ xs. cut_from (closed (length system.flow.points) xs) (length xs) xs) c.in_ok-nodes.ensures
+    c.new.ensures ∙ c.in_ok-lists.ensures ∙ ap₂ (λ p (xs : List Node). cut_from (closed p xs) (length xs) xs) points nodes
     ∙ parts_shown system pick list c.requires.picked in
     record {
       parts = e;
