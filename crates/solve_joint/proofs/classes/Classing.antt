@@ -174,6 +174,7 @@ module _ (points : ℕ) (rows : List (List Bool)) (nodes : List Node) (are : row
       (inner_or_not k))
       (inner_or_not i)
 
+  -- the classes of all unknowns tell their parts apart
   pub classes_all : AreClasses rows nodes classes
   classes_all = record {
     size = to.size;

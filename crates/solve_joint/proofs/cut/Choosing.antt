@@ -69,12 +69,15 @@ neither : (b x : Bool) → b ≡ true → x ≡ false → not b || x ≡ false
 neither true x e h = h
 neither false x e h = absurd (true≢false (sym e))
 
+-- the test of two numbers that are one passes
 pub equal : (a b : ℕ) → a ≡ b → (a == b) ≡ true
 equal a b e = ⊎_elim (λ t. t.0) (λ t. absurd (t.1 e)) (eqb_tells a b)
 
+-- that of two others fails
 pub not_equal : (a b : ℕ) → (a ≡ b → ⊥) → (a == b) ≡ false
 not_equal a b e = ⊎_elim (λ t. absurd (e t.1)) (λ t. t.0) (eqb_tells a b)
 
+-- the negation of a test that fails passes
 pub true_not : (b : Bool) → b ≡ false → not b ≡ true
 true_not true e = absurd (true≢false e)
 true_not false e = refl
@@ -89,6 +92,7 @@ module _ (nodes : List Node) (gone : List Bool) where
       let l = of_range 0 (length nodes) r.0 s.0 in
       (r.0, omega (arith, l), not_true (get_or gone r.0 false) s.1, r.2)
 
+  -- an unknown whose place is not gone is left
   pub in_left_of : (i : ℕ) → i < length nodes → get_or gone i false ≡ false → In (left_of nodes gone) (node_at nodes i)
   in_left_of i l e = in_map (node_at nodes) (filter (λ j. not (get_or gone j false)) (range_with_len 0 (length nodes))) i
       (in_filter (λ j. not (get_or gone j false)) (range_with_len 0 (length nodes)) i

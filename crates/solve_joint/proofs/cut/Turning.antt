@@ -173,6 +173,7 @@ module _ (rows : List (List Bool)) (nodes : List Node) (classes : List ℕ) (are
               (λ t. sym (stays i t.1) ∙ e)
               (eqb_tells (class i) head)
 
+      -- the parts that are left still wait once one is taken out
       pub still_waiting : AreWaiting nodes classes gone' ready' noted
       still_waiting = record {
         size = waiting.size;

@@ -27,6 +27,7 @@ module _ (nodes : List Node) where
       let within : i < length nodes = omega (arith, l, size) in
       (within, sym (points_at i within) ∙ r.1)
 
+  -- an unknown is among those that stand at its point
   pub standing : (p i : ℕ) → i < length nodes → (node_at nodes i).point ≡ p → In (standing_at nodes p) i
   standing p i l e = in_places (map (λ (a : Node). a.point) nodes) p i
       (let size = length-map nodes (λ (a : Node). a.point) in omega (arith, l, size)) (points_at i l ∙ e)
@@ -36,6 +37,7 @@ module _ (nodes : List Node) where
     pub member_is : (head m : ℕ) → In (places_of classes head) m → (m < length nodes) × (get_or classes m 0 ≡ head)
     member_is head m i = let r = of_places classes head m i in (let l = r.0 in omega (arith, l, sized), r.1)
 
+    -- an unknown of a part is among its members
     pub is_member : (head m : ℕ) → m < length nodes → get_or classes m 0 ≡ head → In (places_of classes head) m
     is_member head m l e = in_places classes head m (omega (arith, l, sized)) e
 

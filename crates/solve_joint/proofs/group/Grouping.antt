@@ -21,6 +21,7 @@ in_filter f (y ∷ xs) x m e = by (f y) refl (λ k. in_filter f xs x k e) m
     by true k t h = ⊎_elim (λ s. inl s) (λ s. inr (t s)) h
     by false k t h = ⊎_elim (λ s. absurd (true≢false (sym e ∙ ap f (sym s) ∙ k))) (λ s. t s) h
 
+-- what a filter keeps is of the list and passes
 pub of_filter : {A : Type 0} (f : A → Bool) (xs : List A) (x : A) → In (filter f xs) x → In xs x × (f x ≡ true)
 of_filter f [] x m = absurd m
 of_filter f (y ∷ xs) x m = by (f y) refl (λ k. of_filter f xs x k) m
@@ -45,6 +46,7 @@ pub in_places : (keys : List ℕ) (k i : ℕ) → i < length keys → get_or key
 in_places keys k i l e = in_filter (λ j. get_or keys j 0 == k) (range_with_len 0 (length keys)) i
     (in_range 0 (length keys) i (omega arith) (omega (arith, l))) (⊎_elim (λ t. t.0) (λ t. absurd (t.1 e)) (eqb_tells (get_or keys i 0) k))
 
+-- a place of a key is one of the list, with the key there
 pub of_places : (keys : List ℕ) (k i : ℕ) → In (places_of keys k) i → (i < length keys) × (get_or keys i 0 ≡ k)
 of_places keys k i m =
     let r = of_filter (λ j. get_or keys j 0 == k) (range_with_len 0 (length keys)) i m in

@@ -17,6 +17,7 @@ use Rattle.solve_joint.specs.Waits.{Blocks, IsHead, AreWaiting, AreKept, IsPlace
 use Rattle.solve_joint.proofs.closure.Leading.{and_first}
 use Rattle.solve_joint.proofs.waiting.Keys.{in_insert}
 
+-- a test fails whose negation passes
 pub not_true : (b : Bool) → not b ≡ true → b ≡ false
 not_true true e = absurd (true≢false (sym e))
 not_true false e = refl
@@ -31,6 +32,7 @@ blocker_left nodes classes gone head i b = not_true (get_or gone i false)
 pub kept_all : (ready : List ℕ) (noted : List (List ℕ)) → AreKept ready noted ready noted
 kept_all ready noted = record { still_ready = λ k m. m; still_noted = λ i k m. m }
 
+-- nothing is lost by two changes of which each loses nothing
 pub kept_both : (r : List ℕ) (n : List (List ℕ)) (r' : List ℕ) (n' : List (List ℕ)) (r'' : List ℕ) (n'' : List (List ℕ))
     → AreKept r n r' n' → AreKept r' n' r'' n'' → AreKept r n r'' n''
 kept_both r n r' n' r'' n'' a b = record {
@@ -65,6 +67,7 @@ module _ (nodes : List Node) (classes : List ℕ) (gone : List Bool) where
           (λ t. inl (subst (λ g. In g k) (apart j t.1) m))
           (eqb_tells j i)
 
+      -- parts still wait where one more is noted
       pub noted_waiting : AreWaiting nodes classes gone ready new
       noted_waiting = record {
         size = ap (λ gs. length gs) e ∙ length-set noted i (group ++ head ∷ []) ∙ are.size;
@@ -74,6 +77,7 @@ module _ (nodes : List Node) (classes : List ℕ) (gone : List Bool) where
         noted_heads = λ j k m. ⊎_elim (λ n. are.noted_heads j k n) (λ s. subst (IsHead nodes classes) s is) (noted_from j k m);
       }
 
+      -- nothing is lost by that
       pub noted_kept : AreKept ready noted ready new
       noted_kept = record {
         still_ready = λ k m. m;
@@ -84,6 +88,7 @@ module _ (nodes : List Node) (classes : List ℕ) (gone : List Bool) where
             (eqb_tells j i);
       }
 
+      -- and the part is placed
       pub noted_placed : IsPlaced nodes classes gone ready new head
       noted_placed = inr (i, blocks, subst (λ g. In g head) (sym at_place) (in_right (get_or noted i []) (head ∷ []) head (inl refl)))
 
@@ -93,6 +98,7 @@ module _ (nodes : List Node) (classes : List ℕ) (gone : List Bool) where
       ready_from : (k : ℕ) → In new k → In ready k ⊎ (head ≡ k)
       ready_from k m = (in_insert ready head k).0 (subst (λ ks. In ks k) e m)
 
+      -- parts still wait where one more is ready
       pub ready_waiting : AreWaiting nodes classes gone new noted
       ready_waiting = record {
         size = are.size;
@@ -103,12 +109,14 @@ module _ (nodes : List Node) (classes : List ℕ) (gone : List Bool) where
         noted_heads = are.noted_heads;
       }
 
+      -- nothing is lost by that
       pub ready_kept : AreKept ready noted new noted
       ready_kept = record {
         still_ready = λ k m. subst (λ ks. In ks k) (sym e) ((in_insert ready head k).1 (inl m));
         still_noted = λ i k m. m;
       }
 
+      -- and the part is placed
       pub ready_placed : IsPlaced nodes classes gone new noted head
       ready_placed = inl (subst (λ ks. In ks head) (sym e) ((in_insert ready head head).1 (inr refl)))
 
@@ -138,6 +146,7 @@ module _ (nodes : List Node) (classes : List ℕ) (gone : List Bool) where
     elsewhere : (j : ℕ) → (j ≡ i → ⊥) → get_or new j [] ≡ get_or noted j []
     elsewhere j s = ap (λ gs. get_or gs j []) e ∙ get_or-set_other noted i j [] [] s
 
+    -- parts still wait where those that are noted at an unknown are taken away
     pub taken_waiting : AreWaiting nodes classes gone ready new
     taken_waiting = record {
       size = ap (λ gs. length gs) e ∙ length-set noted i [] ∙ are.size;
