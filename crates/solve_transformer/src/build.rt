@@ -1,6 +1,6 @@
 //! The problem of an edge and a row at a vector.
 
-ghost use Rattle.std.specs.Prelude.{◌+◌, ◌≡◌, ◌≤◌, ◌<◌, ℕ, ℤ, List, ◌++◌, IfOk, OnOk, IsTrue, MatchOption, length, map};
+ghost use Rattle.std.specs.Prelude.{◌+◌, ◌*◌, ◌≡◌, ◌≤◌, ◌<◌, ℕ, ℤ, List, ◌++◌, IfOk, OnOk, IsTrue, MatchOption, length, map};
 ghost use Rattle.base_numbers.specs.Extended.{neg_inf, ◌<ᴱ◌};
 ghost use Rattle.lang_tree.specs.Numbers.{are_numbers};
 ghost use Rattle.base_fractions.specs.Extended.{extended};

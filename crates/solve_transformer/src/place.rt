@@ -1,6 +1,6 @@
 //! The states at a place inside an edge that pass guards.
 
-ghost use Rattle.std.specs.Prelude.{◌≡◌, ◌≤◌, ◌<◌, ◌+◌, ◌++◌, List, [], None, IfOk, IfErr, OnOk, IsTrue, false, length, map};
+ghost use Rattle.std.specs.Prelude.{◌≡◌, ◌≤◌, ◌<◌, ◌+◌, ◌*◌, ◌++◌, List, [], None, IfOk, IfErr, OnOk, IsTrue, false, length, map};
 ghost use Rattle.std.specs.List.{list_all};
 ghost use Rattle.base_numbers.specs.Rational.{zero_ℚ};
 ghost use Rattle.base_numbers.specs.Vector.{dot};

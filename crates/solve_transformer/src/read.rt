@@ -1,6 +1,6 @@
 //! The outcome of a problem over split columns, read as a value.
 
-ghost use Rattle.std.specs.Prelude.{◌≡◌, ◌≤◌, ◌<◌, ◌+◌, ◌^◌, ℕ, suc, ℤ, List, IfOk, length, map, get_or};
+ghost use Rattle.std.specs.Prelude.{◌≡◌, ◌≤◌, ◌<◌, ◌+◌, ◌*◌, ◌^◌, ℕ, suc, ℤ, List, IfOk, length, map, get_or};
 ghost use Rattle.std.specs.List.{range_with_len};
 ghost use Rattle.base_numbers.specs.Rational.{ℚ, zero_ℚ, ◌-ℚ◌};
 ghost use Rattle.lp_theory.specs.Problem as lp;

@@ -1,6 +1,6 @@
 //! The transformer of an edge and a row at a vector.
 
-ghost use Rattle.std.specs.Prelude.{◌≡◌, ◌≤◌, ◌<◌, ◌+◌, ℤ, List, false, IfOk, IfErr, OnOk, None, length};
+ghost use Rattle.std.specs.Prelude.{◌≡◌, ◌≤◌, ◌<◌, ◌+◌, ◌*◌, ℤ, List, false, IfOk, IfErr, OnOk, None, length};
 ghost use Rattle.base_numbers.specs.Rational.{ℚ};
 ghost use Rattle.base_fractions.specs.Fits.{long_limit};
 ghost use Rattle.base_fractions.specs.Operation.{first_wide};
