@@ -1,5 +1,6 @@
-use Rattle.std.proofs.Common.{◌∙◌, ◌++◌, ◌∷◌, [], map, sym, ap, subst}
+use Rattle.std.proofs.Common.{◌∙◌, ◌++◌, ◌∷◌, ◌<◌, [], length, map, sym, ap, subst}
 use Rattle.std.proofs.lemmas.List.{append-nil}
+use Rattle.flow_edges.specs.declared.edge.Edge.{Edge}
 use Rattle.flow_systems.specs.View.{equations_of}
 use Rattle.cert_types.specs.Certificates.{evidence_of}
 use Rattle.theory_rounds.specs.Made.{exact_upper}
@@ -55,5 +56,8 @@ returns-in_err-upper-clause-stop c =
     let q = err_from_is_err_and c.from_residual.result c.from_residual.ensures.1 in
     rw (q.1, q.2)
     (stop_into c.args.at.now.system.now c.args.at.now.bounds.now c.args.row c.args.at.now.round c.requires.row c.args.point
-    c.requires.limited c.as_slice-edge-items.result.now c.loop-number.number c.edge-item.result c.as_slice-edge-items.ensures
-    c.loop-number-test.true c.edge-item.is c.if-edge-point.true c.in_err-upper.field-0.0 c.in_err-upper.ensures.stop)
+    c.requires.limited c.loop-number.number
+    (subst (λ es. c.loop-number.number < length es) c.as_slice-edge-items.ensures c.loop-number-test.true)
+    (ap (λ (e : Edge). e.to) (edge_here c.args.at.now.system.now c.as_slice-edge-items.result.now c.loop-number.number c.edge-item.result
+    c.as_slice-edge-items.ensures c.loop-number-test.true c.edge-item.is) ∙ c.if-edge-point.true)
+    c.in_err-upper.field-0.0 c.in_err-upper.ensures.stop)
