@@ -13,6 +13,11 @@ use Rattle.top_answer.proofs.commands.Transitions.{transited}
 use Rattle.top_answer.proofs.commands.Verified.{verified}
 use Rattle.top_answer.proofs.outcome.outcome_of.Goals as goal
 
+pub returns-in-Analyse-clause-says : goal.returns-in-Analyse-clause-says
+returns-in-Analyse-clause-says g c =
+    subst (λ r. Says (command_of exact (request_text r)) c.analysed.result.status c.analysed.result.bytes.items) (sym c.in-Analyse.is)
+    c.analysed.ensures.says
+
 pub returns-in-Analyse-clause-rows : goal.returns-in-Analyse-clause-rows
 returns-in-Analyse-clause-rows g c = λ count has. c.analysed.ensures.rows count
     (subst (λ r. (command_of exact (request_text r)).has_rows count) c.in-Analyse.is has)
