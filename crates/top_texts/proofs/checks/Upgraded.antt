@@ -1,5 +1,6 @@
 -- A certificate that is accepted for a program is accepted as it is upgraded, too.
-use Rattle.std.proofs.Common.{◌≡◌, ◌+◌, ◌≤◌, ◌<◌, ◌⊎◌, ◌∙◌, ◌==◌, ◌++◌, ⊎_elim, ℕ, Bool, true, false, List, [], ◌∷◌, length, map, refl, sym, ap}
+use Rattle.std.proofs.Common.{◌≡◌, ◌+◌, ◌≤◌, ◌<◌, ◌⊎◌, ◌∙◌, ◌==◌, ◌++◌, ⊎_elim, ℕ, Bool, true, false, List, [], ◌∷◌, length, map, refl}
+use Rattle.std.proofs.Common.{sym, ap}
 use Rattle.std.proofs.Common.{subst, arith, if◌then◌else◌}
 use Rattle.std.specs.Prelude.{ℤ, IsTrue}
 use Rattle.lang_tree.specs.Tree.{Statements}
