@@ -8,4 +8,4 @@ new-requires c =
     let names = ap (λ (ns : List (List ℕ)). length ns) c.as_slice.ensures in
     let test = c.if-as_slice-ne8.false in
     let eight : length c.in_ok-flow.flow.names ≡ 8 = omega (arith, names, test) in
-    subst₂ (λ n t. IsTrue (is_over n t)) (sym eight) (sym c.in_ok-template.ensures.rows) refl
+    subst₂ (λ n t. IsTrue (is_over n t)) (sym eight) (sym c.in-Ok.ensures.rows) refl
