@@ -1,8 +1,12 @@
-"""Writes programs of the language that are made at random: blocks, loops of each kind, jumps, labels and declarations anywhere.
+"""Writes programs of the language that are made at random: blocks, loops of each kind, jumps, labels and declarations anywhere; and
+functions of many variables.
 
     bench/programs.py FOLDER FIRST LAST
+    bench/programs.py FOLDER wide
 
-The program of each seed from FIRST to LAST goes to FOLDER/rSEED.c. A label stands before a statement, as C wants it.
+The program of each seed from FIRST to LAST goes to FOLDER/rSEED.c. A label stands before a statement, as C wants it. With `wide`, of 8, 16,
+32 and 64 variables a loop that counts all of them goes to FOLDER/countN.c, and one with a branch for each variable but the first, each
+behind a label, to FOLDER/branchN.c.
 """
 
 import os
@@ -121,9 +125,34 @@ class Writer:
         return text + ("    return 0;\n" if self.chance(0.3) else "") + "}\n"
 
 
+def counting(count):
+    """A loop in which each of so many variables is counted."""
+    names = ", ".join(f"v{i} = {i}" for i in range(count))
+    body = "".join(f"    v{i} += {i % 3};\n" for i in range(1, count))
+    return f"int main() {{\n  int {names};\n  while (v0 < 100) {{\n    v0++;\n{body}  }}\n  return 0;\n}}\n"
+
+
+def branching(count):
+    """A loop with a branch for each of so many variables but the first."""
+    names = ", ".join(f"v{i} = 0" for i in range(count))
+    body = "".join(f"    if (nondet()) v{i} += 1;\n    m{i}: ;\n" for i in range(1, count))
+    return f"int main() {{\n  int {names};\n  while (v0 < 100) {{\n    v0++;\n{body}  }}\n  return 0;\n}}\n"
+
+
+def write_wide(folder):
+    for count in (8, 16, 32, 64):
+        for kind, text in (("count", counting(count)), ("branch", branching(count))):
+            with open(f"{folder}/{kind}{count}.c", "w", encoding="utf-8") as file:
+                file.write(text)
+
+
 def main():
-    folder, first, last = sys.argv[1], int(sys.argv[2]), int(sys.argv[3])
+    folder = sys.argv[1]
     os.makedirs(folder, exist_ok=True)
+    if sys.argv[2:] == ["wide"]:
+        write_wide(folder)
+        return
+    first, last = int(sys.argv[2]), int(sys.argv[3])
     for seed in range(first, last + 1):
         with open(f"{folder}/r{seed:03}.c", "w", encoding="utf-8") as file:
             file.write(Writer(seed).program())
