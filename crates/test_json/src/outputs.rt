@@ -1,11 +1,11 @@
 //! Whole outputs.
 
 ghost use Rattle.std.specs.Prelude.{◌≤◌, length};
-ghost use Rattle.base_limits.specs.declared.limits.TheConstants.{MOST_PROGRAM_BYTES};
+ghost use Rattle.base_limits.specs.declared.limits.TheConstants.{MOST_TEXT_BYTES};
 
 use ask_words::{Domain, Format, Policy, Source};
 use base_integers::Integers;
-use base_limits::MOST_PROGRAM_BYTES;
+use base_limits::MOST_TEXT_BYTES;
 use base_watch::Unwatched;
 use std::alloc::Global;
 use top_texts::{
@@ -28,7 +28,7 @@ const LIMIT: u32 = 1000;
 
 // The report of the certificate that the rounds make.
 fn checked(alloc: Global, text: &[u8], format: Format) -> Result<Vec<u8>, Refusal>
-    requires { length text.now ≤ MOST_PROGRAM_BYTES }
+    requires { length text.now ≤ MOST_TEXT_BYTES }
 {
     let source = Source {
         text,
@@ -53,7 +53,7 @@ fn output(
     other: &[u8],
     format: Format,
 ) -> Result<Vec<u8>, Refusal> {
-    if text.len() > MOST_PROGRAM_BYTES || other.len() > MOST_PROGRAM_BYTES {
+    if text.len() > MOST_TEXT_BYTES || other.len() > MOST_TEXT_BYTES {
         return Ok(Vec::new(alloc));
     }
     let source = Source {

@@ -22,7 +22,7 @@ returns-then-in_pairs c =
     IfOk-weaker c.zones.result _ _ (λ rows e. subst (λ t. IsTrue (is_over c.args.count t)) (sym e)
     (zones_are_over c.args.count c.requires.some c.requires.few)) c.zones.ensures.rows
 
-pub returns-else-in_pairs : goal.returns-else-in_pairs
-returns-else-in_pairs c =
-    IfOk-weaker c.intervals.result _ _ (λ rows e. subst (λ t. IsTrue (is_over c.args.count t)) (sym e)
-    (intervals_are_over c.args.count c.requires.some c.requires.few)) c.intervals.ensures.rows
+pub returns-in_ok-intervals : goal.returns-in_ok-intervals
+returns-in_ok-intervals c =
+    subst (λ t. IsTrue (is_over c.args.count t)) (sym c.in_ok-intervals.ensures.rows)
+    (intervals_are_over c.args.count c.requires.some c.requires.few)
