@@ -404,19 +404,20 @@ fn many_variables(alloc: Global) -> Result<Vec<u8>, AllocError> {
     Ok(text.into_bytes())
 }
 
-// The head of a point, and the bounds of the first 63 variables and of the last one, on both sides.
+// The head of a point, and the bounds of the first 63 variables, the same on both sides, and of the last one.
 fn write_point(
     text: &mut String,
     head: &str,
-    first: [&str; 2],
-    last: [&str; 2],
+    first: &str,
+    above: &str,
+    below: &str,
 ) -> Result<(), AllocError> {
     text.push_str(head)?;
-    for number in 0..64u32 {
-        let [above, below] = if number < 63 { first } else { last };
-        write!(text, "\n  v{number} <= {above}\n  -v{number} <= {below}")?;
+    for number in 0..63u32 {
+        write!(text, "\n  v{number} <= {first}\n  -v{number} <= {first}")?;
     }
-    text.push_str("\n")
+    write!(text, "\n  v63 <= {above}\n  -v63 <= {below}\n")?;
+    Ok(())
 }
 
 // Its report: nothing is known at the entry, all are 0 at the label, and the last one is 7 at the exit. Each of two edges takes a round.
@@ -425,15 +426,9 @@ fn many_bounds(alloc: Global) -> Result<Vec<u8>, AllocError> {
     for number in 1..64u32 {
         write!(text, " v{number}")?;
     }
-    let unknown = ["+inf", "+inf"];
-    write_point(&mut text, "\npoint 0: entry", unknown, unknown)?;
-    write_point(
-        &mut text,
-        "point 1: label a at line 1",
-        ["0", "0"],
-        ["0", "0"],
-    )?;
-    write_point(&mut text, "point 2: exit", ["0", "0"], ["7", "-7"])?;
+    write_point(&mut text, "\npoint 0: entry", "+inf", "+inf", "+inf")?;
+    write_point(&mut text, "point 1: label a at line 1", "0", "0", "0")?;
+    write_point(&mut text, "point 2: exit", "0", "7", "-7")?;
     text.push_str("improvements: 2\n")?;
     Ok(text.into_bytes())
 }
