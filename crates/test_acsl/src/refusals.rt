@@ -163,7 +163,7 @@ impl Case for (usize, u8, &[u8]) {
     }
 }
 
-const SIZES: &[(usize, u8, &[u8])] = &[(65508, 0, b""), (65509, 3, b"too long: the program\n")];
+const SIZES: &[(usize, u8, &[u8])] = &[(1048548, 0, b""), (1048549, 3, b"too long: the program\n")];
 
 #[test]
 fn texts_have_a_size(rt: HostRuntime) {
