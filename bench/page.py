@@ -127,7 +127,7 @@ def reports(walk):
     for example in build.examples():
         walk.choose("example", example["name"])
         walk.settle()
-        for domain in ("intervals", "zones", "octagons"):
+        for domain in ("intervals", "zones", "octagons", "packs"):
             walk.domain(domain)
             walk.settle()
             status, output, _ = written(["solve", "p", "--domain", domain], {"p": example["text"]})
@@ -386,7 +386,7 @@ def checks(walk):
     for text in (CHECKED, build.text_of(f"{TOP}/examples/assertions.c"), SPREAD):
         walk.set_program(text)
         walk.settle()
-        for domain in ("intervals", "zones", "octagons"):
+        for domain in ("intervals", "zones", "octagons", "packs"):
             walk.domain(domain)
             walk.settle()
             status, output, _ = written(["verify", "p", "--domain", domain], {"p": text})

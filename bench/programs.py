@@ -5,8 +5,8 @@ functions of many variables.
     bench/programs.py FOLDER wide
 
 The program of each seed from FIRST to LAST goes to FOLDER/rSEED.c. A label stands before a statement, as C wants it. With `wide`, of 8, 16,
-32 and 64 variables a loop that counts all of them goes to FOLDER/countN.c, and one with a branch for each variable but the first, each
-behind a label, to FOLDER/branchN.c.
+32 and 64 variables a loop that counts all of them goes to FOLDER/countN.c, one with a branch for each variable but the first, each
+behind a label, to FOLDER/branchN.c, and a loop with a branch for each four of them, one behind the other, to FOLDER/groupN.c.
 """
 
 import os
@@ -139,9 +139,20 @@ def branching(count):
     return f"int main() {{\n  int {names};\n  while (v0 < 100) {{\n    v0++;\n{body}  }}\n  return 0;\n}}\n"
 
 
+def grouping(count):
+    """A loop with a branch for each four of so many variables, one behind the other."""
+    names = ", ".join(f"v{i} = 0" for i in range(count))
+    loops = "".join(
+        f"  while (v{i} < v{i + 3}) {{\n    v{i}++;\n    if (nondet()) v{i + 1} += 2; else v{i + 2} += 1;\n  }}\n"
+        for i in range(0, count, 4)
+    )
+    firsts = "".join(f"  v{i} = 100;\n" for i in range(3, count, 4))
+    return f"int main() {{\n  int {names};\n{firsts}{loops}  return 0;\n}}\n"
+
+
 def write_wide(folder):
     for count in (8, 16, 32, 64):
-        for kind, text in (("count", counting(count)), ("branch", branching(count))):
+        for kind, text in (("count", counting(count)), ("branch", branching(count)), ("group", grouping(count))):
             with open(f"{folder}/{kind}{count}.c", "w", encoding="utf-8") as file:
                 file.write(text)
 

@@ -167,8 +167,8 @@ function lineOf(point) {
 
 const KINDS = { loop: 'loop', join: 'join', assume: 'assume', exit: 'exit' };
 
-/** Rows of a ready-made domain say by themselves what all together leave for two variables. */
-const isClosed = () => domain() !== 'rows';
+/** Rows of a ready-made domain say by themselves what all together leave for two variables, but for packs, which may have no row of these. */
+const isClosed = () => domain() !== 'rows' && domain() !== 'packs';
 
 const NO_CHECKS = 'Write assert(\u2026); where something is to hold, and see here whether the bounds prove it.';
 

@@ -4,7 +4,7 @@ use Rattle.std.specs.Borrow.{Bor}
 use Rattle.base_limits.specs.declared.limits.TheConstants.{MOST_CERTIFICATE_BYTES, MOST_PROGRAM_BYTES, MOST_TEXT_BYTES}
 use Rattle.ask_words.specs.declared.request.Analysis.{Analysis}
 use Rattle.ask_words.specs.declared.request.Domain.{Domain}
-use Rattle.ask_words.specs.declared.request.Domain.TheVariants.{Intervals, Zones, Octagons, Rows}
+use Rattle.ask_words.specs.declared.request.Domain.TheVariants.{Intervals, Zones, Octagons, Packs, Rows}
 use Rattle.ask_words.specs.declared.request.Request.{Request as RequestOf}
 use Rattle.ask_words.specs.declared.request.Request.TheVariants.{Analyse, Check, Bench, Upgrade, Prove, Transitions, Equations, Points}
 use Rattle.ask_words.specs.declared.request.Request.TheVariants.{Functions, Verify, Help}
@@ -28,6 +28,7 @@ rows_before (Rows file) rest = (which.Rows, file) ∷ rest
 rows_before Intervals rest = rest
 rows_before Zones rest = rest
 rows_before Octagons rest = rest
+rows_before Packs rest = rest
 
 -- the files of a request, in the order in which they are loaded
 abbrev pub files_of : Request → List NamedFile
@@ -76,6 +77,7 @@ domain_with (Rows file) text = Rows text
 domain_with Intervals text = Intervals
 domain_with Zones text = Zones
 domain_with Octagons text = Octagons
+domain_with Packs text = Packs
 
 -- how many files a domain has
 abbrev pub rows_files : Domain (List ℕ) → ℕ
@@ -83,6 +85,7 @@ rows_files (Rows file) = 1
 rows_files Intervals = 0
 rows_files Zones = 0
 rows_files Octagons = 0
+rows_files Packs = 0
 
 -- a program with the first text in place of its file's name; the name of its function and its integers stay
 abbrev pub source_with : Source (List ℕ) → List (List ℕ) → Source (List ℕ)

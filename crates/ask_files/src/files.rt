@@ -49,7 +49,9 @@ fn analysis_files<'a>(
 {
     let first = named(which, analysis.program.text);
     match analysis.domain {
-        Domain::Intervals | Domain::Zones | Domain::Octagons => Ok(vec![in alloc; first]?),
+        Domain::Intervals | Domain::Zones | Domain::Octagons | Domain::Packs => Ok(vec![in alloc;
+            first,
+        ]?),
         Domain::Rows(rows) => Ok(vec![in alloc; first, named(Which::Rows, rows)]?),
     }
 }
@@ -66,7 +68,9 @@ fn proof_files<'a>(
     let first = named(Which::Program, analysis.program.text);
     let last = named(Which::Claims, claims);
     match analysis.domain {
-        Domain::Intervals | Domain::Zones | Domain::Octagons => Ok(vec![in alloc; first, last]?),
+        Domain::Intervals | Domain::Zones | Domain::Octagons | Domain::Packs => Ok(vec![in alloc;
+            first, last,
+        ]?),
         Domain::Rows(rows) => Ok(vec![in alloc; first, named(Which::Rows, rows), last]?),
     }
 }
@@ -176,6 +180,7 @@ fn domain_with<'a>(domain: Domain<&str>, text: &'a [u8]) -> Domain<&'a [u8]>
         Domain::Intervals => Domain::Intervals,
         Domain::Zones => Domain::Zones,
         Domain::Octagons => Domain::Octagons,
+        Domain::Packs => Domain::Packs,
         Domain::Rows(_) => Domain::Rows(text),
     }
 }
@@ -185,7 +190,7 @@ fn rows_files(domain: Domain<&str>) -> usize
     ensures { result ≡ rows_files (domain_text domain.entry) }
 {
     match domain {
-        Domain::Intervals | Domain::Zones | Domain::Octagons => 0,
+        Domain::Intervals | Domain::Zones | Domain::Octagons | Domain::Packs => 0,
         Domain::Rows(_) => 1,
     }
 }

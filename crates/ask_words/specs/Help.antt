@@ -127,7 +127,7 @@ about_improvements = codes "  --improvements N  up to N rounds of improvements, 
 
 -- the options of an analysis
 abbrev pub about_analysis : Text
-about_analysis = codes "  --domain D        the rows: intervals if absent, zones, octagons or rows\n"
+about_analysis = codes "  --domain D        rows: intervals if absent, zones, octagons, packs or rows\n"
     ++ codes "  --rows FILE       with the domain rows, the file that has them\n"
     ++ about_improvements
 

@@ -19,7 +19,7 @@ use Rattle.ask_words.specs.declared.format.Format.TheVariants as format
 use Rattle.ask_words.specs.declared.help.Topic.TheVariants as page
 use Rattle.ask_words.specs.declared.request.Analysis.{Analysis}
 use Rattle.ask_words.specs.declared.request.Domain.{Domain}
-use Rattle.ask_words.specs.declared.request.Domain.TheVariants.{Intervals, Zones, Octagons, Rows}
+use Rattle.ask_words.specs.declared.request.Domain.TheVariants.{Intervals, Zones, Octagons, Packs, Rows}
 use Rattle.ask_words.specs.declared.request.Request.{Request}
 use Rattle.ask_words.specs.declared.request.Policy.{Policy}
 use Rattle.ask_words.specs.declared.request.Policy.TheVariants.{Best, First}
@@ -120,6 +120,7 @@ abbrev pub domain_text : Domain (Bor Text) → Domain Text
 domain_text Intervals = Intervals
 domain_text Zones = Zones
 domain_text Octagons = Octagons
+domain_text Packs = Packs
 domain_text (Rows file) = Rows file.now
 
 -- the program with the names of its file and of its function as texts
@@ -330,7 +331,7 @@ examples =
       Prove (codes "c") (plain_analysis (codes "p") Zones) format.Text,
     )
     -- a transition system is analysed as a program is
-    ∷ (codes "transitions" ∷ codes "s" ∷ codes "--domain" ∷ codes "zones" ∷ [], Transitions (plain_analysis (codes "s") Zones) format.Text)
+    ∷ (codes "transitions" ∷ codes "s" ∷ codes "--domain" ∷ codes "packs" ∷ [], Transitions (plain_analysis (codes "s") Packs) format.Text)
     -- equations are solved by the policy that is named, and by 1,000 improvements where none are
     ∷ (codes "equations" ∷ codes "e" ∷ codes "--policy=first" ∷ codes "--format=json" ∷ [], Equations (codes "e") 1000 First format.Json)
     -- the program alone has its points written

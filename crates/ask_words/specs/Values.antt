@@ -14,7 +14,7 @@ use Rattle.ask_words.specs.declared.format.Format.TheVariants as format
 use Rattle.ask_words.specs.declared.request.Policy.{Policy}
 use Rattle.ask_words.specs.declared.request.Policy.TheVariants.{Best, First}
 use Rattle.ask_words.specs.declared.request.Domain.{Domain}
-use Rattle.ask_words.specs.declared.request.Domain.TheVariants.{Intervals, Zones, Octagons, Rows}
+use Rattle.ask_words.specs.declared.request.Domain.TheVariants.{Intervals, Zones, Octagons, Packs, Rows}
 
 -- one to ten decimal digits whose number lies between `least` and `most`
 abbrev pub number_in : (least most : ℕ) → Text → Option ℕ
@@ -52,7 +52,7 @@ check_formats = (codes "text", format.Text) ∷ (codes "json", format.Json) ∷ 
 
 -- the domains that need no file
 abbrev pub built_in_domains : List (Text × Domain Text)
-built_in_domains = (codes "intervals", Intervals) ∷ (codes "zones", Zones) ∷ (codes "octagons", Octagons) ∷ []
+built_in_domains = (codes "intervals", Intervals) ∷ (codes "zones", Zones) ∷ (codes "octagons", Octagons) ∷ (codes "packs", Packs) ∷ []
 
 -- a file of rows is given exactly where the domain is `rows`
 abbrev pub domain_in : Text → (rows : Option Text) → Option (Domain Text)

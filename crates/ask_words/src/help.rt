@@ -57,7 +57,7 @@ usage: tmpl solve PROGRAM
          [--format F] [--progress] [--function NAME] [--int N]
 
   PROGRAM           a C file
-  --domain D        the rows: intervals if absent, zones, octagons or rows
+  --domain D        rows: intervals if absent, zones, octagons, packs or rows
   --rows FILE       with the domain rows, the file that has them
   --improvements N  up to N rounds of improvements, 1000 if absent
   --policy P        which edge a round picks: best if absent, or first
@@ -83,7 +83,7 @@ usage: tmpl certify PROGRAM
          [--progress] [--function NAME] [--int N]
 
   PROGRAM           a C file
-  --domain D        the rows: intervals if absent, zones, octagons or rows
+  --domain D        rows: intervals if absent, zones, octagons, packs or rows
   --rows FILE       with the domain rows, the file that has them
   --improvements N  up to N rounds of improvements, 1000 if absent
   --policy P        which edge a round picks: best if absent, or first
@@ -154,7 +154,7 @@ usage: tmpl prove PROGRAM CLAIMS
 
   PROGRAM           a C file
   CLAIMS            a file of claims, as LABEL: x <= 10;
-  --domain D        the rows: intervals if absent, zones, octagons or rows
+  --domain D        rows: intervals if absent, zones, octagons, packs or rows
   --rows FILE       with the domain rows, the file that has them
   --improvements N  up to N rounds of improvements, 1000 if absent
   --policy P        which edge a round picks: best if absent, or first
@@ -180,7 +180,7 @@ usage: tmpl transitions FILE
          [--format F] [--progress]
 
   FILE              points and edges, instead of a program
-  --domain D        the rows: intervals if absent, zones, octagons or rows
+  --domain D        rows: intervals if absent, zones, octagons, packs or rows
   --rows FILE       with the domain rows, the file that has them
   --improvements N  up to N rounds of improvements, 1000 if absent
   --policy P        which edge a round picks: best if absent, or first
@@ -233,7 +233,7 @@ usage: tmpl verify PROGRAM
          [--format F] [--progress] [--function NAME] [--int N]
 
   PROGRAM           a C file
-  --domain D        the rows: intervals if absent, zones, octagons or rows
+  --domain D        rows: intervals if absent, zones, octagons, packs or rows
   --rows FILE       with the domain rows, the file that has them
   --improvements N  up to N rounds of improvements, 1000 if absent
   --policy P        which edge a round picks: best if absent, or first

@@ -30,6 +30,8 @@ pub enum Domain<T> {
     Intervals,
     Zones,
     Octagons,
+    /// Octagons between variables that a comparison, a change or a loop has together.
+    Packs,
     Rows(T),
 }
 

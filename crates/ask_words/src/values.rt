@@ -126,6 +126,8 @@ fn built_in_domain<'a>(name: &str) -> Option<Domain<&'a str>>
         Some(Domain::Zones)
     } else if name == "octagons" {
         Some(Domain::Octagons)
+    } else if name == "packs" {
+        Some(Domain::Packs)
     } else {
         None
     }

@@ -31,7 +31,7 @@ pub fn system(alloc: Global, equations: &Equations) -> Result<System, AllocError
     ensures edges { IfOk result (λ system. system.flow.edges ≡ edges_of equations.now) }
     ensures rows { IfOk result (λ system. system.template ≡ rows_of (length equations.now)) }
     ensures system { IfOk result (λ system. equations_of system ≡ system_of equations.now) }
-    ensures cells { IfOk result (λ system. cells_of (equations_of system) ≤ 160890) }
+    ensures cells { IfOk result (λ system. cells_of (equations_of system) ≤ 11957) }
 {
     let list = equations.as_slice();
     let flow = flow(alloc, list)?;

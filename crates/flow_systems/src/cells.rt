@@ -4,10 +4,8 @@ ghost use Rattle.std.specs.Prelude.{◌≡◌, ◌==◌, ◌+◌, ◌*◌, ◌<�
 ghost use Rattle.std.specs.List.{count_by, list_any};
 ghost use Rattle.flow_systems.specs.FreeValues.{free_count};
 ghost use Rattle.flow_systems.specs.View.{equations_of};
-ghost use Rattle.flow_systems.specs.Cells.{is_havoc, guard_count, most, unknown_rows, unknown_columns, cells_of};
+ghost use Rattle.flow_systems.specs.Cells.{is_havoc, guard_count, most, block_cells, most_block_cells, unknown_cells, cells_of};
 ghost use Rattle.flow_edges.specs.declared.limits.TheConstants.{MOST_ACTIONS};
-ghost use Rattle.flow_templates.specs.declared.limits.TheConstants.{MOST_ROWS};
-ghost use Rattle.lang_tree.specs.declared.limits.TheConstants.{MOST_VARIABLES};
 
 use crate::system::System;
 use flow_edges::{Action, Edge};
@@ -56,40 +54,49 @@ fn greatest(edges: &[Edge], point: u32) -> (usize, usize)
 }
 
 impl System {
-    // The rows and the columns of the unknowns at a point.
-    fn sizes(&self, point: u32) -> (u64, u64)
-        ensures rows { result.0 ≡ length self.now.template * unknown_rows (equations_of self.now) point }
-        ensures columns { result.1 ≡ length self.now.template * unknown_columns (equations_of self.now) point }
-        ensures few_rows { result.0 ≤ length self.now.template * (MOST_ROWS + MOST_ACTIONS + 1) }
-        ensures few_columns { result.1 ≤ length self.now.template * (2 * MOST_VARIABLES + 2 * MOST_ACTIONS + 1) }
+    /// How many entries of a joint problem the block of one unknown can have that differ from 0, for an edge of so many guards and free
+    /// values.
+    ///
+    /// Each row of the template at the edge's source has two entries for each variable, one at a rise, and its side. Each guard, and the
+    /// unknown's own row, has two for each variable and for each free value, and its side. The unknown's rise has one entry in its own
+    /// row and one in the goal.
+    pub fn block_cells(&self, guards: u32, frees: u32) -> u64
+        requires guards { guards ≤ MOST_ACTIONS }
+        requires frees { frees ≤ MOST_ACTIONS }
+        ensures cells { result ≡ block_cells (length self.now.template) (length self.now.flow.names) guards frees }
+        ensures few { result ≤ most_block_cells }
     {
         let rows = self.template.as_slice().len() as u64;
         let variables = self.flow.names.as_slice().len() as u64;
-        let (guards, frees) = greatest(self.flow.edges.as_slice(), point);
-        let height = rows + 1 + guards as u64;
-        let width = 1 + 2 * (variables + frees as u64);
-        (rows * height, rows * width)
+        let sources = rows * (2 * variables + 2);
+        let width = 2 * (variables + frees as u64) + 1;
+        sources + (guards as u64 + 1) * width + 2
     }
 
-    /// The entries of the largest dictionary that a joint problem of the system can have: rows with two goals, times
-    /// columns with the auxiliary one and the constants.
+    // The entries of the unknowns at a point.
+    fn point_cells(&self, point: u32) -> u64
+        ensures cells { result ≡ length self.now.template * unknown_cells (equations_of self.now) point }
+        ensures few { result ≤ length self.now.template * most_block_cells }
+    {
+        let rows = self.template.as_slice().len() as u64;
+        let (guards, frees) = greatest(self.flow.edges.as_slice(), point);
+        rows * self.block_cells(guards as u32, frees as u32)
+    }
+
+    /// How many entries of a joint problem of the system can differ from 0 at most.
     ///
-    /// Each unknown outside the entry at whose point an edge ends has the rows of the template, its own, and as many as the
-    /// most guards of such an edge; and it has a column for its rise, two for each variable, and two for each of the most
-    /// free values of such an edge.
+    /// Each unknown outside the entry at whose point an edge ends has those of a block with as many guards as the most guards of such an
+    /// edge, and as many free values as the most free values of such an edge.
     pub fn cells(&self) -> u64
         ensures { result ≡ cells_of (equations_of self.now) }
     {
         let edges = self.flow.edges.as_slice();
-        let mut rows = 0;
-        let mut columns = 0;
+        let mut cells = 0;
         for point in 1..self.flow.points.as_slice().len() as u32 {
             if is_reached(edges, point) {
-                let (height, width) = self.sizes(point);
-                rows += height;
-                columns += width;
+                cells += self.point_cells(point);
             }
         }
-        (rows + 2) * (columns + 2)
+        cells
     }
 }

@@ -1,3 +1,4 @@
 pub mod grammar
 pub mod row_files
 pub mod kept
+pub mod counted

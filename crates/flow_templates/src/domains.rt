@@ -56,8 +56,10 @@ fn combination(
     Ok(Coeffs::new(list))
 }
 
-// The rows `x` and `-x` for each variable `x`.
-fn interval_rows(alloc: Global, vars: u32) -> Result<Vec<Coeffs>, AllocError>
+/// The rows `x` and `-x` for each variable `x`: of any number of variables, as a beginning of longer lists of rows.
+///
+/// It fails for want of memory alone.
+pub fn interval_rows(alloc: Global, vars: u32) -> Result<Vec<Coeffs>, AllocError>
     ensures { IfOk result (λ rows. rows.items ≡ intervals_of vars) }
 {
     let mut rows = Vec::new(alloc);
@@ -85,8 +87,10 @@ fn add_differences(
     Ok(())
 }
 
-// Appends the four signed sums of two different variables.
-fn add_signed_sums(
+/// Appends the four signed sums of a variable and a later one: `x + y`, `x - y`, `-x + y` and `-x - y`.
+///
+/// It fails for want of memory alone.
+pub fn add_signed_sums(
     alloc: Global,
     rows: &mut Vec<Coeffs>,
     vars: u32,

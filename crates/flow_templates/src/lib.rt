@@ -13,7 +13,7 @@ mod sums;
 mod template;
 mod term;
 
-pub use domains::{intervals, multiple, octagons, zones};
+pub use domains::{add_signed_sums, interval_rows, intervals, multiple, octagons, zones};
 pub use fault::RowFault;
 pub use file::read_rows;
 pub use given::from_rows;

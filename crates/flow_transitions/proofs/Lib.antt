@@ -5,3 +5,4 @@ pub mod along
 pub mod progress
 pub mod grammar
 pub mod trees
+pub mod walking

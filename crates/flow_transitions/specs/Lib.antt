@@ -11,3 +11,5 @@ pub mod AutoReading
 pub mod AutoGrammar
 pub mod AutoTexts
 pub mod AutoTrees
+pub mod AutoGroups
+pub mod AutoWalk

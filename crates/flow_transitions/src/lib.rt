@@ -10,6 +10,7 @@ mod choices;
 mod counting;
 mod edges;
 mod fault;
+mod grouping;
 mod law;
 mod limits;
 mod points;
@@ -19,5 +20,8 @@ pub use auto::Auto;
 pub use auto_edge::{AutoEdge, AutoEdges};
 pub use build::flow;
 pub use fault::AutoFault;
-pub use law::{choices_are_acts, one_answer, post_solutions_hold_along, texts_are_read};
+pub use grouping::groups;
+pub use law::{
+    choices_are_acts, one_answer, one_grouping, post_solutions_hold_along, texts_are_read,
+};
 pub use reading::read;

@@ -30,6 +30,7 @@ mod values;
 use edges::edges;
 use heads::{points, variables};
 use point_name::PointName;
+pub(crate) use tokens::token;
 
 /// The transition system of a text of at most 65,536 bytes, or the text's first fault.
 ///
@@ -58,7 +59,7 @@ fn answer(alloc: Global, text: &[u8]) -> Result<Auto, AutoFault>
 }
 
 /// The tokens of a text.
-fn tokens_of(alloc: Global, text: &[u8]) -> Result<Vec<Token>, AutoFault>
+pub(crate) fn tokens_of(alloc: Global, text: &[u8]) -> Result<Vec<Token>, AutoFault>
     requires { length text.now ≤ MOST_TEXT_BYTES }
     ensures reads { IfOk result (λ tokens. Reads Own text.now tokens.items) }
     ensures source { IfOk result (λ tokens. IsSource text.now tokens.items) }

@@ -1,2 +1,3 @@
 pub mod EdgeSizes
 pub mod SameProblem
+pub mod FewEntries

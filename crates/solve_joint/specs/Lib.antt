@@ -1,4 +1,5 @@
 pub mod Numbers
+pub mod Nearby
 pub mod Tables
 pub mod Searches
 pub mod Cuts

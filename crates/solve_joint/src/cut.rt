@@ -16,6 +16,7 @@ ghost use Rattle.solve_joint.specs.Cuts.{cut_from};
 ghost use Rattle.solve_joint.specs.Classes.{AreClasses};
 
 use crate::cutting::Cutting;
+use crate::nearby::nearby;
 use crate::node::nodes;
 use crate::part_lists::{Members, Parts};
 use crate::table::Row;
@@ -69,8 +70,8 @@ pub fn parts(alloc: Global, system: &System, pick: &Pick, list: &[u32]) -> Resul
     ensures lowest_first { IfOk result (λ p. NumbersInOrder system.now pick.now list.now p) }
 {
     let nodes = nodes(alloc, system, pick, list)?;
-    let points = system.flow.points.as_slice().len() as u32;
-    let cutting = Cutting::of(alloc, points, nodes.as_slice())?;
+    let near = nearby(alloc, nodes.as_slice())?;
+    let cutting = Cutting::of(alloc, near.points, near.nodes.as_slice())?;
     let lists = cut(alloc, &cutting)?;
     Ok(Parts::new(lists))
 }

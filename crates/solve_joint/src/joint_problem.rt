@@ -11,6 +11,7 @@ ghost use Rattle.solve_joint.specs.Numbers.{ArePicked, Rises};
 ghost use Rattle.solve_joint.specs.Rows.{IsSideFault};
 ghost use Rattle.solve_joint.specs.Blocks.{side_operations, split_columns};
 ghost use Rattle.solve_joint.specs.Problems.{problem_of, MakeProblem};
+ghost use Rattle.solve_joint.specs.Sizes.{cells_in, entries_of};
 ghost use Rattle.flow_systems.specs.declared.limits.TheConstants.{MOST_UNKNOWNS};
 ghost use Rattle.flow_edges.specs.declared.limits.TheConstants.{MOST_ACTIONS};
 ghost use Rattle.lang_tree.specs.declared.limits.TheConstants.{MOST_VARIABLES};
@@ -63,6 +64,7 @@ pub fn joint_problem(
     ensures shape { IfOk result (λ p. (r : ℕ) → r < length (map (λ r. r.coeffs) p.rows.items) →
         length (get_or (map (λ r. r.coeffs) p.rows.items) r []) ≡ length p.goal) }
     ensures few { IfOk result (λ p. length p.rows.items + length p.goal < 4294967295) }
+    ensures cells { IfOk result (λ p. entries_of (map (λ r. r.coeffs) p.rows.items) p.goal ≤ cells_in system.now pick.now list.now) }
     ensures columns { OnOk result (length list.now + split_columns system.now pick.now list.now
         ≤ MOST_UNKNOWNS * (2 * MOST_VARIABLES + 2 * MOST_ACTIONS + 1)) }
     ensures sides { OnOk result (first_wide long_limit (side_operations system.now pick.now base.now list.now) ≡ None) }

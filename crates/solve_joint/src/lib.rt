@@ -14,6 +14,7 @@ mod joined;
 mod joint_problem;
 mod joint_rows;
 mod layout;
+mod nearby;
 mod node;
 mod part_lists;
 mod point;

@@ -1,3 +1,4 @@
 pub mod Exceeding
 pub mod Improved
 pub mod OfferLists
+pub mod Settled

@@ -1,1 +1,2 @@
 pub mod UpperSources
+pub mod Marks

@@ -11,10 +11,8 @@ ghost use Rattle.solve_offers.specs.Known.{AreKnown};
 ghost use Rattle.solve_offers.specs.Offers.{is_top};
 ghost use Rattle.solve_offers.specs.Stops.{IsSolvedStop, IsOfferStop};
 
-use crate::asking::Asking;
 use crate::chooser::{Chooser, Policy};
 use crate::found::solve_offer;
-use crate::incoming::Incoming;
 use crate::known::Known;
 use crate::offer::{EdgeNumbers, Offer, Values};
 use crate::offering::Offering;
@@ -54,29 +52,30 @@ fn offered_value(
 // What the unknown of a point and a row is offered, where its bound is below `+inf`.
 fn make_offer(
     alloc: Global,
-    asking: &Asking,
+    at: &Offering,
     point: u32,
     row: u32,
     known: &mut Known,
 ) -> Result<Offer, Stop>
-    requires point { point < length asking.now.at.system.now.flow.points }
-    requires row { row < length asking.now.at.system.now.template }
-    requires limited { vector_at asking.now.at.system.now asking.now.at.bounds.now point row <ᴱ pos_inf }
-    requires known { AreKnown asking.now.at.system.now asking.now.at.bounds.now known.old }
-    ensures offer { MatchResult result (IsOfferAt asking.now.at.system.now asking.now.at.bounds.now point row)
-        (IsOfferStop asking.now.at.system.now asking.now.at.bounds.now asking.now.at.round) }
-    ensures known { AreKnown asking.now.at.system.now asking.now.at.bounds.now known.new }
+    requires point { point < length at.now.system.now.flow.points }
+    requires row { row < length at.now.system.now.template }
+    requires limited { vector_at at.now.system.now at.now.bounds.now point row <ᴱ pos_inf }
+    requires known { AreKnown at.now.system.now at.now.bounds.now known.old }
+    ensures offer { MatchResult result (IsOfferAt at.now.system.now at.now.bounds.now point row)
+        (IsOfferStop at.now.system.now at.now.bounds.now at.now.round) }
+    ensures known { AreKnown at.now.system.now at.now.bounds.now known.new }
 {
-    let rows = asking.at.system.template.as_slice().len() as u32;
+    let rows = at.system.template.as_slice().len() as u32;
     let mut edges = Vec::new(alloc);
     let mut values = Vec::new(alloc);
-    for number in asking.incoming.ending_at(point) {
-        let value = offered_value(alloc, &asking.at, *number, row, known)?;
-        edges.push(*number)?;
+    for place in 0..known.count_into(point) {
+        let number = known.edge_into(point, place);
+        let value = offered_value(alloc, at, number, row, known)?;
+        edges.push(number)?;
         values.push(value)?;
     }
     Ok(Offer {
-        bound: asking.at.bounds.at(point * rows + row),
+        bound: at.bounds.at(point * rows + row),
         edges: EdgeNumbers::new(edges),
         values: Values::new(values),
     })
@@ -85,52 +84,52 @@ fn make_offer(
 // What an unknown is offered. One at `+inf` asks for no offer: nothing exceeds it.
 fn asked_offer(
     alloc: Global,
-    asking: &Asking,
+    at: &Offering,
     unknown: u32,
     known: &mut Known,
 ) -> Result<Option<Offer>, Stop>
-    requires unknown { unknown < length asking.now.at.system.now.flow.points * length asking.now.at.system.now.template }
-    requires known { AreKnown asking.now.at.system.now asking.now.at.bounds.now known.old }
-    ensures top { IfOk result (λ asked. IsNone asked → is_top (get_or asking.now.at.bounds.now unknown neg_inf) ≡ true) }
+    requires unknown { unknown < length at.now.system.now.flow.points * length at.now.system.now.template }
+    requires known { AreKnown at.now.system.now at.now.bounds.now known.old }
+    ensures top { IfOk result (λ asked. IsNone asked → is_top (get_or at.now.bounds.now unknown neg_inf) ≡ true) }
     ensures offer { IfOk result (λ asked. IfSome asked
-        (IsOfferAt asking.now.at.system.now asking.now.at.bounds.now (unknown / length asking.now.at.system.now.template)
-        (unknown % length asking.now.at.system.now.template))) }
-    ensures stop { IfErr result (IsOfferStop asking.now.at.system.now asking.now.at.bounds.now asking.now.at.round) }
-    ensures known { AreKnown asking.now.at.system.now asking.now.at.bounds.now known.new }
+        (IsOfferAt at.now.system.now at.now.bounds.now (unknown / length at.now.system.now.template)
+        (unknown % length at.now.system.now.template))) }
+    ensures stop { IfErr result (IsOfferStop at.now.system.now at.now.bounds.now at.now.round) }
+    ensures known { AreKnown at.now.system.now at.now.bounds.now known.new }
 {
-    let bound = asking.at.bounds.at(unknown);
+    let bound = at.bounds.at(unknown);
     if is_unlimited(bound) {
         return Ok(None);
     }
-    let rows = asking.at.system.template.as_slice().len() as u32;
-    let offer = make_offer(alloc, asking, unknown / rows, unknown % rows, known)?;
+    let rows = at.system.template.as_slice().len() as u32;
+    let offer = make_offer(alloc, at, unknown / rows, unknown % rows, known)?;
     Ok(Some(offer))
 }
 
-// Gives an unknown its next edge, and tells whether one was offered.
-fn improve_at(
+// Gives an unknown its next edge by what it is offered, and tells whether an edge was offered.
+fn offer_edge(
     alloc: Global,
-    asking: &Asking,
+    at: &Offering,
     pick: &Pick,
     chooser: &Chooser,
     unknown: u32,
     better: &mut Pick,
     known: &mut Known,
 ) -> Result<bool, Stop>
-    requires pick { length pick.now ≡ length asking.now.at.system.now.flow.points * length asking.now.at.system.now.template }
-    requires better { length better.old ≡ length asking.now.at.system.now.flow.points * length asking.now.at.system.now.template }
-    requires unknown { unknown < length asking.now.at.system.now.flow.points * length asking.now.at.system.now.template }
-    requires known { AreKnown asking.now.at.system.now asking.now.at.bounds.now known.old }
+    requires pick { length pick.now ≡ length at.now.system.now.flow.points * length at.now.system.now.template }
+    requires better { length better.old ≡ length at.now.system.now.flow.points * length at.now.system.now.template }
+    requires unknown { unknown < length at.now.system.now.flow.points * length at.now.system.now.template }
+    requires known { AreKnown at.now.system.now at.now.bounds.now known.old }
     ensures size { length better.new ≡ length better.old }
     ensures others { IfOk result (λ offered. (u : _) → (u ≡ unknown → ⊥) → get_or better.new u None ≡ get_or better.old u None) }
-    ensures becomes { IfOk result (λ offered. UnknownBecomes (equations_of asking.now.at.system.now)
-        (vector_at asking.now.at.system.now asking.now.at.bounds.now)
+    ensures becomes { IfOk result (λ offered. UnknownBecomes (equations_of at.now.system.now)
+        (vector_at at.now.system.now at.now.bounds.now)
         (λ offer k. (shown : _) × Policy.post chooser.now.policy shown k × (shown.now ≡ offer))
         unknown (get_or pick.now unknown None) (get_or better.new unknown None) offered) }
-    ensures stop { IfErr result (IsOfferStop asking.now.at.system.now asking.now.at.bounds.now asking.now.at.round) }
-    ensures known { AreKnown asking.now.at.system.now asking.now.at.bounds.now known.new }
+    ensures stop { IfErr result (IsOfferStop at.now.system.now at.now.bounds.now at.now.round) }
+    ensures known { AreKnown at.now.system.now at.now.bounds.now known.new }
 {
-    let asked = asked_offer(alloc, asking, unknown, known)?;
+    let asked = asked_offer(alloc, at, unknown, known)?;
     match asked {
         None => {
             better.set(unknown, pick.at(unknown));
@@ -149,10 +148,46 @@ fn improve_at(
     }
 }
 
+// Gives an unknown its next edge, and tells whether one was offered. One that is settled keeps its own and is offered none; one that
+// is offered none is settled.
+fn improve_at(
+    alloc: Global,
+    at: &Offering,
+    pick: &Pick,
+    chooser: &Chooser,
+    unknown: u32,
+    better: &mut Pick,
+    known: &mut Known,
+) -> Result<bool, Stop>
+    requires pick { length pick.now ≡ length at.now.system.now.flow.points * length at.now.system.now.template }
+    requires better { length better.old ≡ length at.now.system.now.flow.points * length at.now.system.now.template }
+    requires unknown { unknown < length at.now.system.now.flow.points * length at.now.system.now.template }
+    requires known { AreKnown at.now.system.now at.now.bounds.now known.old }
+    ensures size { length better.new ≡ length better.old }
+    ensures others { IfOk result (λ offered. (u : _) → (u ≡ unknown → ⊥) → get_or better.new u None ≡ get_or better.old u None) }
+    ensures becomes { IfOk result (λ offered. UnknownBecomes (equations_of at.now.system.now)
+        (vector_at at.now.system.now at.now.bounds.now)
+        (λ offer k. (shown : _) × Policy.post chooser.now.policy shown k × (shown.now ≡ offer))
+        unknown (get_or pick.now unknown None) (get_or better.new unknown None) offered) }
+    ensures stop { IfErr result (IsOfferStop at.now.system.now at.now.bounds.now at.now.round) }
+    ensures known { AreKnown at.now.system.now at.now.bounds.now known.new }
+{
+    if known.is_settled(unknown) {
+        better.set(unknown, pick.at(unknown));
+        return Ok(false);
+    }
+    if offer_edge(alloc, at, pick, chooser, unknown, better, known)? {
+        return Ok(true);
+    }
+    known.settle(unknown);
+    Ok(false)
+}
+
 /// The next pick at the bounds. For each unknown in order, the offer has the transformers of all edges into its point, by edge
 /// number. Where one exceeds the unknown's bound, the edge at the position that the chooser answers becomes its edge; else the
 /// unknown keeps its own. `None` exactly where no transformer exceeds its bound anywhere. The transformers of an unknown at
-/// `+inf` aren't solved, since none exceeds it, nor are those that are known already; those that are found are kept.
+/// `+inf` aren't solved, since none exceeds it, nor are those that are known already; those that are found are kept. An unknown that
+/// is known to be settled isn't looked at again.
 ///
 /// # Errors
 ///
@@ -182,18 +217,16 @@ pub fn improve_from(
     ensures known { AreKnown system.now bounds.now known.new }
 {
     let count = system.flow.points.as_slice().len() * system.template.as_slice().len();
-    let incoming = Incoming::of(alloc, system)?;
     let at = Offering {
         system,
         paths,
         bounds,
         round,
     };
-    let asking = Asking { at, incoming };
     let mut better = Pick::none(alloc, system)?;
     let mut improved = false;
     for unknown in 0..count as u32 {
-        if improve_at(alloc, &asking, pick, chooser, unknown, &mut better, known)? {
+        if improve_at(alloc, &at, pick, chooser, unknown, &mut better, known)? {
             improved = true;
         }
     }

@@ -1,7 +1,6 @@
 //! Offers of edges to unknowns, the policies that choose from them, and the improvement of picks.
 #![tactic(auto)]
 
-mod asking;
 mod chooser;
 mod count;
 mod found;

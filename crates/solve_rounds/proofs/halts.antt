@@ -1,2 +1,1 @@
-pub mod OnePoint
 pub mod FewCells

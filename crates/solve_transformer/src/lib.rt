@@ -8,6 +8,7 @@ mod law;
 mod place;
 mod read;
 mod split;
+mod tableaus;
 mod transform;
 
 pub use law::points_are_plain;

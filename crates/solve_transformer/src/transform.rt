@@ -22,10 +22,11 @@ ghost use Rattle.flow_templates.specs.declared.limits.TheConstants.{MOST_ROWS};
 
 use crate::build::{edge_problem, lowest_lost};
 use crate::read::{Sizes, read_outcome};
+use crate::tableaus::outcome;
 use base_fractions::{Ext, Frac};
 use flow_systems::{Bounds, Part, PartFault, System};
-use lp_dictionary::{Dict, Problem};
-use lp_simplex::{SolveFault, solve};
+use lp_dictionary::Problem;
+use lp_simplex::SolveFault;
 use solve_composition::{Affine, FormFault, Paths, Value};
 use std::alloc::Global;
 
@@ -54,7 +55,7 @@ fn solve_problem(
         IfErr result (IsProblemFault (exact (λ q. q) problem.now)
         (reading_operations (sizes.variables + sizes.frees) constant (lp (exact (λ q. q) problem.now)))) }
 {
-    match solve::<Frac, Dict<Frac>>(alloc, problem) {
+    match outcome(alloc, problem) {
         Ok(outcome) => match read_outcome(alloc, sizes, source, constant, outcome) {
             Ok(value) => Ok(value),
             Err(FormFault::Wide(wide)) => Err(PartFault::Wide {

@@ -53,8 +53,9 @@ fn a_system_of_one_edge(rt: HostRuntime) -> Result<(), Fail> {
         Ok(system) => system,
         Err(_) => return Err("four unknowns".into()),
     };
-    // Two unknowns of 4 rows and 5 columns.
-    assert_eq!(rt; system.cells(), 120);
+    // Two unknowns: two source rows of 4 entries, a guard and the own row of 5, and 2 of the rise.
+    assert_eq!(rt; system.block_cells(1, 1), 20);
+    assert_eq!(rt; system.cells(), 40);
     let bounds = Bounds::start(alloc, &system)?;
     assert!(rt;
         bounds.as_slice() == [Ext::PosInf, Ext::PosInf, Ext::NegInf, Ext::NegInf].as_slice()

@@ -8,6 +8,7 @@ mod formats;
 mod functions;
 mod generated;
 mod loops;
+mod packs;
 mod pages;
 mod progress;
 pub(crate) mod reports;

@@ -16,6 +16,8 @@ mod limits;
 #[cfg(test)]
 mod machine;
 #[cfg(test)]
+mod packs;
+#[cfg(test)]
 mod rows;
 #[cfg(test)]
 mod walks;

@@ -17,6 +17,10 @@ mod flows;
 #[cfg(test)]
 mod grammar;
 #[cfg(test)]
+mod groups;
+#[cfg(test)]
+mod packs;
+#[cfg(test)]
 mod programs;
 #[cfg(test)]
 mod refused_words;

@@ -6,8 +6,8 @@ use lang_tree::{Coeffs, Name};
 use std::alloc::{AllocError, Global};
 use test_cases::repeated;
 
-// Whether these are the template's rows.
-fn has_rows(template: &Template, rows: &[&[i64]]) -> bool {
+/// Whether these are the template's rows.
+pub(crate) fn has_rows(template: &Template, rows: &[&[i64]]) -> bool {
     let kept = template.as_slice();
     if kept.len() != rows.len() {
         return false;

@@ -242,7 +242,7 @@ const OTHERS: &[(&str, Request<&str>)] = &[
         },
     ),
     (
-        "transitions s --domain octagons",
+        "transitions s --domain packs",
         Request::Transitions {
             analysis: Analysis {
                 program: Source {
@@ -250,7 +250,7 @@ const OTHERS: &[(&str, Request<&str>)] = &[
                     function: None,
                     integers: Integers::Mathematical,
                 },
-                domain: Domain::Octagons,
+                domain: Domain::Packs,
                 improvements: 1000,
                 policy: Policy::Best,
             },

@@ -1,7 +1,8 @@
 -- What the commands do with the texts of their files, each in one record: which endings the texts have, what may exceed exact work, which
 -- bytes are written, what its messages name, and within which limits its numbers and texts are.
 use Rattle.std.specs.Prelude.{◌≡◌, ◌≤◌, ◌<◌, ℕ, ℤ, List, [], Ok, length}
-use Rattle.base_limits.specs.declared.limits.TheConstants.{MOST_IMPROVEMENTS, MOST_LOOPS, MOST_PROGRAM_BYTES, MOST_TEXT_BYTES}
+use Rattle.base_limits.specs.declared.limits.TheConstants.{MOST_BENCH_IMPROVEMENTS, MOST_IMPROVEMENTS, MOST_LOOPS}
+use Rattle.base_limits.specs.declared.limits.TheConstants.{MOST_PROGRAM_BYTES, MOST_TEXT_BYTES}
 use Rattle.lang_tree.specs.Tree.{Statements}
 use Rattle.flow_systems.specs.declared.footer.Footer.TheVariants.{Accepted}
 use Rattle.flow_systems.specs.declared.spot.Spot.{Spot}
@@ -112,7 +113,7 @@ pub record IsSummary (m : Meanings) (seed loops : ℕ) (bytes : List ℕ) : Type
   pub system : System
   pub generated : m.generates seed loops system
   pub rounds : ℕ
-  pub within : rounds ≤ 1000
+  pub within : rounds ≤ MOST_BENCH_IMPROVEMENTS
   pub vector : Vector
   pub has_rounds : HasRounds system Best rounds vector
   pub least : Least (equations_of system) vector

@@ -32,7 +32,7 @@ use Rattle.top_texts.specs.Policies.{rule_of}
 use Rattle.top_texts.specs.Rounds.{EndsWithin, HasRounds, IsSystemFor, RunsOut}
 use Rattle.top_texts.specs.Spots.{HasExcess, IsWideFor, IsWideOn}
 use Rattle.top_texts.specs.TransitionTexts.{AreNoTransitions}
-use Rattle.top_texts.specs.Texts.{HasTemplate, IsRefused, IsRefusedProgram, Program, unknowns}
+use Rattle.top_texts.specs.Texts.{HasTemplateBy, IsRefused, IsRefusedProgram, Program, unknowns}
 use Rattle.ask_words.specs.declared.request.Purpose.{Purpose}
 use Rattle.ask_words.specs.declared.request.Purpose.TheVariants.{Report, Certificate as AsCertificate}
 use Rattle.top_status.specs.declared.status.CertCause.TheVariants as form
@@ -62,24 +62,26 @@ HasNoFlow body (Text (why.Flow fault)) = fault_of_program body ≡ Some fault
 HasNoFlow body NoMemory = Unit {0}
 HasNoFlow body _ = ⊥
 
--- the points and edges of a core within their limits have no system over these rows, by this cause; want of memory needs none
-abbrev pub HasNoRows : Domain (List ℕ) → List (List ℕ) → Statements → Refusal → Type 0
-HasNoRows rows names body (Text (why.Rows fault)) = HasTemplate rows names (Err fault)
-HasNoRows rows names body (Text (why.Unknowns count)) =
-    (template : List (List ℤ)) × HasTemplate rows names (Ok template) × (MOST_UNKNOWNS < unknowns body template)
+-- the points and edges of a core within their limits have no system over the rows of these groups, by this cause; want of memory needs none
+abbrev pub HasNoRows : List (List ℕ) → Domain (List ℕ) → List (List ℕ) → Statements → Refusal → Type 0
+HasNoRows groups rows names body (Text (why.Rows fault)) = HasTemplateBy groups rows names (Err fault)
+HasNoRows groups rows names body (Text (why.Unknowns count)) =
+    (template : List (List ℤ)) × HasTemplateBy groups rows names (Ok template) × (MOST_UNKNOWNS < unknowns body template)
     × (count ≡ unknowns body template)
-HasNoRows rows names body NoMemory = Unit {0}
-HasNoRows rows names body _ = ⊥
+HasNoRows groups rows names body NoMemory = Unit {0}
+HasNoRows groups rows names body _ = ⊥
 
--- a core has no system over these rows, by this cause
-abbrev pub HasNoSystemOver : Domain (List ℕ) → List (List ℕ) → Statements → Refusal → Type 0
-HasNoSystemOver rows names body refusal = HasNoFlow body refusal ⊎ ((fault_of_program body ≡ None) × HasNoRows rows names body refusal)
+-- a core has no system over the rows of these groups, by this cause
+abbrev pub HasNoSystemOver : List (List ℕ) → Domain (List ℕ) → List (List ℕ) → Statements → Refusal → Type 0
+HasNoSystemOver groups rows names body refusal =
+    HasNoFlow body refusal ⊎ ((fault_of_program body ≡ None) × HasNoRows groups rows names body refusal)
 
--- a core has this system over these rows
-pub record HasSystemOver (rows : Domain (List ℕ)) (names : List (List ℕ)) (body : Statements) (system : System) : Type 0 where
+-- a core has this system over the rows of these groups
+pub record HasSystemOver (groups : List (List ℕ)) (rows : Domain (List ℕ)) (names : List (List ℕ)) (body : Statements) (system : System)
+    : Type 0 where
   pub flows : fault_of_program body ≡ None
   pub template : List (List ℤ)
-  pub template_is : HasTemplate rows names (Ok template)
+  pub template_is : HasTemplateBy groups rows names (Ok template)
   pub within : unknowns body template ≤ MOST_UNKNOWNS
   pub system_for : IsSystemFor names body template system
 

@@ -1,6 +1,7 @@
 -- What is asked about equation systems: of the texts of a program and its rows, of a generated program, of claims about a program, of the
 -- checks of a program, of a transition system, and of equations. What is said of each such question, and of its endings, is said here once.
 use Rattle.std.specs.Prelude.{◌≡◌, ◌⊎◌, ℕ, List}
+use Rattle.base_limits.specs.declared.limits.TheConstants.{MOST_BENCH_IMPROVEMENTS}
 use Rattle.flow_systems.specs.declared.spot.Spot.{Spot}
 use Rattle.flow_systems.specs.declared.system.System.{System}
 use Rattle.ask_words.specs.declared.request.Domain.{Domain}
@@ -61,14 +62,14 @@ analysis_question m purpose program rows policy limit = record {
   limit = limit;
 }
 
--- the analysis of a generated program over intervals, by 1,000 improvements; its joint problems are small
+-- the analysis of a generated program over intervals; its joint problems are small
 abbrev pub bench_question : Meanings → (seed loops : ℕ) → Question
 bench_question m seed loops = record {
   is_refused = λ cause. ⊥;
   means = λ system. m.generates seed loops system;
-  exceeds = λ system excess. IsOnlyWide (λ spot. m.exceeds Report system Best 1000 (Wide spot)) excess;
+  exceeds = λ system excess. IsOnlyWide (λ spot. m.exceeds Report system Best MOST_BENCH_IMPROVEMENTS (Wide spot)) excess;
   policy = Best;
-  limit = 1000;
+  limit = MOST_BENCH_IMPROVEMENTS;
 }
 
 -- what the least bounds of a program over the rows of a domain say of claims

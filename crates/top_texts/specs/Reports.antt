@@ -1,5 +1,6 @@
 -- What is written of texts: reports of least vectors, certificates of them, and the summary of a generated program.
 use Rattle.std.specs.Prelude.{◌≡◌, ◌≤◌, ℕ, List, length}
+use Rattle.base_limits.specs.declared.limits.TheConstants.{MOST_BENCH_IMPROVEMENTS}
 use Rattle.lang_tree.specs.Tree.{Statements}
 use Rattle.flow_templates.specs.Domains.{intervals_of}
 use Rattle.flow_systems.specs.declared.footer.Footer.TheVariants.{Accepted}
@@ -30,7 +31,7 @@ pub record IsSummaryOf (seed loops : ℕ) (bytes : List ℕ) : Type 0 where
   pub system : System
   pub generated : IsGenerated seed loops system
   pub rounds : ℕ
-  pub within : rounds ≤ 1000
+  pub within : rounds ≤ MOST_BENCH_IMPROVEMENTS
   pub vector : Vector
   pub has_rounds : HasRounds system Best rounds vector
   pub least : Least (equations_of_program 3 (generated_body seed loops) (intervals_of 3)) vector

@@ -2,7 +2,7 @@
 use Rattle.std.specs.Prelude.{◌≤◌, ℕ, List, length}
 use Rattle.base_limits.specs.declared.limits.TheConstants.{MOST_PROGRAM_BYTES, MOST_TEXT_BYTES}
 use Rattle.ask_words.specs.declared.request.Domain.{Domain}
-use Rattle.ask_words.specs.declared.request.Domain.TheVariants.{Intervals, Zones, Octagons, Rows}
+use Rattle.ask_words.specs.declared.request.Domain.TheVariants.{Intervals, Zones, Octagons, Packs, Rows}
 
 -- a text as short as a program has to be
 abbrev pub IsShortProgram : List ℕ → Type 0
@@ -17,4 +17,5 @@ abbrev pub HasShortRows : Domain (List ℕ) → Type 0
 HasShortRows Intervals = Unit {0}
 HasShortRows Zones = Unit {0}
 HasShortRows Octagons = Unit {0}
+HasShortRows Packs = Unit {0}
 HasShortRows (Rows text) = IsShort text

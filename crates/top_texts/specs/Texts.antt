@@ -11,10 +11,12 @@ use Rattle.flow_edges.specs.Points.{points_of_program}
 use Rattle.flow_templates.specs.Domains.{intervals_of, zones_of, octagons_of, ready}
 use Rattle.flow_templates.specs.RowFiles.{Answers}
 use Rattle.flow_templates.specs.declared.fault.RowFault.{RowFault}
+use Rattle.flow_packs.specs.Packs.{packs_of}
 use Rattle.flow_systems.specs.declared.system.System.{System}
 use Rattle.source_tree.specs.Statements as c
 use Rattle.source_core.specs.Core.{core_in}
 use Rattle.source_file.specs.Meaning.{Answer, Means}
+use Rattle.source_groups.specs.Grouping.{AreGroups}
 use Rattle.ask_words.specs.declared.request.Source.{Source}
 use Rattle.ask_words.specs.declared.request.Domain.{Domain}
 use Rattle.ask_words.specs.declared.request.Policy.{Policy}
@@ -44,18 +46,39 @@ pub record IsAnalysed (program : Program) (names : List (List ℕ)) (body : Stat
   pub has_core : HasCore program names body
   pub within : fault_of_program body ≡ None
 
--- the template over these variables: the list of a domain, unless it is too long, or what the text of the rows is
-abbrev pub HasTemplate : Domain (List ℕ) → List (List ℕ) → Result (List (List ℤ)) RowFault → Type 0
-HasTemplate domain.Intervals names answer = answer ≡ Ok (intervals_of (length names))
-HasTemplate domain.Zones names answer = answer ≡ ready (zones_of (length names))
-HasTemplate domain.Octagons names answer = answer ≡ ready (octagons_of (length names))
-HasTemplate (domain.Rows text) names answer = Answers names text answer
+-- the template over these variables: the list of a domain, unless it is too long, or what the text of the rows is; packs are those of some
+-- groups that the variables have
+abbrev pub IsTemplate : (List (List ℕ) → Type 0) → Domain (List ℕ) → List (List ℕ) → Result (List (List ℤ)) RowFault → Type 0
+IsTemplate HasGroups domain.Intervals names answer = answer ≡ Ok (intervals_of (length names))
+IsTemplate HasGroups domain.Zones names answer = answer ≡ ready (zones_of (length names))
+IsTemplate HasGroups domain.Octagons names answer = answer ≡ ready (octagons_of (length names))
+IsTemplate HasGroups domain.Packs names answer =
+    (groups : List (List ℕ)) × HasGroups groups × (answer ≡ ready (packs_of (length names) groups))
+IsTemplate HasGroups (domain.Rows text) names answer = Answers names text answer
+
+-- groups serve a domain: for packs they have to be such groups, and other domains need none
+abbrev pub Serve : (List (List ℕ) → Type 0) → Domain (List ℕ) → List (List ℕ) → Type 0
+Serve HasGroups domain.Packs groups = HasGroups groups
+Serve HasGroups _ groups = Unit {0}
+
+-- the template over these variables, which are in these groups
+abbrev pub HasTemplateBy : List (List ℕ) → Domain (List ℕ) → List (List ℕ) → Result (List (List ℤ)) RowFault → Type 0
+HasTemplateBy groups rows names answer = IsTemplate (λ given. given ≡ groups) rows names answer
+
+-- by these groups the variables of the function that is asked about are together that its text has together
+abbrev pub HasGroups : Program → List (List ℕ) → List (List ℕ) → Type 0
+HasGroups program names groups = (front : List Token) × Reads C program.text (front ++ end_at (length program.text) ∷ [])
+    × AreGroups program.integers program.text program.function front names groups
+
+-- the template of a program with these variables
+abbrev pub HasTemplate : Program → Domain (List ℕ) → List (List ℕ) → Result (List (List ℤ)) RowFault → Type 0
+HasTemplate program rows names answer = IsTemplate (HasGroups program names) rows names answer
 
 -- a program and a template of these texts
 pub record IsSystemOf (program : Program) (rows : Domain (List ℕ)) (names : List (List ℕ)) (body : Statements) (template : List (List ℤ)) :
     Type 0 where
   pub analysed : IsAnalysed program names body
-  pub template_is : HasTemplate rows names (Ok template)
+  pub template_is : HasTemplate program rows names (Ok template)
 
 -- the number of unknowns: points times rows
 abbrev pub unknowns : Statements → List (List ℤ) → ℕ
@@ -89,7 +112,7 @@ IsRefused program rows (Lex fault) = IsRefusedProgram program (Lex fault)
 IsRefused program rows (InSource fault) = IsRefusedProgram program (InSource fault)
 IsRefused program rows (Flow fault) = IsRefusedProgram program (Flow fault)
 IsRefused program rows (Rows fault) =
-    (names : List (List ℕ)) × (body : Statements) × IsAnalysed program names body × HasTemplate rows names (Err fault)
+    (names : List (List ℕ)) × (body : Statements) × IsAnalysed program names body × HasTemplate program rows names (Err fault)
 IsRefused program rows (Unknowns count) =
     (names : List (List ℕ)) × (body : Statements) × (template : List (List ℤ)) × IsSystemOf program rows names body template
     × (MOST_UNKNOWNS < unknowns body template) × (count ≡ unknowns body template)

@@ -12,15 +12,14 @@ use crate::analyse::rounds::solve;
 use crate::analyse::system::program_system;
 use crate::refusal::Refusal;
 use ask_words::{Domain, Policy};
+use base_limits::MOST_BENCH_IMPROVEMENTS;
 use base_watch::Watch;
+use lang_groups::Groups;
 use lang_parser::parse;
 use lang_tokens::{Lexicon, lex};
 use lang_tree::Program;
 use out_workload::{generate, generated_texts_read, summary};
 use std::alloc::Global;
-
-// How many improvements are made at most.
-const MOST_IMPROVEMENTS: u32 = 1000;
 
 // The program of the language that a generated text is. Each of them is one, so that it has no other fault than want of memory.
 fn generated_program(alloc: Global, text: &[u8]) -> Result<Program, Refusal>
@@ -42,7 +41,7 @@ fn generated_program(alloc: Global, text: &[u8]) -> Result<Program, Refusal>
 ///
 /// # Errors
 ///
-/// 1,000 improvements by `best` that are spent, a wide operation, or want of memory.
+/// `MOST_BENCH_IMPROVEMENTS` improvements by `best` that are spent, a wide operation, or want of memory.
 pub fn bench_text<W: Watch>(
     alloc: Global,
     seed: u32,
@@ -58,8 +57,9 @@ pub fn bench_text<W: Watch>(
     generated_texts_read();
     let text = generate(alloc, seed, loops)?;
     let program = generated_program(alloc, &text)?;
-    let system = program_system(alloc, Domain::Intervals, &program)?;
-    let solved = solve(alloc, &system, Policy::Best, MOST_IMPROVEMENTS, watch)?;
+    let groups = Groups::none(alloc);
+    let system = program_system(alloc, Domain::Intervals, &groups, &program)?;
+    let solved = solve(alloc, &system, Policy::Best, MOST_BENCH_IMPROVEMENTS, watch)?;
     Ok(summary(
         alloc,
         seed,

@@ -8,6 +8,7 @@ mod check;
 mod equations;
 mod form;
 mod functions;
+mod groups;
 mod points;
 mod program;
 mod prove;

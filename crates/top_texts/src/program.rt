@@ -3,11 +3,12 @@
 ghost use Rattle.std.specs.Prelude.{◌≡◌, ◌≤◌, ◌⊎◌, IfOk, IfErr, Err, None, Some, length};
 ghost use Rattle.base_limits.specs.declared.limits.TheConstants.{MOST_PROGRAM_BYTES};
 ghost use Rattle.lang_tokens.specs.Faults.{HasFault};
+ghost use Rattle.lang_tokens.specs.Reading.{Reads};
+ghost use Rattle.lang_tokens.specs.TokenLists.{AreTokensOf};
 ghost use Rattle.lang_tree.specs.Tree.{Statements};
 ghost use Rattle.flow_edges.specs.Edges.{edges_of_program};
 ghost use Rattle.flow_edges.specs.Faults.{fault_of_program};
 ghost use Rattle.flow_edges.specs.Points.{points_of_program};
-ghost use Rattle.source_file.specs.Meaning.{Answer};
 ghost use Rattle.ask_words.specs.Request.{source_text};
 ghost use Rattle.top_texts.specs.Outcomes.{HasNoFlow, IsUnread};
 ghost use Rattle.top_texts.specs.Texts.{HasCore, Program as ProgramText, Reading};
@@ -15,7 +16,7 @@ ghost use Rattle.top_texts.specs.Texts.{HasCore, Program as ProgramText, Reading
 use crate::refusal::Refusal;
 use ask_words::Source;
 use flow_edges::{Flow, FlowFault, flow};
-use lang_tokens::{LexFault, Lexicon, lex};
+use lang_tokens::{LexFault, Lexicon, Token, lex};
 use lang_tree::Program;
 use source_file::{SourceFault, read};
 use std::alloc::Global;
@@ -32,9 +33,8 @@ fn lex_refusal(fault: LexFault) -> Refusal
 }
 
 // The refusal of a program that means this fault.
-fn source_refusal(fault: SourceFault) -> Refusal
-    ensures { (program : ProgramText) (answer : Answer) → Reading program answer
-        → ((fault ≡ SourceFault.NoMemory → ⊥) → answer ≡ Err fault) → IsUnread program result }
+pub(crate) fn source_refusal(fault: SourceFault) -> Refusal
+    ensures { (program : ProgramText) → ((fault ≡ SourceFault.NoMemory → ⊥) → Reading program (Err fault)) → IsUnread program result }
 {
     match fault {
         SourceFault::NoMemory => Refusal::NoMemory,
@@ -52,16 +52,26 @@ fn flow_refusal(fault: FlowFault) -> Refusal
     }
 }
 
+// The tokens of a program.
+pub(crate) fn tokens_of(alloc: Global, program: Source<&[u8]>) -> Result<Vec<Token>, Refusal>
+    requires { length program.text.now ≤ MOST_PROGRAM_BYTES }
+    ensures reads { IfOk result (λ tokens. Reads Lexicon.C program.entry.text.now tokens.items) }
+    ensures placed { IfOk result (λ tokens. AreTokensOf program.entry.text.now tokens.items) }
+    ensures err { IfErr result (λ refusal. IsUnread (source_text program.entry) refusal) }
+{
+    match lex(alloc, program.text, Lexicon::C) {
+        Ok(tokens) => Ok(tokens),
+        Err(fault) => Err(lex_refusal(fault)),
+    }
+}
+
 // The core of the function that a program asks about.
 pub(crate) fn program_of(alloc: Global, program: Source<&[u8]>) -> Result<Program, Refusal>
     requires { length program.text.now ≤ MOST_PROGRAM_BYTES }
     ensures ok { IfOk result (λ core. HasCore (source_text program.entry) core.names core.body) }
     ensures err { IfErr result (λ refusal. IsUnread (source_text program.entry) refusal) }
 {
-    let tokens = match lex(alloc, program.text, Lexicon::C) {
-        Ok(tokens) => tokens,
-        Err(fault) => return Err(lex_refusal(fault)),
-    };
+    let tokens = tokens_of(alloc, program)?;
     match read(
         alloc,
         &tokens,

@@ -3,6 +3,7 @@
 ghost use Rattle.std.specs.Prelude.{◌≡◌, ◌≢◌, ◌≤◌, ℕ, List, IfOk, IfErr, IsTrue, None, Ok, Err, length};
 ghost use Rattle.base_limits.specs.declared.limits.TheConstants.{MOST_IMPROVEMENTS, MOST_TEXT_BYTES};
 ghost use Rattle.flow_transitions.specs.AutoFaults.{fault_of};
+ghost use Rattle.flow_transitions.specs.AutoGroups.{HasGroups};
 ghost use Rattle.flow_transitions.specs.AutoTexts.{IsAuto, content};
 ghost use Rattle.flow_transitions.specs.Choices.{edges_of};
 ghost use Rattle.flow_systems.specs.SystemLimits.{is_over};
@@ -13,7 +14,7 @@ ghost use Rattle.top_texts.specs.Short.{HasShortRows};
 ghost use Rattle.ask_words.specs.Request.{domain_text};
 ghost use Rattle.top_texts.specs.Outcomes.{IsRefusedAlong, IsUnanswered};
 ghost use Rattle.top_texts.specs.Questions.{transitions_question};
-ghost use Rattle.top_texts.specs.Texts.{HasTemplate};
+ghost use Rattle.top_texts.specs.Texts.{HasTemplateBy, Serve};
 ghost use Rattle.top_texts.specs.TransitionTexts.{AreNoTransitions, IsAutoReport, IsAutoText, IsTransitionSystem};
 
 use crate::analyse::rounds::report_of;
@@ -25,7 +26,8 @@ use base_watch::Watch;
 use flow_edges::Flow;
 use flow_systems::System;
 use flow_templates::{RowFault, Template};
-use flow_transitions::{Auto, AutoFault, flow, post_solutions_hold_along, read};
+use flow_transitions::{Auto, AutoFault, flow, groups, post_solutions_hold_along, read};
+use lang_groups::Groups;
 use std::alloc::Global;
 use top_status::TextCause;
 
@@ -78,15 +80,51 @@ fn flow_along(alloc: Global, auto: &Auto) -> Result<Flow, Refusal>
     }
 }
 
-// The template over its variables.
-fn rows_along(alloc: Global, rows: Domain<&[u8]>, auto: &Auto) -> Result<Template, Refusal>
+// The groups of its variables.
+fn found_along(alloc: Global, text: &[u8], auto: &Auto) -> Result<Groups, Refusal>
+    requires short { length text.now ≤ MOST_TEXT_BYTES }
+    requires auto { IsAuto text.now (Ok (content auto.now)) }
+    ensures ok { IfOk result (λ groups. HasGroups text.now groups) }
+    ensures err { IfErr result (λ refusal. (rows : DomainValue (List ℕ)) → IsRefusedAlong text.now rows refusal) }
+{
+    match groups(alloc, text, auto) {
+        Ok(groups) => Ok(groups),
+        Err(fault) => Err(auto_refusal(fault)),
+    }
+}
+
+// The groups that serve a domain over its variables: its own for packs, and none for others.
+fn groups_along(
+    alloc: Global,
+    text: &[u8],
+    rows: Domain<&[u8]>,
+    auto: &Auto,
+) -> Result<Groups, Refusal>
+    requires short { length text.now ≤ MOST_TEXT_BYTES }
+    requires auto { IsAuto text.now (Ok (content auto.now)) }
+    ensures ok { IfOk result (λ groups. Serve (HasGroups text.now) (domain_text rows.entry) groups) }
+    ensures err { IfErr result (λ refusal. IsRefusedAlong text.now (domain_text rows.entry) refusal) }
+{
+    match rows {
+        Domain::Packs => found_along(alloc, text, auto),
+        _ => Ok(Groups::none(alloc)),
+    }
+}
+
+// The template over its variables, which are in these groups.
+fn rows_along(
+    alloc: Global,
+    rows: Domain<&[u8]>,
+    groups: &Groups,
+    auto: &Auto,
+) -> Result<Template, Refusal>
     requires { HasShortRows (domain_text rows) }
-    ensures template { IfOk result (λ template. HasTemplate (domain_text rows.entry) auto.now.names (Ok template)) }
+    ensures template { IfOk result (λ template. HasTemplateBy groups.now (domain_text rows.entry) auto.now.names (Ok template)) }
     ensures over { IfOk result (λ template. IsTrue (is_over (length auto.now.names) template)) }
     ensures err { IfErr result (λ refusal. (text : List ℕ) → IsAutoText text auto.now
-        → IsRefusedAlong text (domain_text rows.entry) refusal) }
+        → Serve (HasGroups text) (domain_text rows.entry) groups.now → IsRefusedAlong text (domain_text rows.entry) refusal) }
 {
-    match template_of(alloc, rows, auto.names.as_slice()) {
+    match template_of(alloc, rows, auto.names.as_slice(), groups) {
         Ok(template) => Ok(template),
         Err(fault) => Err(row_refusal(fault)),
     }
@@ -101,7 +139,8 @@ fn system_along(alloc: Global, text: &[u8], rows: Domain<&[u8]>) -> Result<Syste
 {
     let auto = auto_of(alloc, text)?;
     let flow = flow_along(alloc, &auto)?;
-    let template = rows_along(alloc, rows, &auto)?;
+    let groups = groups_along(alloc, text, rows, &auto)?;
+    let template = rows_along(alloc, rows, &groups, &auto)?;
     let system = system_of(flow, template)?;
     Ok(system)
 }

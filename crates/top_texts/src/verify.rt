@@ -18,6 +18,7 @@ ghost use Rattle.lang_tree.specs.declared.limits.TheConstants.{MOST_HIDDEN};
 
 use crate::analyse::rounds::solve;
 use crate::analyse::system::program_system;
+use crate::groups::groups_of;
 use crate::program::program_of;
 use crate::refusal::Refusal;
 use ask_checks::{ChecksFault, check_verdicts, has_open, open_states_break, proved_verdicts_hold};
@@ -60,7 +61,8 @@ fn checked_on(
 {
     let core = program_of(alloc, program)?;
     let checks = flow_edges::checks(alloc, &core)?;
-    let system = program_system(alloc, rows, &core)?;
+    let groups = groups_of(alloc, program, rows, &core)?;
+    let system = program_system(alloc, rows, &groups, &core)?;
     Ok(Checked { system, checks })
 }
 

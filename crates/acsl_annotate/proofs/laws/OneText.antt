@@ -36,7 +36,7 @@ use Rattle.acsl_anchors.specs.Laws.{is_anchored}
 use Rattle.acsl_notes.specs.Clauses.{Bounded, bounded_from, clauses, clauses_from, clauses_unless}
 use Rattle.acsl_notes.specs.Texts.{annotated, comment_at, comment_unless_silent, comments_from}
 use Rattle.ask_words.specs.declared.request.Domain.{Domain}
-use Rattle.top_texts.specs.Texts.{HasTemplate, Program}
+use Rattle.top_texts.specs.Texts.{HasGroups, HasTemplate, Program}
 use Rattle.top_texts.proofs.by_c.InSource.{some_names}
 use Rattle.top_texts.proofs.texts.Readings.{program_once, rows_once}
 use Rattle.top_answer.proofs.outputs.Templates.{some_row}
@@ -144,8 +144,9 @@ one_annotated program rows one other a b =
     let core = a.ready.system.analysed.has_core in
     let same = program_once program (b.names, b.body) (a.names, a.body) b.ready.system.analysed.has_core core in
     let template : b.template ≡ a.template =
-    rows_once rows a.names b.template a.template (subst (λ (x : List (List ℕ) × Statements). HasTemplate rows x.0 (Ok b.template)) same
-    b.ready.system.template_is) a.ready.system.template_is in
+    rows_once program rows a.names b.template a.template
+    (subst (λ (x : List (List ℕ) × Statements). HasTemplate program rows x.0 (Ok b.template)) same b.ready.system.template_is)
+    a.ready.system.template_is in
     let least : Least (equations_of_program (length a.names) a.body a.template) b.vector =
     subst (λ t. Least (equations_of_program (length a.names) a.body t) b.vector) template
     (subst (λ (x : List (List ℕ) × Statements). Least (equations_of_program (length x.0) x.1 b.template) b.vector) same b.least) in
@@ -155,7 +156,8 @@ one_annotated program rows one other a b =
     (anchors_of b.annotated.tree)) same b.annotated.written) in
     a.annotated.written
     ∙ annotated_agree text a.names a.body a.template a.vector b.vector (anchors_of a.annotated.tree)
-    (some_row rows a.names a.template (some_names program a.names a.body core) a.ready.system.template_is) a.least least
+    (some_row (HasGroups program a.names) rows a.names a.template (some_names program a.names a.body core) a.ready.system.template_is)
+    a.least least
     ∙ ap (λ tree. annotated text a.names (points_of_program a.body) a.template b.vector (anchors_of tree))
     (trees_agree program a.names b.names a.annotated.has_core.statements b.annotated.has_core.statements a.annotated.tree
     b.annotated.tree a.annotated.is_tree b.annotated.is_tree)

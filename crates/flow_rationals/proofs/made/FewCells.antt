@@ -1,8 +1,9 @@
 -- How large the joint problems of a system of equations can get.
-use Rattle.std.proofs.Common.{◌≡◌, ◌∙◌, ◌==◌, inl, inr, ⊎_elim, ℕ, suc, ◌+◌, ◌*◌, ◌≤◌, Bool, true, false, cond, List, [], ◌∷◌, ◌++◌, length}
-use Rattle.std.proofs.Common.{map, refl, ap, sym, subst, arith, mul-le-mul_right}
+use Rattle.std.proofs.Common.{◌≡◌, ◌∙◌, ⊎_elim, ℕ, suc, ◌+◌, ◌*◌, ◌≤◌, cond, List, [], ◌∷◌, ◌++◌, length}
+use Rattle.std.proofs.Common.{map, refl, ap, sym, subst, arith}
 use Rattle.std.specs.Prelude.{ℤ, IsTrue, flat_map}
-use Rattle.std.specs.List.{filter, enumerate_from}
+use Rattle.std.specs.List.{enumerate_from}
+use Rattle.std.proofs.lemmas.Nat.{mul-le}
 use Rattle.std.proofs.lemmas.List.Sums.{sum_by-cons}
 use Rattle.base_facts.specs.Elements.{In}
 use Rattle.base_facts.proofs.elements.Membership.{of_map, of_flat_map}
@@ -10,8 +11,10 @@ use Rattle.flow_edges.specs.declared.edge.Action.{Action}
 use Rattle.flow_edges.specs.declared.edge.Action.TheVariants.{Guard, Assign, Havoc}
 use Rattle.flow_edges.specs.declared.edge.Edge.{Edge}
 use Rattle.flow_edges.specs.declared.point.Point.{Point}
+use Rattle.flow_edges.proofs.Each.{each_in}
 use Rattle.flow_systems.specs.FreeValues.{free_count}
-use Rattle.flow_systems.specs.Cells.{is_guard, guard_count, greatest, most, cells_of}
+use Rattle.flow_systems.specs.Cells.{is_guard, guard_count, most, block_cells, cells_of}
+use Rattle.flow_systems.proofs.free_values.CellCounts.{most_le}
 use Rattle.flow_rationals.specs.declared.equation.Sum.{Sum}
 use Rattle.flow_rationals.specs.declared.equation.Equation.{Equation}
 use Rattle.flow_rationals.specs.Equations.{are_equations}
@@ -21,17 +24,6 @@ use Rattle.flow_rationals.proofs.values.Sound.{IsSoundAlternative, AreSound, sou
 use Rattle.flow_rationals.proofs.traces.Rows.{length-rows}
 use Rattle.flow_rationals.proofs.above.Places.{of_enumerated}
 use Rattle.flow_rationals.proofs.made.Within.{length-variables}
-
--- what no edge exceeds
-most_le : (count : List Action → ℕ) (edges : List Edge) (p m : ℕ) → ((e : Edge) → In edges e → count e.actions ≤ m) → most count edges p ≤ m
-most_le count [] p m h = omega arith
-most_le count (e ∷ edges) p m h = by (e.to == p) (h e (inl refl)) (most_le count edges p m (λ f k. h f (inr k)))
-  where
-    by : (b : Bool) → count e.actions ≤ m → most count edges p ≤ m →
-        greatest (map (λ (f : Edge). count f.actions) (cond b (e ∷ filter (λ (f : Edge). f.to == p) edges)
-        (filter (λ (f : Edge). f.to == p) edges))) ≤ m
-    by true one rest = omega arith
-    by false one rest = rest
 
 -- ---- guards and free assignments of an edge
 guard-cons : (a : Action) (actions : List Action) → guard_count (a ∷ actions) ≡ cond (is_guard a) 1 0 + guard_count actions
@@ -88,40 +80,42 @@ module _ (equations : List Equation) (sound : AreSound equations) where
           ((sound.each r.0.1 (in_slice equations p.0 r.0.1 p.1)).alternatives s.0 s.1))
 
   few_guards : most guard_count (edges_of equations) 1 ≤ 16
-  few_guards = most_le guard_count (edges_of equations) 1 16 (few_on guard_count 16
+  few_guards = most_le guard_count (edges_of equations) 1 16
+      (each_in (λ (e : Edge). guard_count e.actions ≤ 16) (edges_of equations) (few_on guard_count 16
       (let a = start_guards (length equations) equations 0 in let b = sound.few in omega arith)
-      (λ k sums good. let a = alternative_guards (length equations) k sums in let b = good.few in omega arith))
+      (λ k sums good. let a = alternative_guards (length equations) k sums in let b = good.few in omega arith)))
 
   few_frees : most free_count (edges_of equations) 1 ≤ 11
-  few_frees = most_le free_count (edges_of equations) 1 11 (few_on free_count 11
+  few_frees = most_le free_count (edges_of equations) 1 11
+      (each_in (λ (e : Edge). free_count e.actions ≤ 11) (edges_of equations) (few_on free_count 11
       (let a = start_frees (length equations) equations 0 in let b = sound.few in omega arith)
-      (λ k sums good. let a = none_free (length equations) k sums in omega arith))
+      (λ k sums good. let a = none_free (length equations) k sums in omega arith)))
 
 -- the loop is the only point at which an edge ends
-product : (n rows guards frees : ℕ) → rows ≡ n → n ≤ 11 → guards ≤ 16 → frees ≤ 11 →
-    (0 + rows * (rows + 1 + guards) + 2) * (0 + rows * (1 + 2 * (n + 1 + frees)) + 2) ≤ 160890
-product n rows guards frees e h i j =
-    let l : rows ≤ 11 = omega arith in
-    let tall : rows * (rows + 1 + guards) ≤ 11 * (rows + 1 + guards) = mul-le-mul_right (rows + 1 + guards) l in
-    let wide : rows * (1 + 2 * (n + 1 + frees)) ≤ 11 * (1 + 2 * (n + 1 + frees)) = mul-le-mul_right (1 + 2 * (n + 1 + frees)) l in
-    by (0 + rows * (rows + 1 + guards) + 2) (0 + rows * (1 + 2 * (n + 1 + frees)) + 2) (omega arith) (omega arith)
-  where
-    by : (a b : ℕ) → a ≤ 310 → b ≤ 519 → a * b ≤ 160890
-    by a b p q = let r : a * b ≤ 310 * b = mul-le-mul_right b p in omega arith
+one_point : (n rows guards frees : ℕ) → rows ≡ n → n ≤ 11 → guards ≤ 16 → frees ≤ 11 →
+    0 + rows * block_cells rows (n + 1) guards frees ≤ 11957
+one_point n rows guards frees e h i j =
+    let sources : rows * (2 * (n + 1) + 2) ≤ 286 = mul-le rows (2 * (n + 1) + 2) 11 26 (omega arith) (omega arith) in
+    let words : (guards + 1) * (2 * (n + 1 + frees) + 1) ≤ 799 = mul-le (guards + 1) (2 * (n + 1 + frees) + 1) 17 47 (omega arith)
+    (omega arith) in
+    let block : block_cells rows (n + 1) guards frees ≤ 1087 = omega arith in
+    let all : rows * block_cells rows (n + 1) guards frees ≤ 11957 = mul-le rows (block_cells rows (n + 1) guards frees) 11 1087
+    (omega arith) block in
+    omega (arith, all)
 
-few_cells : (equations : List Equation) → IsTrue (are_equations equations) → cells_of (system_of equations) ≤ 160890
+few_cells : (equations : List Equation) → IsTrue (are_equations equations) → cells_of (system_of equations) ≤ 11957
 few_cells equations h =
     let sound = sound_equations equations h in
-    product (length equations) (length (rows_of (length equations))) (most guard_count (edges_of equations) 1)
+    one_point (length equations) (length (rows_of (length equations))) (most guard_count (edges_of equations) 1)
     (most free_count (edges_of equations) 1)
     (length-rows (length equations)) sound.few (few_guards equations sound) (few_frees equations sound)
 
 -- the same of parts that are those of the system
 abbrev pub HasFew : ℕ → ℕ → List Edge → List (List ℤ) → Type 0
 HasFew variables points edges template = cells_of (record { variables = variables; points = points; edges = edges; template = template })
-    ≤ 160890
+    ≤ 11957
 
--- the joint problems of a system of equations have at most 160890 cells
+-- the joint problems of a system of equations have at most 11957 cells
 pub few_cells_in : (equations : List Equation) (names : List (List ℕ)) (points : List Point) (edges : List Edge) (template : List (List ℤ))
     → IsTrue (are_equations equations) →
     names ≡ variables_of equations → points ≡ entry_and_loop → edges ≡ edges_of equations → template ≡ rows_of (length equations) →

@@ -16,8 +16,9 @@ use Rattle.flow_edges.specs.declared.edge.Action.TheVariants.{Guard, Assign, Hav
 use Rattle.flow_edges.specs.declared.edge.Edge.{Edge}
 use Rattle.flow_edges.specs.declared.graph.Flow.{Flow}
 use Rattle.flow_edges.specs.FlowLimits.{is_action, is_edge}
+use Rattle.flow_edges.proofs.Each.{Each}
 use Rattle.flow_systems.specs.FreeValues.{free_count}
-use Rattle.flow_systems.specs.Cells.{is_havoc, guard_count, greatest, most}
+use Rattle.flow_systems.specs.Cells.{is_havoc, guard_count, greatest, most, block_cells, most_block_cells}
 use Rattle.flow_systems.proofs.Sizes.{both, flow_sizes}
 use Rattle.flow_templates.specs.declared.limits.TheConstants.{MOST_ROWS}
 use Rattle.lang_tree.specs.declared.limits.TheConstants.{MOST_VARIABLES, MOST_HIDDEN}
@@ -71,6 +72,18 @@ module _ (count : List Action → ℕ) where
       nothing_more [] = refl
       nothing_more (n ∷ ns) = ap (λ x. n ∷ x) (nothing_more ns)
 
+-- what no edge's count exceeds, the greatest of them doesn't
+pub most_le : (count : List Action → ℕ) (edges : List Edge) (p m : ℕ) → Each (λ (e : Edge). count e.actions ≤ m) edges
+    → most count edges p ≤ m
+most_le count [] p m h = omega arith
+most_le count (e ∷ edges) p m h = at_edge (e.to == p) h.0 (most_le count edges p m h.1)
+  where
+    at_edge : (b : Bool) → count e.actions ≤ m → most count edges p ≤ m →
+        greatest (map (λ (f : Edge). count f.actions) (cond b (e ∷ filter (λ (f : Edge). f.to == p) edges)
+        (filter (λ (f : Edge). f.to == p) edges))) ≤ m
+    at_edge true one rest = omega arith
+    at_edge false one rest = rest
+
 -- an edge has few actions
 most_few : (count : List Action → ℕ) → ((actions : List Action) → count actions ≤ length actions)
     → (n points : ℕ) (edges : List Edge) (p : ℕ) → IsTrue (list_all (is_edge n points) edges) → most count edges p ≤ MOST_ACTIONS
@@ -100,16 +113,14 @@ guards_few actions = count_by-le-length _ actions
 pub frees_few : (actions : List Action) → free_count actions ≤ length actions
 frees_few actions = omega (arith, free_count-is actions, count_by-le-length is_havoc actions)
 
--- the rows of an unknown's joint problem, for each row of the template, are within their limit
-pub rows_bound : (rows guards : ℕ) → rows ≤ MOST_ROWS → guards ≤ MOST_ACTIONS
-    → rows * (rows + 1 + guards) ≤ rows * (MOST_ROWS + MOST_ACTIONS + 1)
-rows_bound rows guards h k = mul-le rows (rows + 1 + guards) rows (MOST_ROWS + MOST_ACTIONS + 1) (omega arith) (omega (arith, h, k))
-
--- the columns of an unknown's joint problem, for each row of the template, are within their limit
-pub columns_bound : (rows names frees : ℕ) → names ≤ MOST_VARIABLES → frees ≤ MOST_ACTIONS
-    → rows * (1 + 2 * (names + frees)) ≤ rows * (2 * MOST_VARIABLES + 2 * MOST_ACTIONS + 1)
-columns_bound rows names frees k l =
-    mul-le rows (1 + 2 * (names + frees)) rows (2 * MOST_VARIABLES + 2 * MOST_ACTIONS + 1) (omega arith) (omega (arith, k, l))
+-- the entries of an unknown's block are at most those of the greatest numbers
+pub block_few : (rows names guards frees : ℕ) → rows ≤ MOST_ROWS → names ≤ MOST_VARIABLES → guards ≤ MOST_ACTIONS → frees ≤ MOST_ACTIONS
+    → block_cells rows names guards frees ≤ most_block_cells
+block_few rows names guards frees h i j k =
+    let sources = mul-le rows (2 * names + 2) MOST_ROWS (2 * MOST_VARIABLES + 2) h (omega (arith, i)) in
+    let words = mul-le (guards + 1) (2 * (names + frees) + 1) (MOST_ACTIONS + 1) (2 * (MOST_VARIABLES + MOST_ACTIONS) + 1)
+    (omega (arith, j)) (omega (arith, i, k)) in
+    omega (arith, sources, words)
 
 -- the counts of a flow's edges
 pub few_of : (count : List Action → ℕ) → ((actions : List Action) → count actions ≤ length actions)

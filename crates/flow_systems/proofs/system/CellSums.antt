@@ -1,9 +1,12 @@
 -- Sums over the points at which an edge ends, point by point.
 use Rattle.std.proofs.Common.{◌≡◌, ◌∙◌, ◌==◌, ℕ, zero, suc, ◌+◌, ◌-◌, ◌*◌, ◌≤◌, Bool, true, false, cond, [], ◌∷◌, ◌++◌, length, ap, arith}
+use Rattle.std.proofs.Common.{List, mul-le-mul_right}
 use Rattle.std.specs.List.{filter, list_any, sum_by, range_with_len}
-use Rattle.std.proofs.lemmas.List.Sums.{sum_by-append, sum_by-cons}
+use Rattle.std.proofs.lemmas.List.Sums.{count_by-le-length, length-filter, sum_by-append, sum_by-cons}
+use Rattle.std.proofs.lemmas.List.FromFn.{length-range_with_len}
 use Rattle.std.proofs.lemmas.List.Elements.{filter-append}
 use Rattle.flow_systems.specs.Equations.{Equations}
+use Rattle.flow_systems.specs.Cells.{unknown_cells, cells_of}
 
 range-more : (a n : ℕ) → range_with_len a (n + 1) ≡ range_with_len a n ++ (a + n) ∷ []
 range-more a zero = let e : 0 + 1 ≡ 1 = omega arith in let k : a ≡ a + 0 = omega arith in ap (range_with_len a) e ∙ ap (λ x. x ∷ []) k
@@ -49,3 +52,23 @@ sum_no system size p h k =
     ∙ ap (λ x. sum_to system size (p - 1) + sum_by (λ q. length system.template * size q) (cond (is_end system x) (x ∷ []) [])) f
     ∙ ap (λ b. sum_to system size (p - 1) + sum_by (λ q. length system.template * size q) (cond b (p ∷ []) [])) k
     ∙ (let z : sum_to system size (p - 1) + 0 ≡ sum_to system size (p - 1) = omega arith in z)
+
+-- the sum of numbers that aren't greater than one is at most as often that
+sum_few : (f : ℕ → ℕ) (m : ℕ) → ((p : ℕ) → f p ≤ m) → (ps : List ℕ) → sum_by f ps ≤ length ps * m
+sum_few f m h [] = omega arith
+sum_few f m h (p ∷ ps) = let s = sum_by-cons f p ps in omega (arith, s, h p, sum_few f m h ps)
+
+-- a system whose unknowns at each point have few cells has few for each of its points
+pub cells_few : (system : Equations) (m : ℕ) → ((p : ℕ) → length system.template * unknown_cells system p ≤ m)
+    → cells_of system ≤ system.points * m
+cells_few system m h =
+    let points = range_with_len 1 (system.points - 1) in
+    let sum = sum_few (λ p. length system.template * unknown_cells system p) m h (filter (is_end system) points) in
+    let some : length (filter (is_end system) points) ≤ system.points =
+    omega (
+      arith,
+      length-filter (is_end system) points,
+      count_by-le-length (is_end system) points,
+      length-range_with_len 1 (system.points - 1),
+    ) in
+    omega (arith, sum, mul-le-mul_right m some)

@@ -14,7 +14,7 @@ use Rattle.flow_templates.specs.RowFaults.{count_faults}
 use Rattle.flow_templates.specs.Sums.{coefficient_by, total}
 use Rattle.flow_templates.specs.RowFiles.{lines_of, LineReads, LinesRead}
 use Rattle.flow_templates.proofs.file.Steps.{pieces}
-use Rattle.flow_templates.proofs.given.Sound.{is_row_over}
+use Rattle.flow_templates.proofs.counted.Sound.{is_row_over}
 use Rattle.flow_templates.specs.declared.limits.TheConstants.{MOST_ROWS}
 
 abbrev is_within : ℕ → List ℕ → Bool

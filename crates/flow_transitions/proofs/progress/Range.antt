@@ -87,7 +87,8 @@ named (kind.Number n) text t h p = absurd cc
 named (kind.Foreign f) text t h p = absurd cc
 named (kind.Aside s) text t h p = absurd cc
 
-proper_of : (text : List ℕ) (ts : List Token) (i : ℕ) (t : Token) → slice_get ts i ≡ Some t → AllProper text ts → IsProper text t
+-- a token's bytes
+pub proper_of : (text : List ℕ) (ts : List Token) (i : ℕ) (t : Token) → slice_get ts i ≡ Some t → AllProper text ts → IsProper text t
 proper_of text [] i t e p = absurd cc
 proper_of text (u ∷ ts) zero t e p = subst (IsProper text) (let same : u ≡ t = cc in same) p.0
 proper_of text (u ∷ ts) (suc i) t e p = proper_of text ts i t e p.1

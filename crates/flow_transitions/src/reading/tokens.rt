@@ -12,7 +12,7 @@ use lang_tokens::{Token, line_of};
 use lang_tree::Name;
 
 /// The token of this number.
-fn token(tokens: &[Token], at: u32) -> Token
+pub(crate) fn token(tokens: &[Token], at: u32) -> Token
     requires { at < length tokens.now }
     ensures { slice_get tokens.now at ≡ Some result }
 {

@@ -1,5 +1,5 @@
 -- The parts that are cut are those of the theory.
-use Rattle.std.proofs.Common.{◌≡◌, ◌∙◌, ◌⊎◌, inl, inr, ⊎_elim, ℕ, zero, suc, ◌&&◌, ◌||◌, not, cond, Bool, true, false, List, [], ◌∷◌}
+use Rattle.std.proofs.Common.{◌≡◌, ◌∙◌, inl, inr, ℕ, zero, suc, ◌&&◌, ◌||◌, not, cond, Bool, true, false, List, [], ◌∷◌}
 use Rattle.std.proofs.Common.{length, map, Option, Some, None, refl, ap, ap₂, sym, if◌then◌else◌}
 use Rattle.std.specs.Prelude.{find}
 use Rattle.std.specs.List.{list_all, filter}
@@ -17,6 +17,7 @@ use Rattle.solve_joint.specs.Cuts.{are_one_part, are_apart, keeps_within, may_co
 use Rattle.solve_joint.specs.PartLists.{part_numbers}
 use Rattle.solve_joint.proofs.numbers.NodeFacts.{number_back, shown, shown_all, length-nodes}
 use Rattle.solve_joint.proofs.tables.ReachTables.{leans_shown, one_part_shown}
+use Rattle.solve_joint.proofs.cut.Kept.{find_in, filter_in}
 
 -- ---- lists of nodes and of the unknowns for which they stand
 abbrev both : {X Y : Type 0} → (X → Y) → Option X → Option Y
@@ -52,22 +53,6 @@ first_shown f g h (x ∷ xs) e = by (f x) (first_shown f g h xs (λ y m. e y (in
         ≡ (if b then Some (h x) else first_of g (map h xs))
     by true k = refl
     by false k = k
-
-find_in : (f : Node → Bool) (xs : List Node) (x : Node) → find f xs ≡ Some x → In xs x
-find_in f [] x e = cc
-find_in f (y ∷ xs) x e = by (f y) e (λ k. find_in f xs x k)
-  where
-    by : (b : Bool) → cond b (Some y) (find f xs) ≡ Some x → (find f xs ≡ Some x → In xs x) → (y ≡ x) ⊎ In xs x
-    by true k t = inl cc
-    by false k t = inr (t k)
-
-filter_in : (f : Node → Bool) (xs : List Node) (x : Node) → In (filter f xs) x → In xs x
-filter_in f [] x m = m
-filter_in f (y ∷ xs) x m = by (f y) m (λ k. filter_in f xs x k)
-  where
-    by : (b : Bool) → In (cond b (y ∷ filter f xs) (filter f xs)) x → (In (filter f xs) x → In xs x) → (y ≡ x) ⊎ In xs x
-    by true k t = ⊎_elim (λ e. inl e) (λ n. inr (t n)) k
-    by false k t = inr (t k)
 
 module _ (system : System) (pick : List (Option ℕ)) (list : List ℕ) (picked : ArePicked system pick list) where
   abbrev eqs : Equations

@@ -1,11 +1,8 @@
 -- The table of a list's points tells which of its unknowns reach which.
-use Rattle.std.proofs.Common.{◌≡◌, ◌∙◌, inl, inr, ⊎_elim, ℕ, ◌/◌, ◌<◌, ◌&&◌, ◌||◌, ◌==◌, Bool, true, false, List, [], ◌∷◌, length}
-use Rattle.std.proofs.Common.{get_or, map, Option, refl, ap, ap₂, sym, arith, zero-add}
-use Rattle.std.specs.List.{range_with_len}
+use Rattle.std.proofs.Common.{◌≡◌, ◌∙◌, inl, inr, ⊎_elim, ℕ, ◌/◌, ◌&&◌, ◌||◌, ◌==◌, Bool, true, false, List, [], ◌∷◌, length}
+use Rattle.std.proofs.Common.{map, Option, refl, ap, ap₂, sym}
 use Rattle.std.proofs.lemmas.Bool.{eqb-true}
 use Rattle.std.proofs.lemmas.Bool.Decides.{eqb_tells}
-use Rattle.std.proofs.lemmas.List.{get_or-map}
-use Rattle.std.proofs.lemmas.List.FromFn.{length-range_with_len, get_or-range_with_len}
 use Rattle.base_facts.specs.Elements.{In}
 use Rattle.flow_systems.specs.declared.system.System.{System}
 use Rattle.flow_systems.specs.Equations.{Equations}
@@ -15,15 +12,10 @@ use Rattle.theory_transformers.specs.Parts.{leans, same, reaches, together}
 use Rattle.theory_transformers.proofs.parts.Reaching.{same_itself, same_equal}
 use Rattle.solve_joint.specs.declared.node.Node.{Node}
 use Rattle.solve_joint.specs.Numbers.{listed_of, number_of, all_listed, source_of, nodes_of, ArePicked}
-use Rattle.solve_joint.specs.Tables.{row_by, leads, closed, gets_to}
+use Rattle.solve_joint.specs.Tables.{leads, closed, gets_to}
 use Rattle.solve_joint.specs.Cuts.{are_one_part}
 use Rattle.solve_joint.proofs.numbers.NodeFacts.{number_back, shown, node_in, shown_all}
-
--- ---- the table by which points lead where
-at_point : {X : Type 0} (f : ℕ → X) (points p : ℕ) (d : X) → p < points → get_or (map f (range_with_len 0 points)) p d ≡ f p
-at_point f points p d l =
-    get_or-map f (range_with_len 0 points) p p d (let e = length-range_with_len 0 points in omega (arith, l, e))
-    ∙ ap f (get_or-range_with_len 0 points p p l ∙ zero-add p)
+use Rattle.solve_joint.proofs.tables.Entries.{cell_at}
 
 -- ---- leading from source to point is reaching
 -- where one unknown is the one in the middle, going through it adds nothing
@@ -105,9 +97,7 @@ module _ (system : System) (pick : List (Option ℕ)) (list : List ℕ) (picked 
   gets_shown a b m n =
       let p = node_in system pick list picked a m in
       let q = node_in system pick list picked b n in
-      ap (λ (r : List Bool). a.unknown == b.unknown || get_or r b.point false)
-      (at_point (λ s. row_by points (leads nodes s)) points a.source [] p.source_within)
-      ∙ ap (λ t. a.unknown == b.unknown || t) (at_point (leads nodes a.source) points b.point false q.point_within)
+      ap (λ t. a.unknown == b.unknown || t) (cell_at points (leads nodes) a.source b.point p.source_within q.point_within)
       ∙ leads_reaches nodes (λ x i. i) a b m n
       ∙ ap (λ vs. reaches eqs vs (shown system pick a) (shown system pick b)) (shown_all system pick list)
 

@@ -1,4 +1,4 @@
-//! Templates: zones, octagons and rows of a file, and opposite rows whose bounds meet.
+//! Templates: zones, octagons, packs and rows of a file, and opposite rows whose bounds meet.
 
 use crate::cases::first_wrong;
 
@@ -64,6 +64,8 @@ const SUM_NOTES: &[u8] = b"int main() {
 const DOMAINS: &[(&str, &[u8], &[u8])] = &[
     ("p --domain zones", PAIR, PAIR_NOTES),
     ("--domain=octagons p", SUM, SUM_NOTES),
+    // the loop changes both variables
+    ("--domain packs p", SUM, SUM_NOTES),
 ];
 
 #[test]

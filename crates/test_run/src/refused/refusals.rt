@@ -317,13 +317,19 @@ fn operations_are_wide_and_improvements_are_spent(rt: HostRuntime) {
     assert_eq!(rt; first_wrong(rt.alloc(), STOPPED), None);
 }
 
+// The beginning of a program with 64 variables, of which `x`, `y` and `z` alone change.
+const MANY_VARIABLES: &[u8] = b"int main() { int x = 0, y = 0, z = 0;
+int a, b, c, d, e, f, g, h, i, j, k, l, m, n, o, p, q, r, s, t, u, v, w, A, B, C, D, E, F, G, H;
+int I, J, K, L, M, N, O, P, Q, R, S, T, U, V, W, X, Y, Z, a1, a2, a3, a4, a5, a6, a7, a8, a9, a10, a11, a12;
+while (nondet()) { x = x + 1; z = y + 1; y = nondet(); ";
+
 // A program whose loop holds so many inner loops that do nothing, by as many rows of `x`, one of `z` and one of `y`: how the run over it
 // ends. What `y` was before it takes any value, `z` is behind it.
 impl Case for (usize, usize, Ending<'_>) {
     fn is_right(&self, alloc: Global) -> bool {
         let text = repeated(
             alloc,
-            b"int main() { int x = 0, y = 0, z = 0; while (nondet()) { x = x + 1; z = y + 1; y = nondet(); ",
+            MANY_VARIABLES,
             b"while (nondet()) { } ",
             self.0,
             b"} }",
@@ -338,14 +344,15 @@ impl Case for (usize, usize, Ending<'_>) {
 
 // The rounds bring the first values to the loops, one by one. In the round then every row of `x` rises at each loop, and at the outer one
 // `z`, too, before `y` is unbounded there; from then on nothing bounds `z` behind the body, so that no cut is found for it and the guess
-// is given up. With 19 inner loops and 38 rows of `x` the joint problem has 761 unknowns, 39 at the outer loop and 38 at each of the
-// others. Each counts 41 rows and 7 columns, and behind the body two more for its free value: 31,201 rows and 5,403 columns. With 3 rows
-// of `x` there are few, and the problem is solved: all first values are there after 20 rounds.
+// is given up. With one inner loop and 440 rows of `x` the joint problem has 881 unknowns, 441 at the outer loop and 440 at the inner
+// one. Each has 130 cells in each of 442 rows, 129 in its own and 2 of its rise, which are 57,591, and those of the inner loop two more
+// for the free value: 881 * 57,591 + 880. With 19 inner loops and 3 rows of `x` there are few, and the problem is solved: all first
+// values are there after 20 rounds.
 const LARGE_PROBLEMS: &[(usize, usize, Ending)] = &[
     (
-        19,
-        38,
-        Ending::Refused(4, b"program refused: 168652215 cells\n"),
+        1,
+        440,
+        Ending::Refused(4, b"program refused: 50738551 cells\n"),
     ),
     (
         19,

@@ -18,17 +18,18 @@ use Rattle.ask_words.specs.declared.format.Format.{Format}
 use Rattle.ask_words.specs.declared.request.Domain.{Domain}
 use Rattle.ask_words.specs.declared.request.Policy.{Policy}
 use Rattle.cert_written.specs.declared.cert.Cert.{Cert as WrittenCert}
+use Rattle.flow_transitions.specs.AutoGroups.{HasGroups as HasGroupsAlong}
 use Rattle.top_texts.specs.Checks.{fitted_to, system_with}
 use Rattle.top_texts.specs.Exact.{exact}
 use Rattle.top_written.specs.Formats.{report_in}
 use Rattle.top_texts.specs.LeastReports.{IsLeastReport, IsReportOf}
-use Rattle.top_texts.specs.Texts.{HasTemplate, IsSolvedSystem, Program}
-use Rattle.top_texts.specs.TransitionTexts.{IsAutoReport}
+use Rattle.top_texts.specs.Texts.{HasGroups, HasTemplate, IsSolvedSystem, Program}
+use Rattle.top_texts.specs.TransitionTexts.{HasTemplateAlong, IsAutoReport}
 use Rattle.top_texts.proofs.by_c.InSource.{some_names}
 use Rattle.top_texts.proofs.rounds.OneChain.{rounds_once}
 use Rattle.top_texts.proofs.texts.Once.{solved_once}
 use Rattle.top_texts.proofs.texts.Readings.{program_once, rows_once}
-use Rattle.top_texts.proofs.transition_texts.Once.{systems_once}
+use Rattle.top_texts.proofs.transition_texts.Once.{one_template, systems_once}
 use Rattle.top_answer.specs.Commands.{IsChecked}
 use Rattle.top_answer.proofs.outputs.Templates.{auto_names, some_row}
 use Rattle.top_answer.proofs.outputs.Vectors.{reports_agree}
@@ -62,8 +63,9 @@ pub report_once : (program : Program) (rows : Domain (List ℕ)) (policy : Polic
 report_once program rows policy limit format one other a b =
     let same = program_once program (b.names, b.body) (a.names, a.body) b.ready.system.analysed.has_core a.ready.system.analysed.has_core in
     let template : b.template ≡ a.template =
-    rows_once rows a.names b.template a.template (subst (λ (x : List (List ℕ) × Statements). HasTemplate rows x.0 (Ok b.template)) same
-    b.ready.system.template_is) a.ready.system.template_is in
+    rows_once program rows a.names b.template a.template
+    (subst (λ (x : List (List ℕ) × Statements). HasTemplate program rows x.0 (Ok b.template)) same b.ready.system.template_is)
+    a.ready.system.template_is in
     let least : IsLeastReport program a.names a.body a.template b.vector (Improvements b.rounds) format other =
     subst (λ t. IsLeastReport program a.names a.body t b.vector (Improvements b.rounds) format other) template
     (subst (λ (x : List (List ℕ) × Statements). IsLeastReport program x.0 x.1 b.template b.vector (Improvements b.rounds) format other) same
@@ -73,7 +75,8 @@ report_once program rows policy limit format one other a b =
     (solved_of program rows policy limit format other b))
     a.has_rounds b.has_rounds in
     least_once program format a.names a.body a.template a.vector b.vector a.rounds b.rounds one other
-    (some_row rows a.names a.template (some_names program a.names a.body a.ready.system.analysed.has_core) a.ready.system.template_is)
+    (some_row (HasGroups program a.names) rows a.names a.template (some_names program a.names a.body a.ready.system.analysed.has_core)
+    a.ready.system.template_is)
     rounds a.least least
 
 -- ---- of a transition system
@@ -118,15 +121,15 @@ auto_report_once text rows policy limit format one other a b =
     let d : Content = content q.auto in
     let same : d ≡ c = same_content d c (one_answer text (Ok d) (Ok c) q.over.text_is.reading p.over.text_is.reading) in
     let template : q.template ≡ p.template =
-    rows_once rows p.auto.names q.template p.template
-    (subst (λ (x : Content). HasTemplate rows x.names (Ok q.template)) same q.over.template_is) p.over.template_is in
+    one_template text rows p.auto.names q.template p.template
+    (subst (λ (x : Content). HasTemplateAlong text rows x.names (Ok q.template)) same q.over.template_is) p.over.template_is in
     let ours : IsReportAlong c p.template a.vector a.rounds format one = record { least = a.least; report = a.report } in
     let theirs : IsReportAlong d q.template b.vector b.rounds format other = record { least = b.least; report = b.report } in
     let moved : IsReportAlong c p.template b.vector b.rounds format other =
     subst (λ t. IsReportAlong c t b.vector b.rounds format other) template
     (subst (λ x. IsReportAlong x q.template b.vector b.rounds format other) same theirs) in
     along_once c p.template a.vector b.vector a.rounds b.rounds format one other
-    (some_row rows p.auto.names p.template (auto_names text c p.over.text_is.reading) p.over.template_is)
+    (some_row (HasGroupsAlong text) rows p.auto.names p.template (auto_names text c p.over.text_is.reading) p.over.template_is)
     (rounds_once a.system b.system policy a.rounds b.rounds a.vector b.vector (systems_once text rows a.system b.system p q) a.has_rounds
     b.has_rounds) ours moved
 

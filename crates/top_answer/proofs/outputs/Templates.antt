@@ -3,6 +3,7 @@ use Rattle.std.proofs.Common.{◌≡◌, ◌++◌, ◌<◌, ℕ, zero, suc, Bool
 use Rattle.std.specs.Prelude.{ℤ, Result, Ok, Err, nat_le, if◌then◌else◌}
 use Rattle.std.proofs.lemmas.List.{length-map}
 use Rattle.flow_templates.specs.Domains.{intervals_of, octagons_of, ready, zones_of}
+use Rattle.flow_packs.specs.Packs.{packs_of}
 use Rattle.flow_templates.specs.RowFaults.{count_faults}
 use Rattle.flow_templates.specs.RowFiles.{Answers, a_count, a_fault, a_template}
 use Rattle.flow_templates.specs.declared.fault.RowFault.{RowFault}
@@ -13,8 +14,8 @@ use Rattle.flow_transitions.specs.AutoGrammar.{Names, Spot}
 use Rattle.flow_transitions.specs.AutoTexts.{IsAuto, by_tokens, no_tokens}
 use Rattle.flow_transitions.specs.AutoTrees.{all_spots, names_in}
 use Rattle.ask_words.specs.declared.request.Domain.{Domain}
-use Rattle.ask_words.specs.declared.request.Domain.TheVariants.{Intervals, Zones, Octagons, Rows}
-use Rattle.top_texts.specs.Texts.{HasTemplate}
+use Rattle.ask_words.specs.declared.request.Domain.TheVariants.{Intervals, Zones, Octagons, Packs, Rows}
+use Rattle.top_texts.specs.Texts.{IsTemplate}
 
 -- ---- over at least one variable
 
@@ -54,17 +55,20 @@ file_row names text template (a_count count e h) = absurd (no_fault template _ e
 file_row names text template (a_fault fault e h) = absurd (no_fault template fault e)
 
 -- a template over at least one variable has a row
-pub some_row : (rows : Domain (List ℕ)) (names : List (List ℕ)) (template : List (List ℤ)) → 0 < length names
-    → HasTemplate rows names (Ok template) → 0 < length template
-some_row Intervals names template some e =
+pub some_row : (HasGroups : List (List ℕ) → Type 0) (rows : Domain (List ℕ)) (names : List (List ℕ)) (template : List (List ℤ))
+    → 0 < length names → IsTemplate HasGroups rows names (Ok template) → 0 < length template
+some_row HasGroups Intervals names template some e =
     subst (λ (t : List (List ℤ)). 0 < length t) (same_rows template (intervals_of (length names)) e) (some_intervals (length names) some)
-some_row Zones names template some e =
+some_row HasGroups Zones names template some e =
     subst (λ (t : List (List ℤ)). 0 < length t) (ready_rows template (zones_of (length names)) e)
     (more_rows (intervals_of (length names)) _ (some_intervals (length names) some))
-some_row Octagons names template some e =
+some_row HasGroups Octagons names template some e =
     subst (λ (t : List (List ℤ)). 0 < length t) (ready_rows template (octagons_of (length names)) e)
     (more_rows (intervals_of (length names)) _ (some_intervals (length names) some))
-some_row (Rows text) names template some h = file_row names text template h
+some_row HasGroups Packs names template some (groups, given, e) =
+    subst (λ (t : List (List ℤ)). 0 < length t) (ready_rows template (packs_of (length names) groups) e)
+    (more_rows (intervals_of (length names)) _ (some_intervals (length names) some))
+some_row HasGroups (Rows text) names template some h = file_row names text template h
 
 -- ---- transition systems have at least one variable
 

@@ -4,7 +4,7 @@ use Rattle.std.specs.Prelude.{Option, Some, None, nat_lt}
 use Rattle.base_limits.specs.declared.limits.TheConstants.{MOST_IMPROVEMENTS}
 use Rattle.ask_words.specs.declared.request.Analysis.{Analysis}
 use Rattle.ask_words.specs.declared.request.Domain.{Domain}
-use Rattle.ask_words.specs.declared.request.Domain.TheVariants.{Intervals, Zones, Octagons, Rows}
+use Rattle.ask_words.specs.declared.request.Domain.TheVariants.{Intervals, Zones, Octagons, Packs, Rows}
 use Rattle.top_answer.specs.Commands.{IsWithin}
 use Rattle.ask_files.specs.Files.{NamedFile, analysis_with, domain_with, most_bytes, rows_before, rows_files, text_at, unread}
 use Rattle.ask_files.specs.declared.which.ReadCause.{ReadCause}
@@ -35,6 +35,7 @@ rows_short : (domain : Domain (List ℕ)) (later : List NamedFile) (text : List 
 rows_short Intervals later text rest e = tt
 rows_short Zones later text rest e = tt
 rows_short Octagons later text rest e = tt
+rows_short Packs later text rest e = tt
 rows_short (Rows file) later text rest e =
     let read = read_first (which.Rows, file) later rest e in
     subst (λ r. IsShort (text_at (text ∷ r) 1)) (sym read.2) read.3
@@ -47,6 +48,8 @@ claims_short Intervals claims text rest e =
 claims_short Zones claims text rest e =
     let read = read_first (which.Claims, claims) [] rest e in subst (λ r. IsShort (text_at (text ∷ r) 1)) (sym read.2) read.3
 claims_short Octagons claims text rest e =
+    let read = read_first (which.Claims, claims) [] rest e in subst (λ r. IsShort (text_at (text ∷ r) 1)) (sym read.2) read.3
+claims_short Packs claims text rest e =
     let read = read_first (which.Claims, claims) [] rest e in subst (λ r. IsShort (text_at (text ∷ r) 1)) (sym read.2) read.3
 claims_short (Rows file) claims text rest e =
     let rows = read_first (which.Rows, file) ((which.Claims, claims) ∷ []) rest e in

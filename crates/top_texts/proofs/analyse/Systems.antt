@@ -10,16 +10,18 @@ use Rattle.flow_systems.specs.declared.system.System.{System}
 use Rattle.ask_words.specs.declared.request.Domain.{Domain}
 use Rattle.top_texts.specs.Outcomes.{HasNoSystemOver, HasSystemOver}
 use Rattle.top_texts.specs.Rounds.{IsSystemFor}
-use Rattle.top_texts.specs.Texts.{HasCore, HasTemplate, IsSolvedSystem, Program, unknowns}
+use Rattle.top_texts.specs.Texts.{HasCore, HasGroups, HasTemplateBy, IsSolvedSystem, Program, Serve, unknowns}
+use Rattle.top_texts.proofs.texts.Readings.{template_served}
 use Rattle.top_texts.specs.declared.refusal.Refusal.{Refusal}
 use Rattle.top_texts.specs.declared.refusal.Refusal.TheVariants.{Text}
 use Rattle.top_status.specs.declared.status.TextCause.TheVariants.{Unknowns}
 use Rattle.flow_systems.specs.declared.limits.TheConstants.{MOST_UNKNOWNS}
 
-module _ (rows : Domain (List ℕ)) (names : List (List ℕ)) (body : Statements) (flow : Flow) (template : List (List ℤ)) (s : System)
+module _ (groups : List (List ℕ)) (rows : Domain (List ℕ)) (names : List (List ℕ)) (body : Statements) (flow : Flow)
+    (template : List (List ℤ)) (s : System)
     (flows : fault_of_program body ≡ None) (names_are : flow.names ≡ names) (points_are : flow.points ≡ points_of_program body)
     (edges_are : flow.edges ≡ edges_of_program body)
-    (given : HasTemplate rows names (Ok template)) (flow_is : s.flow ≡ flow) (template_is : s.template ≡ template)
+    (given : HasTemplateBy groups rows names (Ok template)) (flow_is : s.flow ≡ flow) (template_is : s.template ≡ template)
     (within : length flow.points * length template ≤ MOST_UNKNOWNS) where
   -- the system is the one for the core and the template
   pub system_for : IsSystemFor names body template s
@@ -34,16 +36,17 @@ module _ (rows : Domain (List ℕ)) (names : List (List ℕ)) (body : Statements
   few = subst (λ ps. length ps * length template ≤ MOST_UNKNOWNS) points_are within
 
   -- a system with few enough unknowns is that of the core over the rows
-  pub system_over : HasSystemOver rows names body s
+  pub system_over : HasSystemOver groups rows names body s
   system_over = record { flows = flows; template = template; template_is = given; within = few; system_for = system_for }
 
 -- with more unknowns there is no system
-pub too_many : (rows : Domain (List ℕ)) (names : List (List ℕ)) (body : Statements) (flow : Flow) (template : List (List ℤ)) (r : Refusal)
-    → fault_of_program body ≡ None → flow.points ≡ points_of_program body → HasTemplate rows names (Ok template)
+pub too_many : (groups : List (List ℕ)) (rows : Domain (List ℕ)) (names : List (List ℕ)) (body : Statements) (flow : Flow)
+    (template : List (List ℤ)) (r : Refusal)
+    → fault_of_program body ≡ None → flow.points ≡ points_of_program body → HasTemplateBy groups rows names (Ok template)
     → MOST_UNKNOWNS < length flow.points * length template → r ≡ Text (Unknowns (length flow.points * length template))
-    → HasNoSystemOver rows names body r
-too_many rows names body flow template r flows points given many is =
-    subst (λ (x : Refusal). HasNoSystemOver rows names body x) (sym is) (inr (
+    → HasNoSystemOver groups rows names body r
+too_many groups rows names body flow template r flows points given many is =
+    subst (λ (x : Refusal). HasNoSystemOver groups rows names body x) (sym is) (inr (
       flows,
       (
         template,
@@ -54,14 +57,18 @@ too_many rows names body flow template r flows points given many is =
     ))
 
 -- it is that of the program
-abbrev pub solved_system : (program : Program) (rows : Domain (List ℕ)) (names : List (List ℕ)) (body : Statements) (s : System)
-    → HasCore program names body → HasSystemOver rows names body s → IsSolvedSystem program rows s
-solved_system program rows names body s core over = record {
+abbrev pub solved_system : (program : Program) (groups : List (List ℕ)) (rows : Domain (List ℕ)) (names : List (List ℕ))
+    (body : Statements) (s : System) → HasCore program names body → Serve (HasGroups program names) rows groups
+    → HasSystemOver groups rows names body s → IsSolvedSystem program rows s
+solved_system program groups rows names body s core serve over = record {
   names = names;
   body = body;
   template = over.template;
   ready = record {
-    system = record { analysed = record { has_core = core; within = over.flows }; template_is = over.template_is };
+    system = record {
+      analysed = record { has_core = core; within = over.flows };
+      template_is = template_served (HasGroups program names) rows names groups (Ok over.template) serve over.template_is;
+    };
     within = over.within;
   };
   system_for = over.system_for;

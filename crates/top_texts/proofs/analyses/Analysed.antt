@@ -123,8 +123,9 @@ template_once : (program : Program) (rows : Domain (List ℕ)) (s t : System) �
 template_once program rows s t a b =
     let same = program_once program (a.names, a.body) (b.names, b.body) a.ready.system.analysed.has_core b.ready.system.analysed.has_core in
     a.system_for.template_is
-    ∙ rows_once rows b.names a.template b.template (subst (λ (p : List (List ℕ) × Statements). HasTemplate rows p.0 (Ok a.template)) same
-    a.ready.system.template_is) b.ready.system.template_is
+    ∙ rows_once program rows b.names a.template b.template
+    (subst (λ (p : List (List ℕ) × Statements). HasTemplate program rows p.0 (Ok a.template)) same a.ready.system.template_is)
+    b.ready.system.template_is
     ∙ sym b.system_for.template_is
 
 -- the row count of a system's analysis is that of its texts

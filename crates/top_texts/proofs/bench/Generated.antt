@@ -1,7 +1,7 @@
 -- The core that a generated text reads as is the generated one: it has the generated system, and is refused by no cause.
 use Rattle.std.proofs.Common.{◌≡◌, ◌∙◌, ⊎_elim, ℕ, ◌≤◌, ◌<◌, List, length, sym, ap, subst, arith}
 use Rattle.std.specs.Prelude.{ℤ, Ok, Err, None, Option, Some, Result}
-use Rattle.base_limits.specs.declared.limits.TheConstants.{MOST_LOOPS}
+use Rattle.base_limits.specs.declared.limits.TheConstants.{MOST_BENCH_IMPROVEMENTS, MOST_LOOPS}
 use Rattle.lang_tokens.specs.declared.lexicon.Lexicon.TheVariants.{Own}
 use Rattle.lang_tokens.proofs.reading.Once.{one_token_list}
 use Rattle.lang_grammar.specs.View.{tokens_of}
@@ -72,17 +72,17 @@ module _ (law : GeneratedTextsRead) (seed loops : ℕ) (few : loops ≤ MOST_LOO
   reading : ReadsAs (generated_text seed loops) (Ok (generated_names, generated_body seed loops))
   reading = let l = law seed loops few in (l.tokens, l.reads, l.means)
 
-  -- a joint problem is of one point, and so none is too large
-  small : (system : System) → IsGenerated seed loops system → (excess : Excess) → HasExcess Report system Best 1000 excess
-      → IsOnlyWide (λ spot. HasExcess Report system Best 1000 (Wide spot)) excess
+  -- six rows, three variables and four actions of an edge give no joint problem that is too large
+  small : (system : System) → IsGenerated seed loops system → (excess : Excess)
+      → HasExcess Report system Best MOST_BENCH_IMPROVEMENTS excess
+      → IsOnlyWide (λ spot. HasExcess Report system Best MOST_BENCH_IMPROVEMENTS (Wide spot)) excess
   small system made (Wide spot) h = h
   small system made (Large cells) h =
       let same = equations_are generated_names (generated_body seed loops) (intervals_of 3) system made.system_for in
       let edges : Each LeadsOn system.flow.edges = subst (Each LeadsOn) (sym (ap (λ (q : Equations). q.edges) same))
       (law seed loops few).edges in
-      none_large system (rule_of Best) 1000 cells (ap (λ (q : Equations). length q.template) same)
+      none_large system (rule_of Best) MOST_BENCH_IMPROVEMENTS cells (ap (λ (q : Equations). length q.template) same)
       (ap (λ (q : Equations). q.variables) same)
-      (each_weaker LeadsOn (λ e. e.from ≤ e.to) (λ e l. l.on) system.flow.edges edges)
       (each_weaker LeadsOn (λ e. length e.actions ≤ 4) (λ e l. l.few) system.flow.edges edges) h
 
   -- ---- the generated core is refused by no cause
@@ -104,29 +104,29 @@ module _ (law : GeneratedTextsRead) (seed loops : ℕ) (few : loops ≤ MOST_LOO
   flows (refusal.Spent n) h = absurd h
   flows refusal.NoMemory h = tt
 
-  has_rows : (r : Refusal) → HasNoRows Intervals generated_names (generated_body seed loops) r
+  has_rows : (groups : List (List ℕ)) (r : Refusal) → HasNoRows groups Intervals generated_names (generated_body seed loops) r
       → IsUnanswered (bench_question exact seed loops) r
-  has_rows (refusal.Text (why.Lex f)) h = h
-  has_rows (refusal.Text (why.Source f)) h = h
-  has_rows (refusal.Text (why.Flow f)) h = h
-  has_rows (refusal.Text (why.Rows f)) h = faulty_rows f (intervals_of 3) h
-  has_rows (refusal.Text (why.Unknowns n)) (template, is, many, count) =
+  has_rows groups (refusal.Text (why.Lex f)) h = h
+  has_rows groups (refusal.Text (why.Source f)) h = h
+  has_rows groups (refusal.Text (why.Flow f)) h = h
+  has_rows groups (refusal.Text (why.Rows f)) h = faulty_rows f (intervals_of 3) h
+  has_rows groups (refusal.Text (why.Unknowns n)) (template, is, many, count) =
       let beyond = subst (λ t. MOST_UNKNOWNS < unknowns (generated_body seed loops) t) (same_rows template (intervals_of 3) is) many in
       absurd (omega (arith, beyond, not_many))
-  has_rows (refusal.Text (why.Claims f)) h = h
-  has_rows (refusal.Text (why.Equ f)) h = h
-  has_rows (refusal.Text (why.Auto f)) h = h
-  has_rows (refusal.Certificate cause) h = absurd h
-  has_rows (refusal.Exceeded excess) h = absurd h
-  has_rows (refusal.Spent n) h = absurd h
-  has_rows refusal.NoMemory h = tt
+  has_rows groups (refusal.Text (why.Claims f)) h = h
+  has_rows groups (refusal.Text (why.Equ f)) h = h
+  has_rows groups (refusal.Text (why.Auto f)) h = h
+  has_rows groups (refusal.Certificate cause) h = absurd h
+  has_rows groups (refusal.Exceeded excess) h = absurd h
+  has_rows groups (refusal.Spent n) h = absurd h
+  has_rows groups refusal.NoMemory h = tt
 
-  module _ (names : List (List ℕ)) (body : Statements) (reads : ReadsAs (generated_text seed loops) (Ok (names, body))) where
+  module _ (groups names : List (List ℕ)) (body : Statements) (reads : ReadsAs (generated_text seed loops) (Ok (names, body))) where
     same : ◌≡◌ {A = List (List ℕ) × Statements} (names, body) (generated_names, generated_body seed loops)
     same = reads_once (generated_text seed loops) (names, body) (generated_names, generated_body seed loops) reads reading
 
     -- the system of the text is that of the generated program
-    pub generated : (system : System) → HasSystemOver Intervals names body system → IsGenerated seed loops system
+    pub generated : (system : System) → HasSystemOver groups Intervals names body system → IsGenerated seed loops system
     generated system over =
         let rows : over.template ≡ intervals_of 3 = same_rows over.template (intervals_of 3)
         (over.template_is ∙ ap (λ (p : List (List ℕ) × Statements). given (Ok (intervals_of (length p.0)))) same) in
@@ -137,20 +137,20 @@ module _ (law : GeneratedTextsRead) (seed loops : ℕ) (few : loops ≤ MOST_LOO
         }
 
     -- the text of a generated program is refused by no cause
-    pub unread : (r : Refusal) → HasNoSystemOver Intervals names body r → IsUnanswered (bench_question exact seed loops) r
-    unread r h = ⊎_elim (λ f. flows r f) (λ n. has_rows r n.1)
-        (subst (λ (p : List (List ℕ) × Statements). HasNoSystemOver Intervals p.0 p.1 r) same h)
+    pub unread : (r : Refusal) → HasNoSystemOver groups Intervals names body r → IsUnanswered (bench_question exact seed loops) r
+    unread r h = ⊎_elim (λ f. flows r f) (λ n. has_rows groups r n.1)
+        (subst (λ (p : List (List ℕ) × Statements). HasNoSystemOver groups Intervals p.0 p.1 r) same h)
 
     -- rounds of a generated program that halt leave its question unanswered
-    pub unended : (system : System) (r : Refusal) → HasSystemOver Intervals names body system
-        → IsHalted Report system Best 1000 r → IsUnanswered (bench_question exact seed loops) r
+    pub unended : (system : System) (r : Refusal) → HasSystemOver groups Intervals names body system
+        → IsHalted Report system Best MOST_BENCH_IMPROVEMENTS r → IsUnanswered (bench_question exact seed loops) r
     unended system r is h =
         let made = generated system is in
         halted (bench_question exact seed loops) Report system made (small system made) r h
 
     -- the summary of the rounds is that of the generated program
     pub summed : (system : System) (solved : Solved) (count : ℕ) (bytes : List ℕ)
-        → HasSystemOver Intervals names body system → IsSolved system (rule_of Best) 1000 solved
+        → HasSystemOver groups Intervals names body system → IsSolved system (rule_of Best) MOST_BENCH_IMPROVEMENTS solved
         → Least (equations_of system) (vector_of (length system.template) solved.bounds) → count ≡ length (generated_text seed loops)
         → bytes ≡ summary_of seed loops count system (vector_of (length system.template) solved.bounds) solved.improvements
         → IsSummaryOf seed loops bytes
@@ -161,7 +161,7 @@ module _ (law : GeneratedTextsRead) (seed loops : ℕ) (few : loops ≤ MOST_LOO
           generated = made;
           rounds = solved.improvements;
           within = solution.within;
-          has_rounds = solved_rounds system Best 1000 solved solution;
+          has_rounds = solved_rounds system Best MOST_BENCH_IMPROVEMENTS solved solution;
           vector = vector_of (length system.template) solved.bounds;
           least = subst (λ q. Least q (vector_of (length system.template) solved.bounds))
               (equations_are generated_names (generated_body seed loops) (intervals_of 3) system made.system_for) least;

@@ -27,7 +27,7 @@ use Rattle.top_texts.specs.Outcomes.{AreUnverified, HasSystemOver, IsHalted, IsR
 use Rattle.top_texts.specs.Policies.{rule_of}
 use Rattle.top_texts.specs.Questions.{checks_question}
 use Rattle.top_texts.specs.Spots.{IsWideOn}
-use Rattle.top_texts.specs.Texts.{HasCore, Program}
+use Rattle.top_texts.specs.Texts.{HasCore, HasGroups, Program, Serve}
 use Rattle.top_texts.specs.declared.refusal.Refusal.{Refusal}
 use Rattle.top_texts.specs.declared.refusal.Refusal.TheVariants as refusal
 use Rattle.top_status.specs.declared.status.Excess.TheVariants.{Wide, Large}
@@ -39,11 +39,12 @@ use Rattle.top_texts.proofs.rounds.OneChain.{solved_rounds}
 use Rattle.top_texts.proofs.texts.Once.{equations_are, rows_over}
 
 -- the system of a program has the checks of its core
-pub has_checks : (program : Program) (rows : Domain (List ℕ)) (names : List (List ℕ)) (body : Statements) (s : System)
-    (checks : List CheckCases) → HasCore program names body → HasSystemOver rows names body s → checks ≡ checks_of_program body
-    → IsTrue (is_program (length names) body) → HasChecks program rows s checks
-has_checks program rows names body s checks core over are within = record {
-  solved = solved_system program rows names body s core over;
+pub has_checks : (program : Program) (groups : List (List ℕ)) (rows : Domain (List ℕ)) (names : List (List ℕ)) (body : Statements)
+    (s : System) (checks : List CheckCases) → HasCore program names body → Serve (HasGroups program names) rows groups
+    → HasSystemOver groups rows names body s → checks ≡ checks_of_program body → IsTrue (is_program (length names) body)
+    → HasChecks program rows s checks
+has_checks program groups rows names body s checks core serve over are within = record {
+  solved = solved_system program groups rows names body s core serve over;
   checks_are = are;
   within = within;
 }

@@ -82,8 +82,9 @@ program_moves : (program : Program) (rows : Domain (List ℕ)) (s t : System) (q
 program_moves program rows s t q p P h =
     let same = program_once program (q.names, q.body) (p.names, p.body) q.ready.system.analysed.has_core p.ready.system.analysed.has_core in
     let template : q.template ≡ p.template =
-    rows_once rows p.names q.template p.template (subst (λ (x : List (List ℕ) × Statements). HasTemplate rows x.0 (Ok q.template)) same
-    q.ready.system.template_is) p.ready.system.template_is in
+    rows_once program rows p.names q.template p.template
+    (subst (λ (x : List (List ℕ) × Statements). HasTemplate program rows x.0 (Ok q.template)) same q.ready.system.template_is)
+    p.ready.system.template_is in
     subst (λ ts. P p.names p.body ts) template (subst (λ (x : List (List ℕ) × Statements). P x.0 x.1 q.template) same h)
 
 -- the edges of a program go from its points

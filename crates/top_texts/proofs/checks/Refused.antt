@@ -1,6 +1,6 @@
 -- Refusals, from one stage to the next.
 use Rattle.std.proofs.Common.{◌≡◌, ⊎_elim, ℕ, List, refl, ap, ◌∙◌}
-use Rattle.std.specs.Prelude.{None, Some}
+use Rattle.std.specs.Prelude.{None, Some, Ok, Err}
 use Rattle.lang_tree.specs.Tree.{Statements}
 use Rattle.flow_systems.specs.declared.spot.Spot.{Spot}
 use Rattle.flow_systems.specs.Equations.{Equations}
@@ -20,7 +20,8 @@ use Rattle.top_status.specs.Messages.{line_in}
 use Rattle.top_texts.specs.Outcomes.{GetsNoReport, HasNoFlow, HasNoRows, HasNoSystemOver, IsAnswerToCheck, IsMisspelt, IsNoSystem}
 use Rattle.top_texts.specs.Outcomes.{IsRefusedBy, IsUnaccepted, IsUnread, IsUnspelt}
 use Rattle.top_texts.specs.Outcomes.{refused}
-use Rattle.top_texts.specs.Texts.{HasCore, IsAnalysed, Program}
+use Rattle.top_texts.specs.Texts.{HasCore, HasGroups, IsAnalysed, Program, Serve}
+use Rattle.top_texts.proofs.texts.Readings.{template_served}
 use Rattle.top_texts.specs.declared.refusal.Refusal.{Refusal}
 use Rattle.top_texts.specs.declared.refusal.Refusal.TheVariants as refusal
 use Rattle.top_status.specs.declared.status.TextCause.TheVariants as text
@@ -80,28 +81,35 @@ flowless_unread t names body (refusal.Exceeded excess) c h = absurd h
 flowless_unread t names body (refusal.Spent k) c h = absurd h
 flowless_unread t names body refusal.NoMemory c h = tt
 
-rowless_refused : (t : Program) (rows : Domain (List ℕ)) (names : List (List ℕ)) (body : Statements) (r : Refusal) → IsAnalysed t names body
-    → HasNoRows rows names body r → IsRefusedBy t rows r
-rowless_refused t rows names body (refusal.Text (text.Lex f)) a h = absurd h
-rowless_refused t rows names body (refusal.Text (text.Source f)) a h = absurd h
-rowless_refused t rows names body (refusal.Text (text.Flow f)) a h = absurd h
-rowless_refused t rows names body (refusal.Text (text.Rows f)) a h = (names, body, a, h)
-rowless_refused t rows names body (refusal.Text (text.Unknowns n)) a (template, is, many, count) =
-    (names, body, template, record { analysed = a; template_is = is }, many, count)
-rowless_refused t rows names body (refusal.Text (text.Claims f)) a h = absurd h
-rowless_refused t rows names body (refusal.Text (text.Equ f)) a h = absurd h
-rowless_refused t rows names body (refusal.Text (text.Auto f)) a h = absurd h
-rowless_refused t rows names body (refusal.Certificate f) a h = absurd h
-rowless_refused t rows names body (refusal.Exceeded excess) a h = absurd h
-rowless_refused t rows names body (refusal.Spent k) a h = absurd h
-rowless_refused t rows names body refusal.NoMemory a h = tt
+module _ (t : Program) (groups : List (List ℕ)) (rows : Domain (List ℕ)) (names : List (List ℕ)) (body : Statements)
+    (serve : Serve (HasGroups t names) rows groups) where
+  rowless_refused : (r : Refusal) → IsAnalysed t names body → HasNoRows groups rows names body r → IsRefusedBy t rows r
+  rowless_refused (refusal.Text (text.Lex f)) a h = absurd h
+  rowless_refused (refusal.Text (text.Source f)) a h = absurd h
+  rowless_refused (refusal.Text (text.Flow f)) a h = absurd h
+  rowless_refused (refusal.Text (text.Rows f)) a h =
+      (names, body, a, template_served (HasGroups t names) rows names groups (Err f) serve h)
+  rowless_refused (refusal.Text (text.Unknowns n)) a (template, is, many, count) = (
+    names,
+    body,
+    template,
+    record { analysed = a; template_is = template_served (HasGroups t names) rows names groups (Ok template) serve is },
+    many,
+    count,
+  )
+  rowless_refused (refusal.Text (text.Claims f)) a h = absurd h
+  rowless_refused (refusal.Text (text.Equ f)) a h = absurd h
+  rowless_refused (refusal.Text (text.Auto f)) a h = absurd h
+  rowless_refused (refusal.Certificate f) a h = absurd h
+  rowless_refused (refusal.Exceeded excess) a h = absurd h
+  rowless_refused (refusal.Spent k) a h = absurd h
+  rowless_refused refusal.NoMemory a h = tt
 
--- a program whose core has no system is refused
-pub systemless_refused : (t : Program) (rows : Domain (List ℕ)) (names : List (List ℕ)) (body : Statements) (r : Refusal)
-    → HasCore t names body → HasNoSystemOver rows names body r → IsRefusedBy t rows r
-systemless_refused t rows names body r c h =
-    ⊎_elim (λ f. unread_refuses t rows r (flowless_unread t names body r c f))
-    (λ n. rowless_refused t rows names body r (record { has_core = c; within = n.0 }) n.1) h
+  -- a program whose core has no system is refused
+  pub systemless_refused : (r : Refusal) → HasCore t names body → HasNoSystemOver groups rows names body r → IsRefusedBy t rows r
+  systemless_refused r c h =
+      ⊎_elim (λ f. unread_refuses t rows r (flowless_unread t names body r c f))
+      (λ n. rowless_refused r (record { has_core = c; within = n.0 }) n.1) h
 
 -- ---- the form of a certificate
 

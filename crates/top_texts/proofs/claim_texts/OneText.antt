@@ -90,8 +90,9 @@ verdicts_once program rows given policy limit format one other a b =
     let q = b.solved in
     let same = program_once program (q.names, q.body) (p.names, p.body) q.ready.system.analysed.has_core p.ready.system.analysed.has_core in
     let template : q.template ≡ p.template =
-    rows_once rows p.names q.template p.template (subst (λ (x : List (List ℕ) × Statements). HasTemplate rows x.0 (Ok q.template)) same
-    q.ready.system.template_is) p.ready.system.template_is in
+    rows_once program rows p.names q.template p.template
+    (subst (λ (x : List (List ℕ) × Statements). HasTemplate program rows x.0 (Ok q.template)) same q.ready.system.template_is)
+    p.ready.system.template_is in
     let claims : AreClaimsOf given p.names (points_of_program p.body) b.claims =
     subst (λ (x : List (List ℕ) × Statements). AreClaimsOf given x.0 (points_of_program x.1) b.claims) same b.claims_are in
     let least : AreLeastVerdicts exact p.names p.body p.template b.vector b.claims b.rounds format other =

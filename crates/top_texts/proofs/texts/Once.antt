@@ -57,20 +57,22 @@ last_once names body template o p (few h e) (few k i) = e ∙ sym i
 -- ---- the stages before
 
 -- the rows have a fault, or are a template
-data RowsStage (rows : Domain (List ℕ)) (names : List (List ℕ)) (body : Statements) (o : Option TextCause) : Type 0 where
-  faulty : (f : RowFault) → HasTemplate rows names (Err f) → o ≡ Some (Rows f) → RowsStage rows names body o
-  given : (template : List (List ℤ)) → HasTemplate rows names (Ok template) → LastStage names body template o → RowsStage rows names body o
+data RowsStage (program : Program) (rows : Domain (List ℕ)) (names : List (List ℕ)) (body : Statements) (o : Option TextCause)
+    : Type 0 where
+  faulty : (f : RowFault) → HasTemplate program rows names (Err f) → o ≡ Some (Rows f) → RowsStage program rows names body o
+  given : (template : List (List ℤ)) → HasTemplate program rows names (Ok template) → LastStage names body template o
+      → RowsStage program rows names body o
 
 -- the core has no points and edges within the limits, or has them
-data FlowStage (rows : Domain (List ℕ)) (p : List (List ℕ) × Statements) (o : Option TextCause) : Type 0 where
-  wide : (f : FlowFault) → fault_of_program p.1 ≡ Some f → o ≡ Some (Flow f) → FlowStage rows p o
-  fits : fault_of_program p.1 ≡ None → RowsStage rows p.0 p.1 o → FlowStage rows p o
+data FlowStage (program : Program) (rows : Domain (List ℕ)) (p : List (List ℕ) × Statements) (o : Option TextCause) : Type 0 where
+  wide : (f : FlowFault) → fault_of_program p.1 ≡ Some f → o ≡ Some (Flow f) → FlowStage program rows p o
+  fits : fault_of_program p.1 ≡ None → RowsStage program rows p.0 p.1 o → FlowStage program rows p o
 
 -- the program has a fault, or a core
 data TextStage (program : Program) (rows : Domain (List ℕ)) (o : Option TextCause) : Type 0 where
   unlexed : (f : LexFault) → HasFault C program.text f → o ≡ Some (Lex f) → TextStage program rows o
   unmeant : (f : SourceFault) → Reading program (Err f) → o ≡ Some (InSource f) → TextStage program rows o
-  has_core : (p : List (List ℕ) × Statements) → HasCore program p.0 p.1 → FlowStage rows p o → TextStage program rows o
+  has_core : (p : List (List ℕ) × Statements) → HasCore program p.0 p.1 → FlowStage program rows p o → TextStage program rows o
 
 some_none : (f : FlowFault) (o : Option FlowFault) → o ≡ Some f → o ≡ None → ⊥
 some_none f o h k = cc
@@ -78,20 +80,21 @@ some_none f o h k = cc
 some_some : (f g : FlowFault) (o : Option FlowFault) → o ≡ Some f → o ≡ Some g → f ≡ g
 some_some f g o h k = cc
 
-rows_once_by : (rows : Domain (List ℕ)) (names : List (List ℕ)) (body : Statements) (o p : Option TextCause) → RowsStage rows names body o
-    → RowsStage rows names body p → o ≡ p
-rows_once_by rows names body o p (faulty f h e) (faulty g k i) = e ∙ ap (λ x. Some (Rows x)) (row_fault_once rows names f g h k) ∙ sym i
-rows_once_by rows names body o p (faulty f h e) (given u k i) = absurd (not_rows rows names f u h k)
-rows_once_by rows names body o p (given u h e) (faulty f k i) = absurd (not_rows rows names f u k h)
-rows_once_by rows names body o p (given u h e) (given v k i) =
-    last_once names body u o p e (subst (λ x. LastStage names body x p) (sym (rows_once rows names u v h k)) i)
+module _ (program : Program) (rows : Domain (List ℕ)) where
+  rows_stage_once : (names : List (List ℕ)) (body : Statements) (o p : Option TextCause) → RowsStage program rows names body o
+      → RowsStage program rows names body p → o ≡ p
+  rows_stage_once names body o p (faulty f h e) (faulty g k i) =
+      e ∙ ap (λ x. Some (Rows x)) (row_fault_once program rows names f g h k) ∙ sym i
+  rows_stage_once names body o p (faulty f h e) (given u k i) = absurd (not_rows program rows names f u h k)
+  rows_stage_once names body o p (given u h e) (faulty f k i) = absurd (not_rows program rows names f u k h)
+  rows_stage_once names body o p (given u h e) (given v k i) =
+      last_once names body u o p e (subst (λ x. LastStage names body x p) (sym (rows_once program rows names u v h k)) i)
 
-flow_once : (rows : Domain (List ℕ)) (p : List (List ℕ) × Statements) (o q : Option TextCause) → FlowStage rows p o → FlowStage rows p q
-    → o ≡ q
-flow_once rows p o q (wide f h e) (wide g k i) = e ∙ ap (λ x. Some (Flow x)) (some_some f g (fault_of_program p.1) h k) ∙ sym i
-flow_once rows p o q (wide f h e) (fits k i) = absurd (some_none f (fault_of_program p.1) h k)
-flow_once rows p o q (fits h e) (wide f k i) = absurd (some_none f (fault_of_program p.1) k h)
-flow_once rows p o q (fits h e) (fits k i) = rows_once_by rows p.0 p.1 o q e i
+  flow_once : (p : List (List ℕ) × Statements) (o q : Option TextCause) → FlowStage program rows p o → FlowStage program rows p q → o ≡ q
+  flow_once p o q (wide f h e) (wide g k i) = e ∙ ap (λ x. Some (Flow x)) (some_some f g (fault_of_program p.1) h k) ∙ sym i
+  flow_once p o q (wide f h e) (fits k i) = absurd (some_none f (fault_of_program p.1) h k)
+  flow_once p o q (fits h e) (wide f k i) = absurd (some_none f (fault_of_program p.1) k h)
+  flow_once p o q (fits h e) (fits k i) = rows_stage_once p.0 p.1 o q e i
 
 text_once : (program : Program) (rows : Domain (List ℕ)) (o q : Option TextCause) → TextStage program rows o → TextStage program rows q
     → o ≡ q
@@ -104,7 +107,7 @@ text_once program rows o q (unmeant f h e) (has_core p k i) = absurd (not_both p
 text_once program rows o q (has_core p h e) (unlexed g k i) = absurd (no_fault C program.text _ g h.reading.1 k)
 text_once program rows o q (has_core p h e) (unmeant g k i) = absurd (not_both program g p.0 p.1 k h)
 text_once program rows o q (has_core p h e) (has_core r k i) =
-    flow_once rows p o q e (subst (λ x. FlowStage rows x q) (sym (program_once program p r h k)) i)
+    flow_once program rows p o q e (subst (λ x. FlowStage program rows x q) (sym (program_once program p r h k)) i)
 
 -- ---- what is refused, and what is a system, by stages
 
@@ -153,8 +156,9 @@ pub solved_once : (program : Program) (rows : Domain (List ℕ)) (s t : System) 
 solved_once program rows s t a b =
     let same = program_once program (a.names, a.body) (b.names, b.body) a.ready.system.analysed.has_core b.ready.system.analysed.has_core in
     let template : a.template ≡ b.template =
-    rows_once rows b.names a.template b.template (subst (λ (p : List (List ℕ) × Statements). HasTemplate rows p.0 (Ok a.template)) same
-    a.ready.system.template_is) b.ready.system.template_is in
+    rows_once program rows b.names a.template b.template
+    (subst (λ (p : List (List ℕ) × Statements). HasTemplate program rows p.0 (Ok a.template)) same a.ready.system.template_is)
+    b.ready.system.template_is in
     equations_are a.names a.body a.template s a.system_for
     ∙ ap (λ (p : List (List ℕ) × Statements). equations_of_program (length p.0) p.1 a.template) same
     ∙ ap (λ r. equations_of_program (length b.names) b.body r) template

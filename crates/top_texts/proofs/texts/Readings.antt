@@ -14,9 +14,14 @@ use Rattle.source_file.specs.declared.fault.SourceFault.{SourceFault}
 use Rattle.source_file.proofs.meaning.Once.{means_once}
 use Rattle.flow_templates.specs.declared.fault.RowFault.{RowFault}
 use Rattle.flow_templates.proofs.row_files.OneAnswer.{one_answer}
+use Rattle.flow_templates.specs.Domains.{ready}
+use Rattle.flow_packs.proofs.pairs.Together.{packs_same}
+use Rattle.lang_groups.specs.Groups.{SameTogether}
+use Rattle.source_groups.specs.Grouping.{AreGroups}
+use Rattle.source_groups.proofs.Once.{grouping_once}
 use Rattle.ask_words.specs.declared.request.Domain.{Domain}
-use Rattle.ask_words.specs.declared.request.Domain.TheVariants.{Intervals, Zones, Octagons, Rows}
-use Rattle.top_texts.specs.Texts.{HasCore, HasTemplate, Program, Reading}
+use Rattle.ask_words.specs.declared.request.Domain.TheVariants.{Intervals, Zones, Octagons, Packs, Rows}
+use Rattle.top_texts.specs.Texts.{HasCore, HasGroups, HasTemplate, HasTemplateBy, IsTemplate, Program, Reading, Serve}
 
 abbrev answered : Answer → Answer
 answered a = a
@@ -68,13 +73,36 @@ pub not_both : (program : Program) (f : SourceFault) (names : List (List ℕ)) (
 not_both program f names body h k =
     err_ok f (names, k.statements) (reading_once program (Err f) (Ok (names, k.statements)) h k.reading)
 
--- a domain has one template
-pub template_once : (rows : Domain (List ℕ)) (names : List (List ℕ)) (x y : Result (List (List ℤ)) RowFault) → HasTemplate rows names x
-    → HasTemplate rows names y → x ≡ y
-template_once Intervals names x y h k = h ∙ sym k
-template_once Zones names x y h k = h ∙ sym k
-template_once Octagons names x y h k = h ∙ sym k
-template_once (Rows text) names x y h k = one_answer names text x y h k
+-- by any groups of a program the same variables are together
+groups_once : (program : Program) (names one other : List (List ℕ)) → HasGroups program names one → HasGroups program names other
+    → SameTogether one other
+groups_once program names one other (ts, r, m) (us, s, n) =
+    let last = end_at (length program.text) ∷ [] in
+    let same : us ≡ ts = append_cancel_right us ts last (one_token_list C program.text (us ++ last) (ts ++ last) s r) in
+    grouping_once program.integers program.text program.function ts names one other m
+    (subst (λ ws. AreGroups program.integers program.text program.function ws names other) same n)
+
+-- a domain has one template, where by any groups the same variables are together
+pub template_once : (HasGroups : List (List ℕ) → Type 0)
+    → ((one other : List (List ℕ)) → HasGroups one → HasGroups other → SameTogether one other)
+    → (rows : Domain (List ℕ)) (names : List (List ℕ)) (x y : Result (List (List ℤ)) RowFault) → IsTemplate HasGroups rows names x
+    → IsTemplate HasGroups rows names y → x ≡ y
+template_once HasGroups once Intervals names x y h k = h ∙ sym k
+template_once HasGroups once Zones names x y h k = h ∙ sym k
+template_once HasGroups once Octagons names x y h k = h ∙ sym k
+template_once HasGroups once Packs names x y (one, p, h) (other, q, k) =
+    h ∙ ap (λ rows. ready rows) (packs_same (length names) one other (once one other p q)) ∙ sym k
+template_once HasGroups once (Rows text) names x y h k = one_answer names text x y h k
+
+-- groups that serve a domain give its template
+pub template_served : (HasGroups : List (List ℕ) → Type 0) (rows : Domain (List ℕ)) (names groups : List (List ℕ))
+    (answer : Result (List (List ℤ)) RowFault) → Serve HasGroups rows groups → HasTemplateBy groups rows names answer
+    → IsTemplate HasGroups rows names answer
+template_served HasGroups Intervals names groups answer s h = h
+template_served HasGroups Zones names groups answer s h = h
+template_served HasGroups Octagons names groups answer s h = h
+template_served HasGroups Packs names groups answer s (given, e, h) = (given, subst HasGroups (sym e) s, h)
+template_served HasGroups (Rows text) names groups answer s h = h
 
 abbrev rows_answer : Result (List (List ℤ)) RowFault → Result (List (List ℤ)) RowFault
 rows_answer a = a
@@ -88,17 +116,34 @@ faulty_once f g e = cc
 faulty_given : (f : RowFault) (t : List (List ℤ)) → rows_answer (Err f) ≡ rows_answer (Ok t) → ⊥
 faulty_given f t e = cc
 
--- a domain has one template over given variables
-pub rows_once : (rows : Domain (List ℕ)) (names : List (List ℕ)) (t u : List (List ℤ)) → HasTemplate rows names (Ok t)
-    → HasTemplate rows names (Ok u) → t ≡ u
-rows_once rows names t u h k = given_once t u (template_once rows names (Ok t) (Ok u) h k)
+module _ (HasGroups : List (List ℕ) → Type 0)
+    (once : (one other : List (List ℕ)) → HasGroups one → HasGroups other → SameTogether one other) where
+  -- a domain has one template over given variables
+  pub rows_once_by : (rows : Domain (List ℕ)) (names : List (List ℕ)) (t u : List (List ℤ)) → IsTemplate HasGroups rows names (Ok t)
+      → IsTemplate HasGroups rows names (Ok u) → t ≡ u
+  rows_once_by rows names t u h k = given_once t u (template_once HasGroups once rows names (Ok t) (Ok u) h k)
 
--- a domain has one fault over given variables
-pub row_fault_once : (rows : Domain (List ℕ)) (names : List (List ℕ)) (f g : RowFault) → HasTemplate rows names (Err f)
-    → HasTemplate rows names (Err g) → f ≡ g
-row_fault_once rows names f g h k = faulty_once f g (template_once rows names (Err f) (Err g) h k)
+  -- a domain has one fault over given variables
+  pub row_fault_once_by : (rows : Domain (List ℕ)) (names : List (List ℕ)) (f g : RowFault) → IsTemplate HasGroups rows names (Err f)
+      → IsTemplate HasGroups rows names (Err g) → f ≡ g
+  row_fault_once_by rows names f g h k = faulty_once f g (template_once HasGroups once rows names (Err f) (Err g) h k)
 
--- a domain that has a fault has no template
-pub not_rows : (rows : Domain (List ℕ)) (names : List (List ℕ)) (f : RowFault) (t : List (List ℤ)) → HasTemplate rows names (Err f)
-    → HasTemplate rows names (Ok t) → ⊥
-not_rows rows names f t h k = faulty_given f t (template_once rows names (Err f) (Ok t) h k)
+  -- a domain that has a fault has no template
+  pub not_rows_by : (rows : Domain (List ℕ)) (names : List (List ℕ)) (f : RowFault) (t : List (List ℤ))
+      → IsTemplate HasGroups rows names (Err f) → IsTemplate HasGroups rows names (Ok t) → ⊥
+  not_rows_by rows names f t h k = faulty_given f t (template_once HasGroups once rows names (Err f) (Ok t) h k)
+
+-- a program has one template of a domain over given variables
+pub rows_once : (program : Program) (rows : Domain (List ℕ)) (names : List (List ℕ)) (t u : List (List ℤ))
+    → HasTemplate program rows names (Ok t) → HasTemplate program rows names (Ok u) → t ≡ u
+rows_once program rows names t u h k = rows_once_by (HasGroups program names) (groups_once program names) rows names t u h k
+
+-- it has one fault of the rows
+pub row_fault_once : (program : Program) (rows : Domain (List ℕ)) (names : List (List ℕ)) (f g : RowFault)
+    → HasTemplate program rows names (Err f) → HasTemplate program rows names (Err g) → f ≡ g
+row_fault_once program rows names f g h k = row_fault_once_by (HasGroups program names) (groups_once program names) rows names f g h k
+
+-- a program whose rows have a fault has no template
+pub not_rows : (program : Program) (rows : Domain (List ℕ)) (names : List (List ℕ)) (f : RowFault) (t : List (List ℤ))
+    → HasTemplate program rows names (Err f) → HasTemplate program rows names (Ok t) → ⊥
+not_rows program rows names f t h k = not_rows_by (HasGroups program names) (groups_once program names) rows names f t h k

@@ -3,22 +3,23 @@ use Rattle.std.proofs.Common.{◌≡◌, ◌∙◌, ◌≤◌, ◌<◌, ◌*◌,
 use Rattle.std.specs.Prelude.{ℤ, Option, Some, None, Ok, Err}
 use Rattle.flow_transitions.specs.declared.fault.AutoFault.{AutoFault}
 use Rattle.flow_transitions.specs.AutoFaults.{fault_of}
+use Rattle.flow_transitions.specs.AutoGroups.{HasGroups}
 use Rattle.flow_transitions.specs.AutoReading.{AutoAnswer, Content}
 use Rattle.flow_transitions.specs.AutoTexts.{IsAuto, content}
 use Rattle.flow_transitions.specs.Choices.{edges_of}
 use Rattle.flow_transitions.proofs.progress.Once.{one_answer}
+use Rattle.flow_transitions.proofs.walking.Once.{one_grouping}
 use Rattle.flow_systems.specs.Equations.{Equations}
 use Rattle.flow_systems.specs.View.{equations_of}
 use Rattle.flow_systems.specs.declared.limits.TheConstants.{MOST_UNKNOWNS}
 use Rattle.flow_systems.specs.declared.system.System.{System}
 use Rattle.flow_templates.specs.declared.fault.RowFault.{RowFault}
 use Rattle.ask_words.specs.declared.request.Domain.{Domain}
-use Rattle.top_texts.specs.Texts.{HasTemplate}
-use Rattle.top_texts.specs.TransitionTexts.{AreNoTransitions, IsTransitionSystem}
+use Rattle.top_texts.specs.TransitionTexts.{AreNoTransitions, HasTemplateAlong, IsTransitionSystem}
 use Rattle.top_status.specs.declared.status.TextCause.{TextCause}
 use Rattle.top_status.specs.declared.status.TextCause.TheVariants.{Lex, Source as InSource, Flow, Rows, Unknowns}
 use Rattle.top_status.specs.declared.status.TextCause.TheVariants.{Claims, Equ, Auto as AutoCause}
-use Rattle.top_texts.proofs.texts.Readings.{rows_once, row_fault_once, not_rows}
+use Rattle.top_texts.proofs.texts.Readings.{rows_once_by, row_fault_once_by, not_rows_by}
 use Rattle.top_texts.proofs.transition_texts.Systems.{system_equations}
 
 -- ---- the last stage: too many unknowns, or not
@@ -49,17 +50,17 @@ last_once c template o p (few h e) (few k i) = e ∙ sym i
 
 -- ---- the stages before
 
-data RowsStage (rows : Domain (List ℕ)) (c : Content) (o : Option TextCause) : Type 0 where
-  faulty : (f : RowFault) → HasTemplate rows c.names (Err f) → o ≡ Some (Rows f) → RowsStage rows c o
-  given : (template : List (List ℤ)) → HasTemplate rows c.names (Ok template) → LastStage c template o → RowsStage rows c o
+data RowsStage (text : List ℕ) (rows : Domain (List ℕ)) (c : Content) (o : Option TextCause) : Type 0 where
+  faulty : (f : RowFault) → HasTemplateAlong text rows c.names (Err f) → o ≡ Some (Rows f) → RowsStage text rows c o
+  given : (template : List (List ℤ)) → HasTemplateAlong text rows c.names (Ok template) → LastStage c template o → RowsStage text rows c o
 
-data FlowStage (rows : Domain (List ℕ)) (c : Content) (o : Option TextCause) : Type 0 where
-  wide : (f : AutoFault) → fault_of (length c.points) c.edges ≡ Some f → o ≡ Some (AutoCause f) → FlowStage rows c o
-  fits : fault_of (length c.points) c.edges ≡ None → RowsStage rows c o → FlowStage rows c o
+data FlowStage (text : List ℕ) (rows : Domain (List ℕ)) (c : Content) (o : Option TextCause) : Type 0 where
+  wide : (f : AutoFault) → fault_of (length c.points) c.edges ≡ Some f → o ≡ Some (AutoCause f) → FlowStage text rows c o
+  fits : fault_of (length c.points) c.edges ≡ None → RowsStage text rows c o → FlowStage text rows c o
 
 data TextStage (text : List ℕ) (rows : Domain (List ℕ)) (o : Option TextCause) : Type 0 where
   unread : (f : AutoFault) → IsAuto text (Err f) → o ≡ Some (AutoCause f) → TextStage text rows o
-  read : (c : Content) → IsAuto text (Ok c) → FlowStage rows c o → TextStage text rows o
+  read : (c : Content) → IsAuto text (Ok c) → FlowStage text rows c o → TextStage text rows o
 
 some_none : (f : AutoFault) (o : Option AutoFault) → o ≡ Some f → o ≡ None → ⊥
 some_none f o h k = cc
@@ -79,19 +80,26 @@ same_content x y e = cc
 fault_or_content : (f : AutoFault) (x : Content) → answered (Err f) ≡ answered (Ok x) → ⊥
 fault_or_content f x e = cc
 
-rows_stage_once : (rows : Domain (List ℕ)) (c : Content) (o p : Option TextCause) → RowsStage rows c o → RowsStage rows c p → o ≡ p
-rows_stage_once rows c o p (faulty f h e) (faulty g k i) = e ∙ ap (λ x. Some (Rows x)) (row_fault_once rows c.names f g h k) ∙ sym i
-rows_stage_once rows c o p (faulty f h e) (given u k i) = absurd (not_rows rows c.names f u h k)
-rows_stage_once rows c o p (given u h e) (faulty f k i) = absurd (not_rows rows c.names f u k h)
-rows_stage_once rows c o p (given u h e) (given v k i) = last_once c u o p e
-    (subst (λ x. LastStage c x p) (sym (rows_once rows c.names u v h k)) i)
+module _ (text : List ℕ) (rows : Domain (List ℕ)) where
+  -- a transition system has one template over given variables
+  pub one_template : (names : List (List ℕ)) (t u : List (List ℤ)) → HasTemplateAlong text rows names (Ok t)
+      → HasTemplateAlong text rows names (Ok u) → t ≡ u
+  one_template names t u h k = rows_once_by (HasGroups text) (one_grouping text) rows names t u h k
 
-flow_once : (rows : Domain (List ℕ)) (c : Content) (o p : Option TextCause) → FlowStage rows c o → FlowStage rows c p → o ≡ p
-flow_once rows c o p (wide f h e) (wide g k i) = e ∙ ap (λ x. Some (AutoCause x)) (some_some f g (fault_of (length c.points) c.edges) h k)
-    ∙ sym i
-flow_once rows c o p (wide f h e) (fits k i) = absurd (some_none f (fault_of (length c.points) c.edges) h k)
-flow_once rows c o p (fits h e) (wide f k i) = absurd (some_none f (fault_of (length c.points) c.edges) k h)
-flow_once rows c o p (fits h e) (fits k i) = rows_stage_once rows c o p e i
+  rows_stage_once : (c : Content) (o p : Option TextCause) → RowsStage text rows c o → RowsStage text rows c p → o ≡ p
+  rows_stage_once c o p (faulty f h e) (faulty g k i) =
+      e ∙ ap (λ x. Some (Rows x)) (row_fault_once_by (HasGroups text) (one_grouping text) rows c.names f g h k) ∙ sym i
+  rows_stage_once c o p (faulty f h e) (given u k i) = absurd (not_rows_by (HasGroups text) (one_grouping text) rows c.names f u h k)
+  rows_stage_once c o p (given u h e) (faulty f k i) = absurd (not_rows_by (HasGroups text) (one_grouping text) rows c.names f u k h)
+  rows_stage_once c o p (given u h e) (given v k i) = last_once c u o p e
+      (subst (λ x. LastStage c x p) (sym (one_template c.names u v h k)) i)
+
+  flow_once : (c : Content) (o p : Option TextCause) → FlowStage text rows c o → FlowStage text rows c p → o ≡ p
+  flow_once c o p (wide f h e) (wide g k i) = e ∙ ap (λ x. Some (AutoCause x)) (some_some f g (fault_of (length c.points) c.edges) h k)
+      ∙ sym i
+  flow_once c o p (wide f h e) (fits k i) = absurd (some_none f (fault_of (length c.points) c.edges) h k)
+  flow_once c o p (fits h e) (wide f k i) = absurd (some_none f (fault_of (length c.points) c.edges) k h)
+  flow_once c o p (fits h e) (fits k i) = rows_stage_once c o p e i
 
 text_once : (text : List ℕ) (rows : Domain (List ℕ)) (o p : Option TextCause) → TextStage text rows o → TextStage text rows p → o ≡ p
 text_once text rows o p (unread f h e) (unread g k i) = e ∙ ap (λ x. Some (AutoCause x))
@@ -99,7 +107,7 @@ text_once text rows o p (unread f h e) (unread g k i) = e ∙ ap (λ x. Some (Au
 text_once text rows o p (unread f h e) (read c k i) = absurd (fault_or_content f c (one_answer text (Err f) (Ok c) h k))
 text_once text rows o p (read c h e) (unread f k i) = absurd (fault_or_content f c (one_answer text (Err f) (Ok c) k h))
 text_once text rows o p (read c h e) (read d k i) =
-    flow_once rows c o p e (subst (λ x. FlowStage rows x p) (sym (same_content c d (one_answer text (Ok c) (Ok d) h k))) i)
+    flow_once text rows c o p e (subst (λ x. FlowStage text rows x p) (sym (same_content c d (one_answer text (Ok c) (Ok d) h k))) i)
 
 -- ---- what is refused, and what is a system, by stages
 
@@ -145,8 +153,8 @@ systems_once text rows s t a b =
     let same : content a.auto ≡ content b.auto = same_content (content a.auto) (content b.auto)
     (one_answer text (Ok (content a.auto)) (Ok (content b.auto)) a.over.text_is.reading b.over.text_is.reading) in
     let template : a.template ≡ b.template =
-    rows_once rows b.auto.names a.template b.template (subst (λ (c : Content). HasTemplate rows c.names (Ok a.template)) same
-    a.over.template_is) b.over.template_is in
+    one_template text rows b.auto.names a.template b.template
+    (subst (λ (c : Content). HasTemplateAlong text rows c.names (Ok a.template)) same a.over.template_is) b.over.template_is in
     system_equations text rows s a
     ∙ ap (λ c. along c a.template) same
     ∙ ap (λ r. along (content b.auto) r) template

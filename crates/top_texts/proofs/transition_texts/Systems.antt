@@ -22,8 +22,7 @@ use Rattle.top_texts.specs.Exact.{exact}
 use Rattle.top_written.specs.Formats.{report_in}
 use Rattle.top_texts.specs.Outcomes.{IsRefusedAlong, IsRoundsReport, IsUnanswered}
 use Rattle.top_texts.specs.Questions.{QuestionEnds, rounds_end, transitions_question}
-use Rattle.top_texts.specs.Texts.{HasTemplate}
-use Rattle.top_texts.specs.TransitionTexts.{IsAutoOver, IsAutoReport, IsAutoText, IsTransitionSystem}
+use Rattle.top_texts.specs.TransitionTexts.{HasTemplateAlong, IsAutoOver, IsAutoReport, IsAutoText, IsTransitionSystem}
 use Rattle.top_texts.specs.declared.refusal.Refusal.{Refusal}
 use Rattle.top_texts.specs.declared.refusal.Refusal.TheVariants as refusal
 use Rattle.top_status.specs.declared.status.Status.TheVariants.{Done}
@@ -51,7 +50,7 @@ module _ (text : List ℕ) (rows : Domain (List ℕ)) (auto : Auto) (flow : Flow
     (reading : IsAuto text (Ok (content auto)))
     (within : fault_of (length auto.points) auto.edges ≡ None) (names_are : flow.names ≡ auto.names)
     (points_are : flow.points ≡ auto.points)
-    (edges_are : flow.edges ≡ edges_of (length auto.points) auto.edges) (given : HasTemplate rows auto.names (Ok template)) where
+    (edges_are : flow.edges ≡ edges_of (length auto.points) auto.edges) (given : HasTemplateAlong text rows auto.names (Ok template)) where
   -- the text is that of the automaton
   pub text_is : IsAutoText text auto
   text_is = record { reading = reading; within = within }

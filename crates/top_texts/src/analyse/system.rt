@@ -10,24 +10,26 @@ ghost use Rattle.top_status.specs.declared.status.TextCause.TheVariants.{Unknown
 ghost use Rattle.top_texts.specs.Short.{HasShortRows};
 ghost use Rattle.ask_words.specs.Request.{domain_text, source_text};
 ghost use Rattle.top_texts.specs.Outcomes.{HasNoRows, HasNoSystemOver, HasSystemOver, IsRefusedBy};
-ghost use Rattle.top_texts.specs.Texts.{HasTemplate, IsSolvedSystem};
+ghost use Rattle.top_texts.specs.Texts.{HasTemplateBy, IsSolvedSystem};
 ghost use Rattle.flow_systems.specs.declared.limits.TheConstants.{MOST_UNKNOWNS};
 
 use super::template::template_of;
+use crate::groups::groups_of;
 use crate::program::{flow_of, program_of};
 use crate::refusal::Refusal;
 use ask_words::{Domain, Source};
 use flow_edges::Flow;
 use flow_systems::{System, SystemFault};
 use flow_templates::{RowFault, Template};
+use lang_groups::Groups;
 use lang_tree::Program;
 use std::alloc::Global;
 use top_status::TextCause;
 
 // The refusal of rows that have this fault.
 fn row_refusal(fault: RowFault) -> Refusal
-    ensures { (rows : DomainValue (List ℕ)) (names : List (List ℕ)) (body : Statements)
-        → (fault ≢ NoMemory → HasTemplate rows names (Err fault)) → HasNoRows rows names body result }
+    ensures { (groups : List (List ℕ)) (rows : DomainValue (List ℕ)) (names : List (List ℕ)) (body : Statements)
+        → (fault ≢ NoMemory → HasTemplateBy groups rows names (Err fault)) → HasNoRows groups rows names body result }
 {
     match fault {
         RowFault::NoMemory => Refusal::NoMemory,
@@ -35,14 +37,19 @@ fn row_refusal(fault: RowFault) -> Refusal
     }
 }
 
-// The template over the variables of a program.
-fn rows_of(alloc: Global, rows: Domain<&[u8]>, program: &Program) -> Result<Template, Refusal>
+// The template over the variables of a program, which are in these groups.
+fn rows_of(
+    alloc: Global,
+    rows: Domain<&[u8]>,
+    groups: &Groups,
+    program: &Program,
+) -> Result<Template, Refusal>
     requires { HasShortRows (domain_text rows) }
-    ensures template { IfOk result (λ template. HasTemplate (domain_text rows.entry) program.now.names (Ok template)) }
+    ensures template { IfOk result (λ template. HasTemplateBy groups.now (domain_text rows.entry) program.now.names (Ok template)) }
     ensures over { IfOk result (λ template. IsTrue (is_over (length program.now.names) template)) }
-    ensures err { IfErr result (λ refusal. HasNoRows (domain_text rows.entry) program.now.names program.now.body refusal) }
+    ensures err { IfErr result (λ refusal. HasNoRows groups.now (domain_text rows.entry) program.now.names program.now.body refusal) }
 {
-    match template_of(alloc, rows, program.names.as_slice()) {
+    match template_of(alloc, rows, program.names.as_slice(), groups) {
         Ok(template) => Ok(template),
         Err(fault) => Err(row_refusal(fault)),
     }
@@ -63,18 +70,20 @@ pub(crate) fn system_of(flow: Flow, template: Template) -> Result<System, Refusa
     }
 }
 
-// The system of a core and of these rows.
+// The system of a core, whose variables are in these groups, and of these rows.
 pub(crate) fn program_system(
     alloc: Global,
     rows: Domain<&[u8]>,
+    groups: &Groups,
     program: &Program,
 ) -> Result<System, Refusal>
     requires { HasShortRows (domain_text rows) }
-    ensures ok { IfOk result (λ system. HasSystemOver (domain_text rows.entry) program.now.names program.now.body system) }
-    ensures err { IfErr result (λ refusal. HasNoSystemOver (domain_text rows.entry) program.now.names program.now.body refusal) }
+    ensures ok { IfOk result (λ system. HasSystemOver groups.now (domain_text rows.entry) program.now.names program.now.body system) }
+    ensures err { IfErr result (λ refusal. HasNoSystemOver groups.now (domain_text rows.entry) program.now.names program.now.body
+        refusal) }
 {
     let flow = flow_of(alloc, program)?;
-    let template = rows_of(alloc, rows, program)?;
+    let template = rows_of(alloc, rows, groups, program)?;
     let system = system_of(flow, template)?;
     Ok(system)
 }
@@ -95,6 +104,7 @@ pub fn system_on(
     ensures err { IfErr result (λ refusal. IsRefusedBy (source_text program.entry) (domain_text rows.entry) refusal) }
 {
     let core = program_of(alloc, program)?;
-    let system = program_system(alloc, rows, &core)?;
+    let groups = groups_of(alloc, program, rows, &core)?;
+    let system = program_system(alloc, rows, &groups, &core)?;
     Ok(system)
 }

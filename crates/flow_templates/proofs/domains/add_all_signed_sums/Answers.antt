@@ -1,5 +1,5 @@
 use Rattle.std.proofs.Common.{append-nil, [], ap, ◌∙◌, sym, refl}
-use Rattle.flow_templates.proofs.domains.Rows.{parts_more, signed_sums_none}
+use Rattle.flow_templates.proofs.counted.Rows.{parts_more, signed_sums_none}
 use Rattle.flow_templates.specs.Domains.{signed_sums}
 use Rattle.flow_templates.proofs.domains.add_all_signed_sums.Goals.{then-first-second+in_ok-add_signed_sums, else-first-second}
 use Rattle.flow_templates.proofs.domains.add_all_signed_sums.Goals as goal

@@ -1,5 +1,5 @@
 use Rattle.std.proofs.Common.{append-nil, [], ◌∷◌, ap, ◌∙◌, sym}
-use Rattle.flow_templates.proofs.domains.Rows.{parts_more, difference_none, difference_one}
+use Rattle.flow_templates.proofs.counted.Rows.{parts_more, difference_none, difference_one}
 use Rattle.flow_templates.specs.Domains.{difference}
 use Rattle.flow_templates.proofs.domains.add_differences.Goals.{then-first-second+in_ok-combination+in_ok-push, else-first-second}
 use Rattle.flow_templates.proofs.domains.add_differences.Goals as goal

@@ -1,6 +1,6 @@
 use Rattle.std.proofs.Common.{◌≡◌, to_z, of_z, w64, ◌∙◌, sym}
 use Rattle.std.proofs.lemmas.Int.{to_z-of_z}
-use Rattle.flow_templates.proofs.domains.Rows.{terms_first, terms_second, terms_third, numbers-sums, terms_more}
+use Rattle.flow_templates.proofs.counted.Rows.{terms_first, terms_second, terms_third, numbers-sums, terms_more}
 use Rattle.flow_templates.proofs.domains.combination.Goals.{then-k-first, else-k-first+then-k-second, else-k-first+else-k-second}
 use Rattle.flow_templates.proofs.domains.combination.Goals as goal
 

@@ -1,5 +1,5 @@
 use Rattle.std.proofs.Common.{rules, []}
-use Rattle.flow_templates.proofs.domains.Rows.{parts_more, two_pushes}
+use Rattle.flow_templates.proofs.counted.Rows.{parts_more, two_pushes}
 use Rattle.flow_templates.specs.Domains.{both_signs}
 use Rattle.flow_templates.proofs.domains.interval_rows.Goals as goal
 

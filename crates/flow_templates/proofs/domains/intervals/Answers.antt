@@ -1,6 +1,6 @@
 use Rattle.std.proofs.Common.{length, ap, ◌∙◌, arith}
 use Rattle.flow_templates.specs.Rows.{width_of}
-use Rattle.flow_templates.proofs.domains.Counts.{intervals_counted}
+use Rattle.flow_templates.proofs.counted.Counts.{intervals_counted}
 use Rattle.flow_templates.proofs.domains.intervals.Goals as goal
 
 pub new-requires : goal.new-requires

@@ -1,6 +1,6 @@
 use Rattle.std.proofs.Common.{◌≡◌, to_z, of_z, w64, ◌∙◌, sym}
 use Rattle.std.proofs.lemmas.Int.{to_z-of_z}
-use Rattle.flow_templates.proofs.domains.Rows.{term_own, term_other, numbers-terms, terms_more}
+use Rattle.flow_templates.proofs.counted.Rows.{term_own, term_other, numbers-terms, terms_more}
 use Rattle.flow_templates.proofs.domains.multiple.Goals.{then-k-var, else-k-var}
 use Rattle.flow_templates.proofs.domains.multiple.Goals as goal
 

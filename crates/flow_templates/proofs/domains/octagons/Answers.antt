@@ -1,6 +1,6 @@
 use Rattle.std.proofs.Common.{length, ap, ◌∙◌}
 use Rattle.flow_templates.specs.Rows.{width_of}
-use Rattle.flow_templates.proofs.domains.Counts.{octagons_counted, length-octagons, ready_few, ready_many}
+use Rattle.flow_templates.proofs.counted.Counts.{octagons_counted, length-octagons, ready_few, ready_many}
 use Rattle.flow_templates.specs.Domains.{octagons_of}
 use Rattle.flow_templates.proofs.domains.octagons.Goals as goal
 

@@ -1,7 +1,7 @@
 use Rattle.std.proofs.Common.{refl}
 use Rattle.std.specs.List.{range_with_len, flat_map}
 use Rattle.flow_templates.specs.Domains.{difference}
-use Rattle.flow_templates.proofs.domains.Rows.{parts_more}
+use Rattle.flow_templates.proofs.counted.Rows.{parts_more}
 use Rattle.flow_templates.proofs.domains.zone_rows.Goals as goal
 
 pub loop-first-preserved : goal.loop-first-preserved

@@ -1,6 +1,6 @@
 use Rattle.std.proofs.Common.{length, ap, ◌∙◌}
 use Rattle.flow_templates.specs.Rows.{width_of}
-use Rattle.flow_templates.proofs.domains.Counts.{zones_counted, length-zones, ready_few, ready_many}
+use Rattle.flow_templates.proofs.counted.Counts.{zones_counted, length-zones, ready_few, ready_many}
 use Rattle.flow_templates.specs.Domains.{zones_of}
 use Rattle.flow_templates.proofs.domains.zones.Goals as goal
 

@@ -7,7 +7,7 @@ use Rattle.flow_templates.specs.RowFaults.{count_faults}
 use Rattle.flow_templates.specs.RowFiles.{lines_of, LinesRead, HasFault, a_template, a_count, a_fault}
 use Rattle.flow_templates.proofs.file.Steps.{pieces}
 use Rattle.flow_templates.proofs.file.Rows.{pieces_short, pieces_few, rows_over, count_is}
-use Rattle.flow_templates.proofs.given.Sound.{template_from, count_within}
+use Rattle.flow_templates.proofs.counted.Sound.{template_from, count_within}
 use Rattle.flow_templates.proofs.file.answer.Goals as goal
 
 pub rows_of-requires-clause-few : goal.rows_of-requires-clause-few

@@ -1,5 +1,5 @@
 use Rattle.std.proofs.Common.{sym}
-use Rattle.flow_templates.proofs.given.Sound.{none_first, template_of_sound}
+use Rattle.flow_templates.proofs.counted.Sound.{none_first, template_of_sound}
 use Rattle.flow_templates.proofs.given.from_rows.Goals as goal
 
 pub new-requires : goal.new-requires

@@ -3,7 +3,7 @@ use Rattle.std.proofs.lemmas.Int.{to_z-of_z}
 use Rattle.std.proofs.lemmas.List.{get_or_read}
 use Rattle.flow_templates.specs.Kept.{sum_at}
 use Rattle.flow_templates.specs.Sums.{coefficient_by}
-use Rattle.flow_templates.proofs.domains.Rows.{terms_more}
+use Rattle.flow_templates.proofs.counted.Rows.{terms_more}
 use Rattle.flow_templates.proofs.row.Steps.{coefficient_repeated, coefficient_first}
 use Rattle.flow_templates.proofs.row.row_of.Goals.{then-is_among, else-is_among}
 use Rattle.flow_templates.proofs.row.row_of.Goals as goal

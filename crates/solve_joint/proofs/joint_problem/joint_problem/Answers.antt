@@ -6,6 +6,7 @@ use Rattle.theory_transformers.specs.JointProblems.{ones}
 use Rattle.theory_transformers.proofs.joint_problems.JointProducts.{length-ones}
 use Rattle.solve_joint.specs.Blocks.{split_columns}
 use Rattle.solve_joint.proofs.joint_problem.EdgeSizes.{few_rows}
+use Rattle.solve_joint.proofs.joint_problem.FewEntries.{entries_few}
 use Rattle.solve_joint.proofs.joint_rows.Picking.{few_listed}
 use Rattle.solve_joint.proofs.joint_problem.SameProblem.{counted, row_length, made_problem}
 use Rattle.solve_joint.proofs.joint_problem.joint_problem.Goals as goal
@@ -50,3 +51,9 @@ returns-clause-few c =
     let k0 = k.0 in
     let k1 = k.1 in
     omega (arith, c.count_columns-cols.ensures.count, c.count_columns-cols.ensures.few, size, a, o, z, k0, k1, m, f, l)
+
+pub returns-clause-cells : goal.returns-clause-cells
+returns-clause-cells c =
+    let n = length c.args.list.now in
+    entries_few c.args.system.now c.args.pick.now c.args.base.now c.args.list.now c.requires.rises c.count_columns-cols.result
+    _ _ c.in_ok-goal.goal (c.count_columns-cols.result - n) c.in_ok-rows.ensures.0 c.in_ok-goal.ensures

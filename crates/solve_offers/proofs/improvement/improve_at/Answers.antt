@@ -1,72 +1,45 @@
-use Rattle.std.proofs.Common.{◌≡◌, ◌∙◌, ◌/◌, ◌%◌, true, true≢false, length, get_or, refl, sym, ap, subst, arith}
-use Rattle.std.specs.Prelude.{Option, Some, None, IsNone, IfSome}
+use Rattle.std.proofs.Common.{◌∙◌, true, false, get_or, sym, ap, subst, arith}
+use Rattle.std.specs.Prelude.{None}
 use Rattle.std.proofs.lemmas.List.{get_or-set_same, get_or-set_other}
-use Rattle.std.proofs.lemmas.Nat.{div-add-mod'}
-use Rattle.base_numbers.specs.Extended.{neg_inf}
 use Rattle.flow_systems.specs.View.{equations_of}
-use Rattle.solve_offers.specs.AtBounds.{vector_at, IsOfferAt}
-use Rattle.solve_offers.specs.declared.offer.Offer.{Offer}
-use Rattle.solve_offers.specs.Offers.{is_top}
-use Rattle.solve_offers.proofs.offers.Unknowns.{row_within, unknown_taken, unknown_kept, unknown_at_top}
+use Rattle.solve_offers.specs.AtBounds.{vector_at}
+use Rattle.solve_offers.specs.Improvement.{UnknownBecomes}
+use Rattle.solve_offers.proofs.at_bounds.KnownValues.{known_settled}
+use Rattle.solve_offers.proofs.improvement.Settled.{settled_from, settled_keeps}
 use Rattle.solve_offers.proofs.improvement.improve_at.Goals as goal
 
-pub returns-in-None-clause-becomes : goal.returns-in-None-clause-becomes
-returns-in-None-clause-becomes g c =
-    let system = c.args.asking.now.at.system.now in
-    let bounds = c.args.asking.now.at.bounds.now in
+pub is_settled-requires : goal.is_settled-requires
+is_settled-requires g c =
+    let size = c.requires.known.marks.size in
+    let within = c.requires.unknown in
+    omega (arith, size, within)
+
+pub settle-requires : goal.settle-requires
+settle-requires g c =
+    let size = c.offer_edge.ensures.known.marks.size in
+    let within = c.requires.unknown in
+    omega (arith, size, within)
+
+pub returns-then-is_settled-clause-becomes : goal.returns-then-is_settled-clause-becomes
+returns-then-is_settled-clause-becomes g c =
     let u = c.args.unknown in
-    let rows = length system.template in
-    unknown_at_top (equations_of system) (vector_at system bounds) _ u (get_or c.args.pick.now u None) (get_or c.set.new.self u None)
-    (row_within u (length system.flow.points) rows c.requires.unknown)
-    (ap (λ k. is_top (get_or bounds k neg_inf)) (div-add-mod' u rows)
-    ∙ (subst (λ (a : Option Offer). IsNone a → is_top (get_or bounds u neg_inf) ≡ true) c.in-None.is c.in_ok-asked.ensures.top) refl)
+    settled_keeps c.args.at.now.system.now c.args.at.now.bounds.now _ u c.requires.unknown (get_or c.args.pick.now u None)
+    (get_or c.set.new.self u None) (c.requires.known.settled u (sym c.is_settled.ensures ∙ c.if-is_settled.true))
     (ap (λ l. get_or l u None) c.set.ensures
     ∙ get_or-set_same c.args.better.now u c.at.result None (omega (arith, c.requires.unknown, c.requires.better)) ∙ c.at.ensures)
 
-pub returns-then-some_exceeds-clause-becomes : goal.returns-then-some_exceeds-clause-becomes
-returns-then-some_exceeds-clause-becomes g c =
-    let system = c.args.asking.now.at.system.now in
-    let bounds = c.args.asking.now.at.bounds.now in
-    let u = c.args.unknown in
-    let offer = c.in-Some.offer in
-    let position = c.choose-position.result in
-    unknown_taken (equations_of system) (vector_at system bounds) _ u (get_or c.args.pick.now u None)
-    (get_or c.set-then-some_exceeds.new.self u None) offer
-    (row_within u (length system.flow.points) (length system.template) c.requires.unknown)
-    (subst (λ (a : Option Offer). IfSome a (IsOfferAt system bounds (u / length system.template) (u % length system.template))) c.in-Some.is
-    c.in_ok-asked.ensures.offer)
-    position (_, c.choose-position.ensures.answers, refl) c.choose-position.ensures.exceeds
-    (ap (λ l. get_or l u None) c.set-then-some_exceeds.ensures
-    ∙ get_or-set_same c.args.better.now u (Some (get_or c.as_slice.result.now position 0)) None
-    (omega (arith, c.requires.unknown, c.requires.better))
-    ∙ ap (λ es. Some (get_or es position 0)) c.as_slice.ensures)
-
-pub returns-clause-becomes : goal.returns-clause-becomes
-returns-clause-becomes g c =
-    let system = c.args.asking.now.at.system.now in
-    let bounds = c.args.asking.now.at.bounds.now in
-    let u = c.args.unknown in
-    let offer = c.in-Some.offer in
-    unknown_kept (equations_of system) (vector_at system bounds) _ u (get_or c.args.pick.now u None)
-    (get_or c.set-else-some_exceeds.new.self u None) offer
-    (row_within u (length system.flow.points) (length system.template) c.requires.unknown)
-    (subst (λ (a : Option Offer). IfSome a (IsOfferAt system bounds (u / length system.template) (u % length system.template))) c.in-Some.is
-    c.in_ok-asked.ensures.offer)
-    (λ h. true≢false (sym (c.some_exceeds.ensures.1 h) ∙ c.if-some_exceeds.false))
-    (ap (λ l. get_or l u None) c.set-else-some_exceeds.ensures
-    ∙ get_or-set_same c.args.better.now u c.at-else-some_exceeds.result None (omega (arith, c.requires.unknown, c.requires.better))
-    ∙ c.at-else-some_exceeds.ensures)
-
-pub returns-in-None-clause-others : goal.returns-in-None-clause-others
-returns-in-None-clause-others g c u apart =
+pub returns-then-is_settled-clause-others : goal.returns-then-is_settled-clause-others
+returns-then-is_settled-clause-others g c u apart =
     ap (λ l. get_or l u None) c.set.ensures ∙ get_or-set_other c.args.better.now c.args.unknown u c.at.result None apart
 
-pub returns-then-some_exceeds-clause-others : goal.returns-then-some_exceeds-clause-others
-returns-then-some_exceeds-clause-others g c u apart =
-    ap (λ l. get_or l u None) c.set-then-some_exceeds.ensures
-    ∙ get_or-set_other c.args.better.now c.args.unknown u (Some (get_or c.as_slice.result.now c.choose-position.result 0)) None apart
-
-pub returns-clause-others : goal.returns-clause-others
-returns-clause-others g c u apart =
-    ap (λ l. get_or l u None) c.set-else-some_exceeds.ensures
-    ∙ get_or-set_other c.args.better.now c.args.unknown u c.at-else-some_exceeds.result None apart
+pub returns-clause-known : goal.returns-clause-known
+returns-clause-known g c =
+    let system = c.args.at.now.system.now in
+    let bounds = c.args.at.now.bounds.now in
+    let u = c.args.unknown in
+    let made = c.in_ok-offer_edge.ensures in
+    known_settled system bounds c.offer_edge.new.known c.settle.new.self u c.offer_edge.ensures.known c.settle.ensures.values
+    c.settle.ensures.settled c.settle.ensures.lists
+    (settled_from system bounds _ u c.requires.unknown (get_or c.args.pick.now u None) (get_or c.offer_edge.new.better u None)
+    (subst (UnknownBecomes (equations_of system) (vector_at system bounds) _ u (get_or c.args.pick.now u None)
+    (get_or c.offer_edge.new.better u None)) c.if-branch.false made.becomes))

@@ -67,20 +67,20 @@ returns-then-improved-clause-supported g c tight =
     c.loop-unknown.improved c.requires.pick
     c.loop-unknown.unknown end c.loop-unknown.invariant.improved c.if-improved.true) tight
 
-pub returns-clause-none : goal.returns-clause-none
-returns-clause-none g c =
+pub returns-else-improved-clause-none : goal.returns-else-improved-clause-none
+returns-else-improved-clause-none g c =
     let system = c.args.system.now in
-    let end = last g (goal.at.returns-clause-none g c).After-loop-unknown in (
+    let end = last g (goal.at.returns-else-improved-clause-none g c).After-loop-unknown in (
       λ e. nothing_exceeds (equations_of system) (vector_at system c.args.bounds.now) _ (points_in_range system) c.args.pick.now
           c.loop-unknown.better c.loop-unknown.improved c.requires.pick
           c.loop-unknown.unknown end c.loop-unknown.invariant.improved c.if-improved.false,
       λ h. refl,
     )
 
-pub returns-clause-next : goal.returns-clause-next
-returns-clause-next g c =
+pub returns-else-improved-clause-next : goal.returns-else-improved-clause-next
+returns-else-improved-clause-next g c =
     let system = c.args.system.now in
-    let end = last g (goal.at.returns-clause-next g c).After-loop-unknown in
+    let end = last g (goal.at.returns-else-improved-clause-next g c).After-loop-unknown in
     next_none (equations_of system) (vector_at system c.args.bounds.now) _ (points_in_range system) c.args.pick.now c.loop-unknown.better
     c.loop-unknown.improved c.requires.pick
     c.loop-unknown.unknown end c.loop-unknown.invariant.improved c.if-improved.false

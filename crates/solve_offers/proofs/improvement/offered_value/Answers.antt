@@ -12,5 +12,5 @@ returns-in_ok-found-in-None-clause-value c = c.in_ok-found-in-None.ensures.value
 pub returns-in_ok-found-in-None-clause-known : goal.returns-in_ok-found-in-None-clause-known
 returns-in_ok-found-in-None-clause-known c =
     known_more c.args.at.now.system.now c.args.at.now.bounds.now c.args.known.now c.keep.new.self c.args.edge c.args.row
-    c.in_ok-found-in-None.found c.requires.edge c.requires.row c.requires.known c.keep.ensures
+    c.in_ok-found-in-None.found c.requires.edge c.requires.row c.requires.known c.keep.ensures.kept c.keep.ensures.marks
     c.in_ok-found-in-None.ensures

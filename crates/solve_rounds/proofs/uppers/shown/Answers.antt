@@ -9,7 +9,7 @@ returns-in-Some-clause-upper c =
 pub returns-in-Some-clause-known : goal.returns-in-Some-clause-known
 returns-in-Some-clause-known c =
     known_less c.args.at.now.system.now c.args.at.now.bounds.now c.args.known.now c.take.new.self _ c.requires.known
-    c.take.ensures.left
+    c.take.ensures.left c.take.ensures.marks
 
 pub returns-in_ok-found-in-None-clause-upper : goal.returns-in_ok-found-in-None-clause-upper
 returns-in_ok-found-in-None-clause-upper c = c.in_ok-found-in-None.ensures.upper
@@ -17,9 +17,9 @@ returns-in_ok-found-in-None-clause-upper c = c.in_ok-found-in-None.ensures.upper
 pub returns-in_ok-found-in-None-clause-known : goal.returns-in_ok-found-in-None-clause-known
 returns-in_ok-found-in-None-clause-known c =
     known_less c.args.at.now.system.now c.args.at.now.bounds.now c.args.known.now c.take.new.self _
-    c.requires.known c.take.ensures.left
+    c.requires.known c.take.ensures.left c.take.ensures.marks
 
 pub returns-in_err-found-in-None-clause-known : goal.returns-in_err-found-in-None-clause-known
 returns-in_err-found-in-None-clause-known c =
     known_less c.args.at.now.system.now c.args.at.now.bounds.now c.args.known.now c.take.new.self _
-    c.requires.known c.take.ensures.left
+    c.requires.known c.take.ensures.left c.take.ensures.marks

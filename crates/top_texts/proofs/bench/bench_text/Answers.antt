@@ -27,7 +27,8 @@ returns-in_err-system-clause-err g c =
     let reads : ReadsAs (generated_text c.args.seed c.args.loops) (Ok (p.names, p.body)) =
     subst (λ t. ReadsAs t (Ok (p.names, p.body))) (c.deref.ensures.value ∙ c.in_ok-text.ensures) c.in_ok-program.ensures.ok in
     let h : IsUnanswered (bench_question exact c.args.seed c.args.loops) c.in_err-system.field-0.0 =
-    unread c.generated_texts_read.ensures c.args.seed c.args.loops c.requires.few p.names p.body reads _ c.in_err-system.ensures.err in
+    unread c.generated_texts_read.ensures c.args.seed c.args.loops c.requires.few c.none-groups.result p.names p.body reads _
+    c.in_err-system.ensures.err in
     search (rules, h)
 
 pub returns-in_err-solved-clause-err : goal.returns-in_err-solved-clause-err
@@ -36,8 +37,8 @@ returns-in_err-solved-clause-err g c =
     let reads : ReadsAs (generated_text c.args.seed c.args.loops) (Ok (p.names, p.body)) =
     subst (λ t. ReadsAs t (Ok (p.names, p.body))) (c.deref.ensures.value ∙ c.in_ok-text.ensures) c.in_ok-program.ensures.ok in
     let h : IsUnanswered (bench_question exact c.args.seed c.args.loops) c.in_err-solved.field-0.0 =
-    unended c.generated_texts_read.ensures c.args.seed c.args.loops c.requires.few p.names p.body reads c.in_ok-system.system _
-    c.in_ok-system.ensures.ok (c.in_err-solved.ensures.err Report) in
+    unended c.generated_texts_read.ensures c.args.seed c.args.loops c.requires.few c.none-groups.result p.names p.body reads
+    c.in_ok-system.system _ c.in_ok-system.ensures.ok (c.in_err-solved.ensures.err Report) in
     search (rules, h)
 
 pub overflow_cast-as_slice : goal.overflow_cast-as_slice
@@ -52,7 +53,7 @@ returns-clause-ok g c =
     let p = c.in_ok-program.program in
     let reads : ReadsAs (generated_text c.args.seed c.args.loops) (Ok (p.names, p.body)) =
     subst (λ t. ReadsAs t (Ok (p.names, p.body))) (c.deref.ensures.value ∙ c.in_ok-text.ensures) c.in_ok-program.ensures.ok in
-    summed c.generated_texts_read.ensures c.args.seed c.args.loops c.requires.few p.names p.body reads c.in_ok-system.system
-    c.in_ok-solved.solved (length c.as_slice.result.now) c.in_ok-summary.field-0.items c.in_ok-system.ensures.ok
+    summed c.generated_texts_read.ensures c.args.seed c.args.loops c.requires.few c.none-groups.result p.names p.body reads
+    c.in_ok-system.system c.in_ok-solved.solved (length c.as_slice.result.now) c.in_ok-summary.field-0.items c.in_ok-system.ensures.ok
     c.in_ok-solved.ensures.solved c.in_ok-solved.ensures.least (ap length (c.as_slice.ensures.value ∙ c.in_ok-text.ensures))
     c.in_ok-summary.ensures

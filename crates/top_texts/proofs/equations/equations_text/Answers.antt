@@ -7,7 +7,7 @@ use Rattle.top_texts.specs.Outcomes.{IsUnanswered}
 use Rattle.top_texts.proofs.equation_texts.Solved.{names_are, points_are, rows_are, unsolved, valued}
 use Rattle.top_texts.proofs.equations.equations_text.Goals as goal
 
-few_cells : (n : ℕ) → n ≤ 160890 → n ≤ MOST_CELLS
+few_cells : (n : ℕ) → n ≤ 11957 → n ≤ MOST_CELLS
 few_cells n h = omega (arith, h)
 
 pub returns-in_err-equations-clause-err : goal.returns-in_err-equations-clause-err

@@ -2,7 +2,9 @@ use Rattle.std.proofs.Common.{length, subst, ◌∙◌, ap, rules}
 use Rattle.std.specs.Prelude.{Err, IsTrue}
 use Rattle.flow_templates.specs.Rows.{is_template}
 use Rattle.ask_words.specs.Request.{domain_text}
-use Rattle.top_texts.specs.Texts.{HasTemplate}
+use Rattle.flow_transitions.specs.AutoGroups.{HasGroups}
+use Rattle.top_texts.specs.Texts.{HasTemplateBy}
+use Rattle.top_texts.proofs.texts.Readings.{template_served}
 use Rattle.top_texts.proofs.analyse.Solved.{template_over}
 use Rattle.top_texts.proofs.transitions.rows_along.Goals as goal
 
@@ -13,10 +15,11 @@ returns-in-Ok-clause-over c =
 
 pub returns-in-Err-clause-err : goal.returns-in-Err-clause-err
 returns-in-Err-clause-err c =
-    λ text is. c.row_refusal.ensures text _
+    λ text is serve. c.row_refusal.ensures text _
     (λ other. (
       c.args.auto.now,
       is,
-      subst (λ names. HasTemplate (domain_text c.args.rows) names (Err c.in-Err.fault)) c.as_slice.ensures
-          (c.in-Err.ensures.refused other),
+      template_served (HasGroups text) (domain_text c.args.rows) c.args.auto.now.names c.args.groups.now (Err c.in-Err.fault) serve
+          (subst (λ names. HasTemplateBy c.args.groups.now (domain_text c.args.rows) names (Err c.in-Err.fault)) c.as_slice.ensures
+          (c.in-Err.ensures.refused other)),
     ))

@@ -1,17 +1,17 @@
-use Rattle.std.proofs.Common.{◌≡◌, ◌∙◌, ◌*◌, ◌∷◌, [], ◌++◌, length, ap, ap₂, arith}
-use Rattle.std.specs.Prelude.{None, replicate}
-use Rattle.std.proofs.lemmas.List.{replicate-append-replicate}
+use Rattle.std.proofs.Common.{◌≡◌, ◌∙◌, ◌*◌, rules, false, length, ap, ap₂}
+use Rattle.std.specs.Prelude.{replicate}
+use Rattle.std.proofs.lemmas.List.{length-replicate}
 use Rattle.solve_offers.proofs.at_bounds.KnownValues.{known_none}
 use Rattle.solve_offers.proofs.known.Known.none.Goals as goal
-
-pub loop-entry-preserved : goal.loop-entry-preserved
-loop-entry-preserved c = c.in_ok-push.ensures.items ∙ ap (λ xs. xs ++ None ∷ []) c.loop-entry.invariant
-    ∙ replicate-append-replicate c.loop-entry._entry 1 None
 
 pub returns : goal.returns
 returns c bounds =
     let system = c.args.system.now in
-    let all : length c.as_slice-edges.result.now * length c.as_slice-rows.result.now ≡ length system.flow.edges * length system.template =
-    ap₂ (λ a b. a * b) (ap (λ es. length es) c.as_slice-edges.ensures) (ap (λ t. length t) c.as_slice-rows.ensures.rows) in
-    known_none system _ (c.loop-entry.invariant ∙ ap (λ n. replicate n None)
-    (omega (arith, all, c.loop-entry-test.false, c.loop-entry.auto._entry-end))) bounds
+    let points : length c.as_slice-points.result.now ≡ length system.flow.points = ap (λ ps. length ps) c.as_slice-points.ensures in
+    let rows : length c.as_slice-rows.result.now ≡ length system.template = ap (λ t. length t) c.as_slice-rows.ensures.rows in
+    let made : c.in_ok-settled.settled.items ≡ replicate (length c.as_slice-points.result.now * length c.as_slice-rows.result.now) false =
+    search rules in
+    let points_made : c.in_ok-moved.moved.items ≡ replicate (length c.as_slice-points.result.now) false = search rules in
+    known_none system _ c.in_ok-values.ensures (made ∙ ap (λ n. replicate n false) (ap₂ (λ a b. a * b) points rows))
+    (ap (λ ms. length ms) points_made ∙ length-replicate (length c.as_slice-points.result.now) false ∙ points)
+    c.in_ok-incoming.ensures bounds

@@ -1,0 +1,10 @@
+use Rattle.std.proofs.Common.{refl}
+use Rattle.std.specs.List.{range_with_len, flat_map}
+use Rattle.flow_packs.specs.Packs.{sums_together}
+use Rattle.flow_templates.proofs.counted.Rows.{parts_more}
+use Rattle.flow_packs.proofs.rows.pack_rows.Goals as goal
+
+pub loop-first-preserved : goal.loop-first-preserved
+loop-first-preserved c =
+    parts_more (λ i. flat_map (sums_together c.args.vars c.args.groups.now i) (range_with_len 0 c.args.vars)) _ _ _ _ _
+    c.loop-first.invariant c.in_ok-add_pairs.ensures refl

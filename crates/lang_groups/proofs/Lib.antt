@@ -1,0 +1,2 @@
+pub mod together
+pub mod runs

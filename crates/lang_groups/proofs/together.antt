@@ -1,0 +1,4 @@
+pub mod Bools
+pub mod Members
+pub mod Same
+pub mod Kept

@@ -1,0 +1,4 @@
+pub mod Positions
+pub mod Seen
+pub mod machine
+pub mod found
