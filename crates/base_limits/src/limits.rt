@@ -12,8 +12,11 @@ pub const MOST_CERTIFICATE_BYTES: usize = 16777216;
 /// How many improvements are made at most.
 pub const MOST_IMPROVEMENTS: u32 = 1000000;
 
+/// How many improvements `bench` makes at most: a generated program of `MOST_LOOPS` loops takes 1,001.
+pub const MOST_BENCH_IMPROVEMENTS: u32 = 2000;
+
 /// How many cells a joint problem has at most that is solved by the simplex method.
-pub const MOST_CELLS: u64 = 134217728;
+pub const MOST_CELLS: u64 = 50000000;
 
 /// How many loops a generated program has at most.
 pub const MOST_LOOPS: u32 = 500;
