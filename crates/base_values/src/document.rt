@@ -105,7 +105,7 @@ fn reader_at<'b>(
 
 // The elements of the list that the value is before which the reader stands.
 fn opened<'b>(mut reader: Reader<'b>) -> Option<Elements<'b>>
-    requires { IsTrue (is_some (read_at reader.entry)) }
+    requires { IsTrue (is_some (read_at reader)) }
     ensures { option_map left_of result ≡ option_and_then as_array (read_at reader.entry) }
 {
     if takes_array(&mut reader) {
