@@ -55,26 +55,28 @@ module _ (k l : List ℕ) (j : Json) where
 -- where a key is counted, there is a last member
 pub counted : (k : List ℕ) (ms : Members) → 0 < count_key k ms → (j : Json) × (last k ms ≡ Some j)
 counted k no_members h = let never : ⊥ = omega arith in absurd never
-counted k (member l j ms) h = by (bytes_eq l k) refl h
+counted k (member l j ms) h = by (bytes_eq l k) refl h (counted k ms)
   where
     found : (x : Option Json) → (i : Json) × (or_else x (Some j) ≡ Some i)
     found None = (j, refl)
     found (Some i) = (i, refl)
 
     by : (b : Bool) → bytes_eq l k ≡ b → 0 < (if b then 1 + count_key k ms else count_key k ms)
+        → (0 < count_key k ms → (i : Json) × (last k ms ≡ Some i))
         → (i : Json) × (or_else (last k ms) (if b then Some j else None) ≡ Some i)
-    by true e g = found (last k ms)
-    by false e g = let later = counted k ms g in (later.0, ap (λ x. or_else x None) later.1)
+    by true e g again = found (last k ms)
+    by false e g again = let later = again g in (later.0, ap (λ x. or_else x None) later.1)
 
 -- where it isn't, there is none
 pub uncounted : (k : List ℕ) (ms : Members) → count_key k ms ≡ 0 → last k ms ≡ None
 uncounted k no_members h = refl
-uncounted k (member l j ms) h = by (bytes_eq l k) refl h
+uncounted k (member l j ms) h = by (bytes_eq l k) refl h (counted k ms)
   where
     by : (b : Bool) → bytes_eq l k ≡ b → (if b then 1 + count_key k ms else count_key k ms) ≡ 0
+        → (count_key k ms ≡ 0 → last k ms ≡ None)
         → or_else (last k ms) (if b then Some j else None) ≡ None
-    by true e g = let never : ⊥ = omega arith in absurd never
-    by false e g = ap (λ x. or_else x None) (uncounted k ms g)
+    by true e g again = let never : ⊥ = omega arith in absurd never
+    by false e g again = ap (λ x. or_else x None) (again g)
 
 pub latest_some : (k : List ℕ) (o : Option (Members × List Token)) (n : ℕ) → tally k o ≡ Some n → 0 < n → (j : Json) × (latest k o ≡ Some j)
 latest_some k None n e h = absurd cc

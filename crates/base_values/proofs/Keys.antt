@@ -30,7 +30,7 @@ apart l k e h = let same : bytes_eq l k ≡ true = (bytes_eq-Decides l k).1 (sym
 found_last : (k : List ℕ) (ms : json.Members) (old all : Members) → of_members ms old ≡ Some all
     → get_member k all ≡ or_value (last k ms) (get_member k old)
 found_last k json.no_members old all e = let same : all ≡ old = cc in ap (get_member k) same
-found_last k (json.member l j ms) old all e = by (of_json j) refl e
+found_last k (json.member l j ms) old all e = by (of_json j) refl e (λ d f. found_last k ms (put l d old) all f)
   where
     here : (d : Data) (b : Bool) → of_json j ≡ Some d → bytes_eq l k ≡ b
         → get_member k (put l d old) ≡ or_value (if b then Some j else None) (get_member k old)
@@ -43,25 +43,28 @@ found_last k (json.member l j ms) old all e = by (of_json j) refl e
     later d None p = here d (bytes_eq l k) p refl
 
     by : (x : Option Data) → of_json j ≡ x → option_and_then (λ d. of_members ms (put l d old)) x ≡ Some all
+        → ((d : Data) → of_members ms (put l d old) ≡ Some all → get_member k all ≡ or_value (last k ms) (get_member k (put l d old)))
         → get_member k all ≡ or_value (last k (json.member l j ms)) (get_member k old)
-    by None p f = absurd cc
-    by (Some d) p f = found_last k ms (put l d old) all f ∙ later d (last k ms) p
+    by None p f again = absurd cc
+    by (Some d) p f again = again d f ∙ later d (last k ms) p
 
 -- what is last is read
 last_reads : (k : List ℕ) (ms : json.Members) (old all : Members) (i : json.Json) → of_members ms old ≡ Some all → last k ms ≡ Some i
     → is_some (of_json i) ≡ true
 last_reads k json.no_members old all i e f = absurd cc
-last_reads k (json.member l j ms) old all i e f = by (of_json j) refl e
+last_reads k (json.member l j ms) old all i e f = by (of_json j) refl e (λ d g h. last_reads k ms (put l d old) all i g h)
   where
     at_last : (d : Data) (x : Option json.Json) (b : Bool) → of_json j ≡ Some d → last k ms ≡ x
-        → of_members ms (put l d old) ≡ Some all → or_else x (if b then Some j else None) ≡ Some i → is_some (of_json i) ≡ true
-    at_last d (Some h) b p q g r = last_reads k ms (put l d old) all i g (q ∙ r)
-    at_last d None true p q g r = let same : j ≡ i = cc in subst (λ (x : json.Json). is_some (of_json x) ≡ true) same (ap is_some p)
-    at_last d None false p q g r = absurd cc
+        → (last k ms ≡ Some i → is_some (of_json i) ≡ true) → or_else x (if b then Some j else None) ≡ Some i → is_some (of_json i) ≡ true
+    at_last d (Some h) b p q again r = again (q ∙ r)
+    at_last d None true p q again r = let same : j ≡ i = cc in subst (λ (x : json.Json). is_some (of_json x) ≡ true) same (ap is_some p)
+    at_last d None false p q again r = absurd cc
 
-    by : (x : Option Data) → of_json j ≡ x → option_and_then (λ d. of_members ms (put l d old)) x ≡ Some all → is_some (of_json i) ≡ true
-    by None p g = absurd cc
-    by (Some d) p g = at_last d (last k ms) (bytes_eq l k) p refl g f
+    by : (x : Option Data) → of_json j ≡ x → option_and_then (λ d. of_members ms (put l d old)) x ≡ Some all
+        → ((d : Data) → of_members ms (put l d old) ≡ Some all → last k ms ≡ Some i → is_some (of_json i) ≡ true)
+        → is_some (of_json i) ≡ true
+    by None p g again = absurd cc
+    by (Some d) p g again = at_last d (last k ms) (bytes_eq l k) p refl (λ h. again d g h) f
 
 module _ (k : List ℕ) where
   from_members : (ms : json.Members) (x : Option Members) → of_members ms no_members ≡ x → is_some (option_map object x) ≡ true

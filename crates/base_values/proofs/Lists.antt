@@ -64,7 +64,7 @@ array_elements None e = absurd cc
 array_elements (Some (js, r)) e = by (of_items js) e
   where
     by : (x : Option Items) → is_some (option_map array x) ≡ true
-        → (is_some (option_map (λ (b : Items). (b, r)) x) ≡ true)
+        → (is_some {T = Items × List Token} (option_map (λ (b : Items). (b, r)) x) ≡ true)
         × (Some (first_items (option_map (λ (b : Items). (b, r)) x)) ≡ option_and_then as_array (option_map array x))
     by None f = absurd cc
     by (Some ds) f = (refl, refl)

@@ -1,10 +1,19 @@
 -- What a value is read as, by its first token; and the turns of a list and an object that are tested and not held.
 use Rattle.std.proofs.Common.{◌≡◌, ℕ, ◌-◌, ◌<◌, ◌≤◌, List, [], ◌∷◌, length, Bool, Option, Some, None, option_map, option_and_then, refl, sym, ap, ap₂, ◌∙◌, arith}
+use Rattle.std.proofs.Common.{zero, suc, ◌⊎◌, inl, inr, Ordering, Less, Equal, Greater, nat_cmp}
+use Rattle.std.specs.Ordering.{match_ordering}
+use Rattle.std.specs.Cmp.Lexicographic.{slice_cmp}
+use Rattle.base_values.specs.Outline.{flat, flat_members, outline_of}
+use Rattle.std.specs.Prelude.{is_some, Ok, OnErr, OnOk, Result, ⊤, Err}
+use Rattle.std.proofs.Common.{true, false}
 use Rattle.json.specs.Token.{Token}
+use Rattle.json.specs.Reads.{token_of}
+use Rattle.json.specs.declared.token.Token.{Token as Taken}
+use Rattle.json.specs.declared.token.Token.TheVariants.{BeginObject, EndObject, BeginArray, EndArray, Key, String, Number, Bool as Truth, Null, Bad}
 use Rattle.json.specs.Json as json
 use Rattle.json.specs.Json.{Parse, parse_map, after_end_array, items, members, value}
 use Rattle.json.proofs.Grammar.{value_is, value-begin_array, value-begin_object}
-use Rattle.serde_json.specs.Data.{Data, Num, Items, Members, array, boolean, item, no_items, no_members, null, number, object, string}
+use Rattle.serde_json.specs.Data.{Data, Num, Items, Members, array, boolean, item, member, no_items, no_members, null, number, object, put, string}
 use Rattle.serde_json.specs.Read.{converted, number_of, of_items, of_json, of_members}
 use Rattle.base_values.proofs.Turns.{converted-array, converted-object, item_read, item_refused, items_over}
 
@@ -21,8 +30,23 @@ module _ (depth : ℕ) (ts : List Token) where
   pub number_read : (s : List ℕ) (n : Num) → number_of s ≡ Some n → converted of_json (value depth (Token.number s ∷ ts)) ≡ Some (number n, ts)
   number_read s n e = ap (converted of_json) (value_is depth _) ∙ ap (λ o. option_map (λ (b : Data). (b, ts)) (option_map number o)) e
 
-  pub number_refused : (s : List ℕ) → number_of s ≡ None → converted of_json (value depth (Token.number s ∷ ts)) ≡ None
-  number_refused s e = ap (converted of_json) (value_is depth _) ∙ ap (λ o. option_map (λ (b : Data). (b, ts)) (option_map number o)) e
+  pub no_number : (s : List ℕ) → number_of s ≡ None → converted of_json (value depth (Token.number s ∷ ts)) ≡ None
+  no_number s e = ap (converted of_json) (value_is depth _) ∙ ap (λ o. option_map (λ (b : Data). (b, ts)) (option_map number o)) e
+
+  pub number_passes : (s : List ℕ) → is_some (number_of s) ≡ true
+      → (d : Data) × (converted of_json (value depth (Token.number s ∷ ts)) ≡ Some (d, ts))
+  number_passes s h = by (number_of s) refl h
+    where
+      by : (x : Option Num) → number_of s ≡ x → is_some x ≡ true → (d : Data) × (converted of_json (value depth (Token.number s ∷ ts)) ≡ Some (d, ts))
+      by None e g = absurd cc
+      by (Some n) e g = (number n, number_read s n e)
+
+  pub number_refused : (s : List ℕ) → is_some (number_of s) ≡ false → converted of_json (value depth (Token.number s ∷ ts)) ≡ None
+  number_refused s h = by (number_of s) refl h
+    where
+      by : (x : Option Num) → number_of s ≡ x → is_some x ≡ false → converted of_json (value depth (Token.number s ∷ ts)) ≡ None
+      by None e g = no_number s e
+      by (Some n) e g = absurd cc
 
   pub end_object_refused : converted of_json (value depth (Token.end_object ∷ ts)) ≡ None
   end_object_refused = ap (converted of_json) (value_is depth _)
@@ -43,6 +67,33 @@ module _ (depth : ℕ) (ts : List Token) where
   pub object_is : 0 < depth → converted of_json (value depth (Token.begin_object ∷ ts))
       ≡ parse_map object (converted (λ ms. of_members ms no_members) (members (value (depth - 1)) (length ts) ts))
   object_is h = ap (converted of_json) (value-begin_object depth ts h) ∙ converted-object (members (value (depth - 1)) (length ts) ts)
+
+-- ---- tokens that are a value, and tokens that none begins with
+
+abbrev pub plain : Taken → Bool
+plain BeginObject = false
+plain EndObject = false
+plain BeginArray = false
+plain EndArray = false
+plain (Key s) = false
+plain (String s) = true
+plain (Number s) = false
+plain (Truth b) = true
+plain Null = true
+plain Bad = false
+
+pub plain_read : (t : Taken) (depth : ℕ) (ts : List Token) → plain t ≡ true
+    → (d : Data) × (converted of_json (value depth (token_of t ∷ ts)) ≡ Some (d, ts))
+plain_read BeginObject depth ts e = absurd cc
+plain_read EndObject depth ts e = absurd cc
+plain_read BeginArray depth ts e = absurd cc
+plain_read EndArray depth ts e = absurd cc
+plain_read (Key s) depth ts e = absurd cc
+plain_read (String s) depth ts e = (string s.now, string_read depth ts s.now)
+plain_read (Number s) depth ts e = absurd cc
+plain_read (Truth b) depth ts e = (boolean b, boolean_read depth ts b)
+plain_read Null depth ts e = (null, null_read depth ts)
+plain_read Bad depth ts e = absurd cc
 
 -- nothing opens where nothing may nest
 pub deep_array_refused : (depth : ℕ) (ts : List Token) → depth ≡ 0 → converted of_json (value depth (Token.begin_array ∷ ts)) ≡ None
@@ -78,3 +129,91 @@ module _ (p : Parse json.Json) (n : ℕ) (ts : List Token) (f : Items → Items)
 
   pub one_refused : after_end_array ts ≡ None → converted of_json (p ts) ≡ None → all ≡ None
   one_refused going h = e ∙ ap (parse_map f) (item_refused p n ts going h)
+
+-- ---- the outlines of values
+
+module _ (depth : ℕ) (ts r : List Token) (d : Data) where
+  listed_flat : (o : Option (Items × List Token)) → parse_map array o ≡ Some (d, r) → (null ≡ flat d) × (null ≡ outline_of d)
+  listed_flat None e = absurd cc
+  listed_flat (Some p) e = let same : array p.0 ≡ d = cc in (ap flat same, ap outline_of same)
+
+  object_flat : (o : Option (Members × List Token)) → parse_map object o ≡ Some (d, r) → null ≡ flat d
+  object_flat None e = absurd cc
+  object_flat (Some p) e = let same : object p.0 ≡ d = cc in ap flat same
+
+  abbrev Read : Taken → Type 0
+  Read t = converted of_json (value depth (token_of t ∷ ts)) ≡ Some (d, r)
+
+  some_depth : (n : ℕ) → (0 < n) ⊎ (n ≡ 0)
+  some_depth zero = inr refl
+  some_depth (suc n) = inl (omega arith)
+
+  flat_array : (0 < depth) ⊎ (depth ≡ 0) → Read BeginArray → (null ≡ flat d) × (null ≡ outline_of d)
+  flat_array (inl h) e = listed_flat (converted of_items (items (value (depth - 1)) (length ts) ts)) (sym (array_is depth ts h) ∙ e)
+  flat_array (inr h) e = let none : Some (d, r) ≡ None = sym e ∙ deep_array_refused depth ts h in absurd cc
+
+  flat_object : (0 < depth) ⊎ (depth ≡ 0) → Read BeginObject → null ≡ flat d
+  flat_object (inl h) e = object_flat _ (sym (object_is depth ts h) ∙ e)
+  flat_object (inr h) e = let none : Some (d, r) ≡ None = sym e ∙ deep_object_refused depth ts h in absurd cc
+
+  -- what is no number leaves null
+  pub flat_of : (t : Taken) → ((s : _) → t ≡ Number s → ⊥) → Read t → null ≡ flat d
+  flat_of BeginObject not e = flat_object (some_depth depth) e
+  flat_of EndObject not e = let none : Some (d, r) ≡ None = sym e ∙ end_object_refused depth ts in absurd cc
+  flat_of BeginArray not e = (flat_array (some_depth depth) e).0
+  flat_of EndArray not e = let none : Some (d, r) ≡ None = sym e ∙ end_array_refused depth ts in absurd cc
+  flat_of (Key s) not e = let none : Some (d, r) ≡ None = sym e ∙ key_refused depth ts s.now in absurd cc
+  flat_of (String s) not e = let h : Some (string s.now, ts) ≡ Some (d, r) = sym (string_read depth ts s.now) ∙ e in
+      let same : string s.now ≡ d = cc in ap flat same
+  flat_of (Number s) not e = absurd (not s refl)
+  flat_of (Truth b) not e = let h : Some (boolean b, ts) ≡ Some (d, r) = sym (boolean_read depth ts b) ∙ e in
+      let same : boolean b ≡ d = cc in ap flat same
+  flat_of Null not e = let h : Some (null, ts) ≡ Some (d, r) = sym (null_read depth ts) ∙ e in
+      let same : null ≡ d = cc in ap flat same
+  flat_of Bad not e = let none : Some (d, r) ≡ None = sym e ∙ bad_refused depth ts in absurd cc
+
+  -- what is no object has an empty outline
+  pub outline_is : (t : Taken) → (t ≡ BeginObject → ⊥) → Read t → null ≡ outline_of d
+  outline_is BeginObject not e = absurd (not refl)
+  outline_is EndObject not e = let none : Some (d, r) ≡ None = sym e ∙ end_object_refused depth ts in absurd cc
+  outline_is BeginArray not e = (flat_array (some_depth depth) e).1
+  outline_is EndArray not e = let none : Some (d, r) ≡ None = sym e ∙ end_array_refused depth ts in absurd cc
+  outline_is (Key s) not e = let none : Some (d, r) ≡ None = sym e ∙ key_refused depth ts s.now in absurd cc
+  outline_is (String s) not e = let h : Some (string s.now, ts) ≡ Some (d, r) = sym (string_read depth ts s.now) ∙ e in
+      let same : string s.now ≡ d = cc in ap outline_of same
+  outline_is (Number s) not e = by (number_of s.now) refl
+    where
+      by : (x : Option Num) → number_of s.now ≡ x → null ≡ outline_of d
+      by None f = let none : Some (d, r) ≡ None = sym e ∙ no_number depth ts s.now f in absurd cc
+      by (Some n) f = let h : Some (number n, ts) ≡ Some (d, r) = sym (number_read depth ts s.now n f) ∙ e in
+          let same : number n ≡ d = cc in ap outline_of same
+  outline_is (Truth b) not e = let h : Some (boolean b, ts) ≡ Some (d, r) = sym (boolean_read depth ts b) ∙ e in
+      let same : boolean b ≡ d = cc in ap outline_of same
+  outline_is Null not e = let h : Some (null, ts) ≡ Some (d, r) = sym (null_read depth ts) ∙ e in
+      let same : null ≡ d = cc in ap outline_of same
+  outline_is Bad not e = let none : Some (d, r) ≡ None = sym e ∙ bad_refused depth ts in absurd cc
+
+flat_placed : (o : Ordering) (a b c x y z : Members) → flat_members a ≡ x → flat_members b ≡ y → flat_members c ≡ z
+    → flat_members (match_ordering o a b c) ≡ match_ordering o x y z
+flat_placed Less a b c x y z f g h = f
+flat_placed Equal a b c x y z f g h = g
+flat_placed Greater a b c x y z f g h = h
+
+-- what is put flat
+pub flat_put : (k : List ℕ) (d : Data) (ms : Members) → put k (flat d) (flat_members ms) ≡ flat_members (put k d ms)
+flat_put k d no_members = refl
+flat_put k d (member l e ms) = sym (flat_placed (slice_cmp nat_cmp k l) _ _ _ _ _ _ refl refl (ap (member l (flat e)) (sym (flat_put k d ms))))
+
+-- ---- what follows from an answer
+
+pub on_ok : {E P Q : Type 0} (r : Result ⊤ E) → (P → Q) → OnOk r P → OnOk r Q
+on_ok (Ok x) f p = f p
+on_ok (Err e) f p = tt
+
+pub on_err : {E P Q : Type 0} (r : Result ⊤ E) → (P → Q) → OnErr r P → OnErr r Q
+on_err (Ok x) f p = tt
+on_err (Err e) f p = f p
+
+pub err_any : {E P : Type 0} (r : Result ⊤ E) → P → OnErr r P
+err_any (Ok x) p = tt
+err_any (Err e) p = p

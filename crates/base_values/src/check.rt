@@ -6,7 +6,7 @@ ghost use Rattle.json.specs.Reads.{token_of};
 ghost use Rattle.serde_json.specs.Data.{Data, Items, Members, no_members};
 ghost use Rattle.serde_json.specs.Read.{converted, of_items, of_json, of_members};
 
-use crate::number::number;
+use crate::number::is_number;
 use json::{Invalid, Reader, Token};
 
 /// Passes the value that begins with this token, if it is one.
@@ -21,11 +21,16 @@ pub(crate) fn check_token(
     ensures err { OnErr result (converted of_json (value depth (token_of token.entry ∷ reader.old)) ≡ None) }
 {
     match token {
-        Token::String(_) | Token::Bool(_) | Token::Null => Ok(()),
-        Token::Number(text) => match number(text) {
-            Some(_) => Ok(()),
-            None => Err(Invalid),
-        },
+        Token::String(_) => Ok(()),
+        Token::Bool(_) => Ok(()),
+        Token::Null => Ok(()),
+        Token::Number(text) => {
+            if is_number(text) {
+                Ok(())
+            } else {
+                Err(Invalid)
+            }
+        }
         Token::EndObject | Token::EndArray | Token::Key(_) | Token::Bad => Err(Invalid),
         Token::BeginArray => {
             if depth == 0 {

@@ -1,6 +1,6 @@
 //! Numbers.
 
-ghost use Rattle.std.specs.Prelude.{◌≡◌, ◌==◌, ◌<◌, IsTrue, length, option_map, slice_index, true, false};
+ghost use Rattle.std.specs.Prelude.{◌≡◌, ◌==◌, ◌<◌, IsTrue, is_some, length, option_map, slice_index, true, false};
 ghost use Rattle.serde_json.specs.Read.{float_of, number_from, number_of};
 ghost use Rattle.serde_json.specs.View.{number_view};
 
@@ -54,4 +54,11 @@ pub(crate) fn number(text: &str) -> Option<Number>
     } else {
         unsigned(&Numeral::scan(bytes))
     }
+}
+
+/// Whether the number that a token of JSON writes is in range.
+pub(crate) fn is_number(text: &str) -> bool
+    ensures { result ≡ is_some (number_of text.now) }
+{
+    number(text).is_some()
 }

@@ -24,14 +24,16 @@ fn read_flat(reader: &mut Reader<'_>, depth: usize) -> Result<Value, Fault>
     ensures err { result ≡ Err Fault.NotJson → converted of_json (value depth reader.old) ≡ None }
 {
     let token = reader.next().ok_or(Fault::NotJson)?;
-    if let Token::Number(text) = token {
-        return match number(text) {
+    match token {
+        Token::Number(text) => match number(text) {
             Some(number) => Ok(Value::Number(number)),
             None => Err(Fault::NotJson),
-        };
+        },
+        _ => {
+            check_token(token, reader, depth)?;
+            Ok(Value::Null)
+        }
     }
-    check_token(token, reader, depth)?;
-    Ok(Value::Null)
 }
 
 // The members up to the end of an object, each flat.
@@ -62,9 +64,11 @@ pub(crate) fn read_outline(alloc: Global, reader: &mut Reader<'_>, depth: usize)
     ensures err { result ≡ Err Fault.NotJson → converted of_json (value depth reader.old) ≡ None }
 {
     let token = reader.next().ok_or(Fault::NotJson)?;
-    if let Token::BeginObject = token {
-        return Ok(Value::Object(read_flat_members(alloc, reader, depth - 1)?));
+    match token {
+        Token::BeginObject => Ok(Value::Object(read_flat_members(alloc, reader, depth - 1)?)),
+        _ => {
+            check_token(token, reader, depth)?;
+            Ok(Value::Null)
+        }
     }
-    check_token(token, reader, depth)?;
-    Ok(Value::Null)
 }
