@@ -1,2 +1,4 @@
 pub mod ReadShapes
+pub mod Outlines
+pub mod FromElements
 pub mod ReadRests

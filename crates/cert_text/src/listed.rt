@@ -25,7 +25,7 @@ fn are_left_shaped<T: Entry>(
 ) -> Result<bool, AllocError>
     ensures { IfOk result (λ all. all ≡ all_items (T.shaped setting.now) (left_of elements.old)) }
 {
-    while let Some(value) = elements.next(alloc)? {
+    'elements: while let Some(value) = elements.next(alloc)? {
         if !T::has_shape(setting, &value) {
             return Ok(false);
         }
@@ -63,7 +63,7 @@ pub(crate) fn read_elements<T: Entry>(
         → read_from field (T.shaped setting.now) (T.element_in setting.now) (left_of elements.old) ≡ Err fault) }
 {
     let mut list = Vec::new(alloc);
-    while let Some(value) = elements.next(alloc)? {
+    'elements: while let Some(value) = elements.next(alloc)? {
         if !T::has_shape(setting, &value) {
             return Err(FormFault::Shape(field));
         }
@@ -93,7 +93,7 @@ pub(crate) fn count_elements<T: Naming>(
         (λ xs. Ok (capped (values_of (flat_map T.traces_of xs)))) ≡ Err fault) }
 {
     let mut total = 0;
-    while let Some(value) = elements.next(alloc)? {
+    'elements: while let Some(value) = elements.next(alloc)? {
         if !T::has_shape(setting, &value) {
             return Err(FormFault::Shape(field));
         }
