@@ -70,7 +70,7 @@ counted k (member l j ms) h = by (bytes_eq l k) refl h (counted k ms)
 -- where it isn't, there is none
 pub uncounted : (k : List ℕ) (ms : Members) → count_key k ms ≡ 0 → last k ms ≡ None
 uncounted k no_members h = refl
-uncounted k (member l j ms) h = by (bytes_eq l k) refl h (counted k ms)
+uncounted k (member l j ms) h = by (bytes_eq l k) refl h (uncounted k ms)
   where
     by : (b : Bool) → bytes_eq l k ≡ b → (if b then 1 + count_key k ms else count_key k ms) ≡ 0
         → (count_key k ms ≡ 0 → last k ms ≡ None)

@@ -132,14 +132,24 @@ module _ (p : Parse json.Json) (n : ℕ) (ts : List Token) (f : Items → Items)
 
 -- ---- the outlines of values
 
+abbrev first_of : Data → Option (Data × List Token) → Data
+first_of d None = d
+first_of d (Some p) = p.0
+
 module _ (depth : ℕ) (ts r : List Token) (d : Data) where
+  clash : {P : Type 0} (o : Option (Data × List Token)) → o ≡ None → o ≡ Some (d, r) → P
+  clash o e f = absurd cc
+
+  same_of : (o : Option (Data × List Token)) (x : Data) → o ≡ Some (x, ts) → o ≡ Some (d, r) → x ≡ d
+  same_of o x e f = ap (first_of d) (sym e ∙ f)
+
   listed_flat : (o : Option (Items × List Token)) → parse_map array o ≡ Some (d, r) → (null ≡ flat d) × (null ≡ outline_of d)
   listed_flat None e = absurd cc
-  listed_flat (Some p) e = let same : array p.0 ≡ d = cc in (ap flat same, ap outline_of same)
+  listed_flat (Some p) e = let same : array p.0 ≡ d = ap (first_of d) e in (ap flat same, ap outline_of same)
 
   object_flat : (o : Option (Members × List Token)) → parse_map object o ≡ Some (d, r) → null ≡ flat d
   object_flat None e = absurd cc
-  object_flat (Some p) e = let same : object p.0 ≡ d = cc in ap flat same
+  object_flat (Some p) e = let same : object p.0 ≡ d = ap (first_of d) e in ap flat same
 
   abbrev Read : Taken → Type 0
   Read t = converted of_json (value depth (token_of t ∷ ts)) ≡ Some (d, r)
@@ -150,48 +160,41 @@ module _ (depth : ℕ) (ts r : List Token) (d : Data) where
 
   flat_array : (0 < depth) ⊎ (depth ≡ 0) → Read BeginArray → (null ≡ flat d) × (null ≡ outline_of d)
   flat_array (inl h) e = listed_flat (converted of_items (items (value (depth - 1)) (length ts) ts)) (sym (array_is depth ts h) ∙ e)
-  flat_array (inr h) e = let none : Some (d, r) ≡ None = sym e ∙ deep_array_refused depth ts h in absurd cc
+  flat_array (inr h) e = clash _ (deep_array_refused depth ts h) e
 
   flat_object : (0 < depth) ⊎ (depth ≡ 0) → Read BeginObject → null ≡ flat d
   flat_object (inl h) e = object_flat _ (sym (object_is depth ts h) ∙ e)
-  flat_object (inr h) e = let none : Some (d, r) ≡ None = sym e ∙ deep_object_refused depth ts h in absurd cc
+  flat_object (inr h) e = clash _ (deep_object_refused depth ts h) e
 
   -- what is no number leaves null
   pub flat_of : (t : Taken) → ((s : _) → t ≡ Number s → ⊥) → Read t → null ≡ flat d
   flat_of BeginObject not e = flat_object (some_depth depth) e
-  flat_of EndObject not e = let none : Some (d, r) ≡ None = sym e ∙ end_object_refused depth ts in absurd cc
+  flat_of EndObject not e = clash _ (end_object_refused depth ts) e
   flat_of BeginArray not e = (flat_array (some_depth depth) e).0
-  flat_of EndArray not e = let none : Some (d, r) ≡ None = sym e ∙ end_array_refused depth ts in absurd cc
-  flat_of (Key s) not e = let none : Some (d, r) ≡ None = sym e ∙ key_refused depth ts s.now in absurd cc
-  flat_of (String s) not e = let h : Some (string s.now, ts) ≡ Some (d, r) = sym (string_read depth ts s.now) ∙ e in
-      let same : string s.now ≡ d = cc in ap flat same
+  flat_of EndArray not e = clash _ (end_array_refused depth ts) e
+  flat_of (Key s) not e = clash _ (key_refused depth ts s.now) e
+  flat_of (String s) not e = ap flat (same_of _ (string s.now) (string_read depth ts s.now) e)
   flat_of (Number s) not e = absurd (not s refl)
-  flat_of (Truth b) not e = let h : Some (boolean b, ts) ≡ Some (d, r) = sym (boolean_read depth ts b) ∙ e in
-      let same : boolean b ≡ d = cc in ap flat same
-  flat_of Null not e = let h : Some (null, ts) ≡ Some (d, r) = sym (null_read depth ts) ∙ e in
-      let same : null ≡ d = cc in ap flat same
-  flat_of Bad not e = let none : Some (d, r) ≡ None = sym e ∙ bad_refused depth ts in absurd cc
+  flat_of (Truth b) not e = ap flat (same_of _ (boolean b) (boolean_read depth ts b) e)
+  flat_of Null not e = ap flat (same_of _ (null) (null_read depth ts) e)
+  flat_of Bad not e = clash _ (bad_refused depth ts) e
 
   -- what is no object has an empty outline
   pub outline_is : (t : Taken) → (t ≡ BeginObject → ⊥) → Read t → null ≡ outline_of d
   outline_is BeginObject not e = absurd (not refl)
-  outline_is EndObject not e = let none : Some (d, r) ≡ None = sym e ∙ end_object_refused depth ts in absurd cc
+  outline_is EndObject not e = clash _ (end_object_refused depth ts) e
   outline_is BeginArray not e = (flat_array (some_depth depth) e).1
-  outline_is EndArray not e = let none : Some (d, r) ≡ None = sym e ∙ end_array_refused depth ts in absurd cc
-  outline_is (Key s) not e = let none : Some (d, r) ≡ None = sym e ∙ key_refused depth ts s.now in absurd cc
-  outline_is (String s) not e = let h : Some (string s.now, ts) ≡ Some (d, r) = sym (string_read depth ts s.now) ∙ e in
-      let same : string s.now ≡ d = cc in ap outline_of same
+  outline_is EndArray not e = clash _ (end_array_refused depth ts) e
+  outline_is (Key s) not e = clash _ (key_refused depth ts s.now) e
+  outline_is (String s) not e = ap outline_of (same_of _ (string s.now) (string_read depth ts s.now) e)
   outline_is (Number s) not e = by (number_of s.now) refl
     where
       by : (x : Option Num) → number_of s.now ≡ x → null ≡ outline_of d
-      by None f = let none : Some (d, r) ≡ None = sym e ∙ no_number depth ts s.now f in absurd cc
-      by (Some n) f = let h : Some (number n, ts) ≡ Some (d, r) = sym (number_read depth ts s.now n f) ∙ e in
-          let same : number n ≡ d = cc in ap outline_of same
-  outline_is (Truth b) not e = let h : Some (boolean b, ts) ≡ Some (d, r) = sym (boolean_read depth ts b) ∙ e in
-      let same : boolean b ≡ d = cc in ap outline_of same
-  outline_is Null not e = let h : Some (null, ts) ≡ Some (d, r) = sym (null_read depth ts) ∙ e in
-      let same : null ≡ d = cc in ap outline_of same
-  outline_is Bad not e = let none : Some (d, r) ≡ None = sym e ∙ bad_refused depth ts in absurd cc
+      by None f = clash _ (no_number depth ts s.now f) e
+      by (Some n) f = ap outline_of (same_of _ (number n) (number_read depth ts s.now n f) e)
+  outline_is (Truth b) not e = ap outline_of (same_of _ (boolean b) (boolean_read depth ts b) e)
+  outline_is Null not e = ap outline_of (same_of _ (null) (null_read depth ts) e)
+  outline_is Bad not e = clash _ (bad_refused depth ts) e
 
 flat_placed : (o : Ordering) (a b c x y z : Members) → flat_members a ≡ x → flat_members b ≡ y → flat_members c ≡ z
     → flat_members (match_ordering o a b c) ≡ match_ordering o x y z

@@ -154,7 +154,7 @@ check_members-returns-in_err-check_value-clause-err t c =
     let k = c.in-Some.field-0.now in
     let s = c.next_key.new.self in
     let named : read_key l.reader ≡ Some (Some k, s) = grind arith in
-    err_any c.from_residual.result (l.invariant.3 ∙ member_refused p l.invariant.2 l.invariant.0 k l.reader s named c.in_err-check_value.ensures.err)
+    err_any c.from_residual-in_err-check_value.result (l.invariant.3 ∙ member_refused p l.invariant.2 l.invariant.0 k l.reader s named c.in_err-check_value.ensures.err)
 
 pub check_members-returns-clause-ok : goal.check_members-returns-clause-ok
 check_members-returns-clause-ok t c =

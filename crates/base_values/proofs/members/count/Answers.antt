@@ -1,8 +1,8 @@
 use Rattle.std.proofs.Common.{◌≡◌, ◌+◌, ◌-◌, ◌<◌, length, true, false, None, Some, sym, ap, ◌∙◌, arith}
 use Rattle.std.specs.Str.{bytes_eq}
-use Rattle.json.specs.Json.{read_key, value}
+use Rattle.json.specs.Json.{members, read_key, value}
 use Rattle.json.proofs.Grammar.{read_key-shorter}
-use Rattle.base_values.proofs.Counts.{count_ends, count_other, count_same, plus}
+use Rattle.base_values.proofs.Counts.{count_ends, count_other, count_same, plus, tally}
 use Rattle.base_values.proofs.members.count.Goals as goal
 
 pub members-preserved-then-eq : goal.members-preserved-then-eq
@@ -21,7 +21,7 @@ members-preserved-then-eq c =
       omega (arith, l.invariant.1),
       count_same (value 126) c.args.key.now n name l.reader s (omega (arith, l.invariant.1)) named r l.found _ same
           c.in_ok-skip_value.ensures.value l.invariant.2
-          ∙ ap (λ m. plus m _) (sym more),
+          ∙ ap (λ m. plus m (tally c.args.key.now (members (value 126) (n - 1) r))) (sym more),
     )
 
 pub members-preserved : goal.members-preserved

@@ -33,3 +33,15 @@ returns-in-None-clause-err c refused =
     first ∙ ap (λ k. token_of k ∷ c.next.new.self) c.in-Number.is in
     ap (λ ts. converted of_json (value c.args.depth ts)) is
     ∙ no_number c.args.depth c.next.new.self c.in-Number.text.now (sym c.in-None.ensures)
+
+pub returns-in_ok-check_token-in_default : goal.returns-in_ok-check_token-in_default
+returns-in_ok-check_token-in_default c =
+    let first : c.args.reader.now ≡ token_of c.in_ok-token.token ∷ c.next.new.self = grind arith in
+    let done = c.in_ok-check_token-in_default.ensures in
+    let seen : view Null ≡ null = search (rules, the_lemmas) in
+    let kept = flat_of c.args.depth c.next.new.self c.check_token.new.reader done.ok.0 c.in_ok-token.token c.in_default.not-Number done.ok.1 in
+    record {
+      ok = (done.ok.0, ap (λ ts. converted of_json (value c.args.depth ts)) first ∙ done.ok.1, seen ∙ kept);
+      shorter = omega (arith, ap length first, done.shorter);
+      err = λ never. absurd cc;
+    }
