@@ -1,5 +1,5 @@
 use Rattle.std.proofs.Common.{◌≡◌, ◌≢◌, ◌∙◌, Err, List, ap, arith, length, map, rules, sym}
-use Rattle.serde_json.specs.View.{view}
+use Rattle.base_values.specs.Documents.{value_of}
 use Rattle.base_fractions.specs.Extended.{extended}
 use Rattle.base_fractions.specs.declared.ext.Ext.{Ext}
 use Rattle.cert_text.specs.declared.fault.FormFault.TheVariants.{NoMemory}
@@ -11,7 +11,7 @@ use Rattle.cert_text.proofs.reading.read_fields.Goals as goal
 
 pub returns-in_err-lines : goal.returns-in_err-lines
 returns-in_err-lines c =
-    let d = view c.args.value.now in
+    let d = value_of c.args.document.now in
     let rows = c.in_ok-rows.rows in
     let long : length rows.items ≡ c.len-count.result = omega (arith, rows.ok.0, c.len-count.ensures) in
     let h : c.in_err-lines.field-0.0 ≢ NoMemory → fields_in c.args.sparse d ≡ Err c.in_err-lines.field-0.0 =
@@ -21,7 +21,7 @@ returns-in_err-lines c =
 
 pub returns-in_err-traces : goal.returns-in_err-traces
 returns-in_err-traces c =
-    let d = view c.args.value.now in
+    let d = value_of c.args.document.now in
     let rows = c.in_ok-rows.rows in
     let long : length rows.items ≡ c.len-count.result = omega (arith, rows.ok.0, c.len-count.ensures) in
     let h : c.in_err-traces.field-0.0 ≢ NoMemory → fields_in c.args.sparse d ≡ Err c.in_err-traces.field-0.0 =
@@ -31,7 +31,7 @@ returns-in_err-traces c =
 
 pub returns-in_err-steps : goal.returns-in_err-steps
 returns-in_err-steps c =
-    let d = view c.args.value.now in
+    let d = value_of c.args.document.now in
     let rows = c.in_ok-rows.rows in
     let long : length rows.items ≡ c.len-count.result = omega (arith, rows.ok.0, c.len-count.ensures) in
     let h : c.in_err-steps.field-0.0 ≢ NoMemory → fields_in c.args.sparse d ≡ Err c.in_err-steps.field-0.0 =
@@ -42,7 +42,7 @@ returns-in_err-steps c =
 
 pub returns : goal.returns
 returns c =
-    let d = view c.args.value.now in
+    let d = value_of c.args.document.now in
     let rows = c.in_ok-rows.rows in
     let long : length rows.items ≡ c.len-count.result = omega (arith, rows.ok.0, c.len-count.ensures) in
     let rest = c.in_ok-steps.field-0 in
