@@ -1,4 +1,2 @@
 pub mod ReadShapes
-pub mod Outlines
-pub mod FromElements
 pub mod ReadRests

@@ -9,7 +9,6 @@ mod items;
 mod keys;
 mod law;
 mod limits;
-mod listed;
 mod members;
 mod naming;
 mod numbering;

@@ -55,7 +55,7 @@ module _ {A : Type 0} (read : Data → Option A) where
   next_read (x ∷ vs) zero v lt is = ap (λ (y : Value). joined (read (view y)) (left_to_read vs 0)) (sym is)
   next_read (x ∷ vs) (suc i) v lt is = next_read vs i v (omega arith) is
 
-  pub after_push : (done : List A) (x : A) (rest : Option (List A)) → after done (joined (Some x) rest) ≡ after (done ++ x ∷ []) rest
+  after_push : (done : List A) (x : A) (rest : Option (List A)) → after done (joined (Some x) rest) ≡ after (done ++ x ∷ []) rest
   after_push done x None = refl
   after_push done x (Some xs) = ap Some (sym (append_assoc done (x ∷ []) xs))
 

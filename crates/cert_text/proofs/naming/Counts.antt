@@ -27,12 +27,12 @@ module _ {A : Type 0} (read : Data → Option A) (traces_of : A → List Trace) 
   abbrev pub count_all : List Value → Option ℕ
   count_all vs = option_map (λ (xs : List A). capped (values_of (flat_map traces_of xs))) (items_in read (items_view vs))
 
-  pub counted_none : (o : Option (List A)) → option_map (λ (xs : List A). capped (values_of (flat_map traces_of xs))) o ≡ counted 0 o
+  counted_none : (o : Option (List A)) → option_map (λ (xs : List A). capped (values_of (flat_map traces_of xs))) o ≡ counted 0 o
   counted_none None = refl
   counted_none (Some xs) = let z : values_of (flat_map traces_of xs) ≡ 0 + values_of (flat_map traces_of xs) = omega arith in
       ap (λ n. Some (capped n)) z
 
-  pub counted_push : (total m : ℕ) (x : A) (rest : Option (List A)) → m ≡ capped (values_of (traces_of x))
+  counted_push : (total m : ℕ) (x : A) (rest : Option (List A)) → m ≡ capped (values_of (traces_of x))
       → counted total (option_map (λ (xs : List A). x ∷ xs) rest) ≡ counted (capped (total + m)) rest
   counted_push total m x None e = refl
   counted_push total m x (Some xs) e =
