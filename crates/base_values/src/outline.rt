@@ -14,9 +14,6 @@ use json::{Reader, Token};
 use serde_json::{Map, Value};
 use std::alloc::Global;
 
-
-
-
 // The next value if it is a number, and null in place of any other.
 fn read_flat(reader: &mut Reader<'_>, depth: usize) -> Result<Value, Fault>
     ensures ok { IfOk result (λ v. (d : Data) × (converted of_json (value depth reader.old) ≡ Some (d, reader.new)) × (view v ≡ flat d)) }
@@ -57,7 +54,11 @@ fn read_flat_members(
 }
 
 /// The outline of the next value.
-pub(crate) fn read_outline(alloc: Global, reader: &mut Reader<'_>, depth: usize) -> Result<Value, Fault>
+pub(crate) fn read_outline(
+    alloc: Global,
+    reader: &mut Reader<'_>,
+    depth: usize,
+) -> Result<Value, Fault>
     requires { 0 < depth }
     ensures ok { IfOk result (λ v. (d : Data) × (converted of_json (value depth reader.old) ≡ Some (d, reader.new))
         × (view v ≡ outline_of d)) }

@@ -20,7 +20,7 @@ abbrev pub invariant-check_items-items : goal.invariant-check_items-items
 invariant-check_items-items l =
     (n : ℕ) × (length l.reader ≤ n) × (f : Items → Items)
     × (converted of_items (items (value l.depth) (length l.initial.reader) l.initial.reader)
-        ≡ parse_map f (converted of_items (items (value l.depth) n l.reader)))
+    ≡ parse_map f (converted of_items (items (value l.depth) n l.reader)))
     × (length l.reader ≤ length l.initial.reader)
 
 abbrev pub decreases-check_items-items : goal.decreases-check_items-items
@@ -30,7 +30,7 @@ abbrev pub invariant-check_members-members : goal.invariant-check_members-member
 invariant-check_members-members l =
     (n : ℕ) × (length l.reader ≤ n) × (old : Members)
     × (converted (λ ms. of_members ms no_members) (members (value l.depth) (length l.initial.reader) l.initial.reader)
-        ≡ converted (λ ms. of_members ms old) (members (value l.depth) n l.reader))
+    ≡ converted (λ ms. of_members ms old) (members (value l.depth) n l.reader))
     × (length l.reader ≤ length l.initial.reader)
 
 abbrev pub decreases-check_members-members : goal.decreases-check_members-members

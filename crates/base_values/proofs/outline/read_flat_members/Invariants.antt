@@ -10,7 +10,7 @@ abbrev pub invariant-members : goal.invariant-members
 invariant-members l =
     (n : ℕ) × (length l.reader ≤ n) × (old : Members) × (members_view l.found.entries ≡ flat_members old)
     × (converted (λ ms. of_members ms no_members) (members (value l.depth) (length l.initial.reader) l.initial.reader)
-        ≡ converted (λ ms. of_members ms old) (members (value l.depth) n l.reader))
+    ≡ converted (λ ms. of_members ms old) (members (value l.depth) n l.reader))
 
 abbrev pub decreases-members : goal.decreases-members
 decreases-members l = length l.reader
