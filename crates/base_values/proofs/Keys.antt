@@ -1,5 +1,6 @@
 -- What the last member of a key is in the object that is read.
-use Rattle.std.proofs.Common.{◌≡◌, ℕ, ◌-◌, ◌<◌, List, [], ◌∷◌, length, Bool, true, false, Option, Some, None, option_map, option_and_then, refl, sym, ap, ◌∙◌, subst, arith}
+use Rattle.std.proofs.Common.{◌≡◌, ℕ, ◌-◌, ◌<◌, List, [], ◌∷◌, length, Bool, true, false, Option, Some, None, option_map, option_and_then}
+use Rattle.std.proofs.Common.{refl, sym, ap, ◌∙◌, subst, arith}
 use Rattle.std.specs.Prelude.{if◌then◌else◌, is_some}
 use Rattle.std.specs.Str.{bytes_eq}
 use Rattle.std.proofs.lemmas.Slice.Eq.{bytes_eq-Decides}
@@ -34,7 +35,8 @@ found_last k (json.member l j ms) old all e = by (of_json j) refl e (λ d f. fou
   where
     here : (d : Data) (b : Bool) → of_json j ≡ Some d → bytes_eq l k ≡ b
         → get_member k (put l d old) ≡ or_value (if b then Some j else None) (get_member k old)
-    here d true p q = subst (λ (name : List ℕ). get_member k (put name d old) ≡ of_json j) (sym (truth l k q)) (get_member-put k d old ∙ sym p)
+    here d true p q = subst (λ (name : List ℕ). get_member k (put name d old) ≡ of_json j) (sym (truth l k q)) (get_member-put k d old
+        ∙ sym p)
     here d false p q = get_member-put_other k l d old (apart l k q)
 
     later : (d : Data) (x : Option json.Json) → of_json j ≡ Some d
@@ -83,7 +85,8 @@ module _ (k : List ℕ) where
   key_is (Some (ms, [])) e = from_members ms (of_members ms no_members) refl e
   key_is (Some (ms, t ∷ r)) e = absurd cc
 
-  key_reads : (o : Option (json.Members × List Token)) (j : json.Json) → is_some (whole (parse_map json.object o)) ≡ true → latest k o ≡ Some j
+  key_reads : (o : Option (json.Members × List Token)) (j : json.Json) → is_some (whole (parse_map json.object o)) ≡ true
+      → latest k o ≡ Some j
       → is_some (of_json j) ≡ true
   key_reads None j e f = absurd cc
   key_reads (Some (ms, [])) j e f = by (of_members ms no_members) refl e
@@ -119,7 +122,8 @@ key_of_object k ts t h e =
     ap (λ o. get k (or_null o)) same ∙ key_is k (members_at t) (sym (ap is_some same) ∙ h)
     ∙ ap (λ o. option_and_then of_json (option_and_then (λ (r : List Token). latest k (members_at r)) o)) (sym e)
 
-pub reads_of_object : (k : List ℕ) (ts t : List Token) (j : json.Json) → is_some (whole (value 127 ts)) ≡ true → after_begin_object ts ≡ Some t
+pub reads_of_object : (k : List ℕ) (ts t : List Token) (j : json.Json) → is_some (whole (value 127 ts)) ≡ true
+    → after_begin_object ts ≡ Some t
     → last_in k ts ≡ Some j → is_some (of_json j) ≡ true
 reads_of_object k ts t j h e f =
     let same = object_whole ts t e in

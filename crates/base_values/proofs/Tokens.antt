@@ -1,5 +1,6 @@
 -- What a value is read as, by its first token; and the turns of a list and an object that are tested and not held.
-use Rattle.std.proofs.Common.{◌≡◌, ℕ, ◌-◌, ◌<◌, ◌≤◌, List, [], ◌∷◌, length, Bool, Option, Some, None, option_map, option_and_then, refl, sym, ap, ap₂, ◌∙◌, arith}
+use Rattle.std.proofs.Common.{◌≡◌, ℕ, ◌-◌, ◌<◌, ◌≤◌, List, [], ◌∷◌, length, Bool, Option, Some, None, option_map, option_and_then, refl}
+use Rattle.std.proofs.Common.{sym, ap, ap₂, ◌∙◌, arith}
 use Rattle.std.proofs.Common.{zero, suc, ◌⊎◌, inl, inr, Ordering, Less, Equal, Greater, nat_cmp}
 use Rattle.std.specs.Ordering.{match_ordering}
 use Rattle.std.specs.Cmp.Lexicographic.{slice_cmp}
@@ -9,11 +10,13 @@ use Rattle.std.proofs.Common.{true, false}
 use Rattle.json.specs.Token.{Token}
 use Rattle.json.specs.Reads.{token_of}
 use Rattle.json.specs.declared.token.Token.{Token as Taken}
-use Rattle.json.specs.declared.token.Token.TheVariants.{BeginObject, EndObject, BeginArray, EndArray, Key, String, Number, Bool as Truth, Null, Bad}
+use Rattle.json.specs.declared.token.Token.TheVariants.{BeginObject, EndObject, BeginArray, EndArray, Key, String, Number, Bool as Truth}
+use Rattle.json.specs.declared.token.Token.TheVariants.{Null, Bad}
 use Rattle.json.specs.Json as json
 use Rattle.json.specs.Json.{Parse, parse_map, after_end_array, items, members, value}
 use Rattle.json.proofs.Grammar.{value_is, value-begin_array, value-begin_object}
-use Rattle.serde_json.specs.Data.{Data, Num, Items, Members, array, boolean, item, member, no_items, no_members, null, number, object, put, string}
+use Rattle.serde_json.specs.Data.{Data, Num, Items, Members, array, boolean, item, member, no_items, no_members, null, number, object}
+use Rattle.serde_json.specs.Data.{put, string}
 use Rattle.serde_json.specs.Read.{converted, number_of, of_items, of_json, of_members}
 use Rattle.base_values.proofs.Turns.{converted-array, converted-object, item_read, item_refused, items_over}
 
@@ -27,7 +30,8 @@ module _ (depth : ℕ) (ts : List Token) where
   pub null_read : converted of_json (value depth (Token.null ∷ ts)) ≡ Some (null, ts)
   null_read = ap (converted of_json) (value_is depth _)
 
-  pub number_read : (s : List ℕ) (n : Num) → number_of s ≡ Some n → converted of_json (value depth (Token.number s ∷ ts)) ≡ Some (number n, ts)
+  pub number_read : (s : List ℕ) (n : Num) → number_of s ≡ Some n
+      → converted of_json (value depth (Token.number s ∷ ts)) ≡ Some (number n, ts)
   number_read s n e = ap (converted of_json) (value_is depth _) ∙ ap (λ o. option_map (λ (b : Data). (b, ts)) (option_map number o)) e
 
   pub no_number : (s : List ℕ) → number_of s ≡ None → converted of_json (value depth (Token.number s ∷ ts)) ≡ None
@@ -37,7 +41,8 @@ module _ (depth : ℕ) (ts : List Token) where
       → (d : Data) × (converted of_json (value depth (Token.number s ∷ ts)) ≡ Some (d, ts))
   number_passes s h = by (number_of s) refl h
     where
-      by : (x : Option Num) → number_of s ≡ x → is_some x ≡ true → (d : Data) × (converted of_json (value depth (Token.number s ∷ ts)) ≡ Some (d, ts))
+      by : (x : Option Num) → number_of s ≡ x → is_some x ≡ true
+          → (d : Data) × (converted of_json (value depth (Token.number s ∷ ts)) ≡ Some (d, ts))
       by None e g = absurd cc
       by (Some n) e g = (number n, number_read s n e)
 
@@ -110,7 +115,8 @@ nothing_read depth = ap (converted of_json) (value_is depth [])
 
 -- ---- lists that are tested
 
-pub map_twice : {A B C : Type 0} (f : B → C) (g : A → B) (o : Option (A × List Token)) → parse_map f (parse_map g o) ≡ parse_map (λ x. f (g x)) o
+pub map_twice : {A B C : Type 0} (f : B → C) (g : A → B) (o : Option (A × List Token))
+    → parse_map f (parse_map g o) ≡ parse_map (λ x. f (g x)) o
 map_twice f g None = refl
 map_twice f g (Some p) = refl
 
@@ -205,7 +211,8 @@ flat_placed Greater a b c x y z f g h = h
 -- what is put flat
 pub flat_put : (k : List ℕ) (d : Data) (ms : Members) → put k (flat d) (flat_members ms) ≡ flat_members (put k d ms)
 flat_put k d no_members = refl
-flat_put k d (member l e ms) = sym (flat_placed (slice_cmp nat_cmp k l) _ _ _ _ _ _ refl refl (ap (member l (flat e)) (sym (flat_put k d ms))))
+flat_put k d (member l e ms) = sym (flat_placed (slice_cmp nat_cmp k l) _ _ _ _ _ _ refl refl (ap (member l (flat e)) (sym
+    (flat_put k d ms))))
 
 -- ---- what follows from an answer
 

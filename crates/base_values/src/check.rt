@@ -63,7 +63,8 @@ pub(crate) fn check_value(reader: &mut Reader<'_>, depth: usize) -> Result<(), I
 // Passes the values up to the end of a list.
 #[cycle(check)]
 fn check_items(reader: &mut Reader<'_>, depth: usize) -> Result<(), Invalid>
-    ensures ok { OnOk result ((ds : Items) × (converted of_items (items (value depth) (length reader.old) reader.old) ≡ Some (ds, reader.new))) }
+    ensures ok { OnOk result ((ds : Items) × (converted of_items (items (value depth) (length reader.old) reader.old)
+        ≡ Some (ds, reader.new))) }
     ensures shorter { OnOk result (length reader.new < length reader.old) }
     ensures err { OnErr result (converted of_items (items (value depth) (length reader.old) reader.old) ≡ None) }
 {

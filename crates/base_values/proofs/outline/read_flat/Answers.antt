@@ -39,7 +39,8 @@ returns-in_ok-check_token-in_default c =
     let first : c.args.reader.now ≡ token_of c.in_ok-token.token ∷ c.next.new.self = grind arith in
     let done = c.in_ok-check_token-in_default.ensures in
     let seen : view Null ≡ null = search (rules, the_lemmas) in
-    let kept = flat_of c.args.depth c.next.new.self c.check_token.new.reader done.ok.0 c.in_ok-token.token c.in_default.not-Number done.ok.1 in
+    let kept = flat_of c.args.depth c.next.new.self c.check_token.new.reader done.ok.0 c.in_ok-token.token
+    c.in_default.not-Number done.ok.1 in
     record {
       ok = (done.ok.0, ap (λ ts. converted of_json (value c.args.depth ts)) first ∙ done.ok.1, seen ∙ kept);
       shorter = omega (arith, ap length first, done.shorter);

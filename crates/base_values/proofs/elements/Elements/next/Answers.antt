@@ -13,7 +13,8 @@ or_right false b e = e
 
 pub returns-then-take_end_array : goal.returns-then-take_end_array
 returns-then-take_end_array c =
-    let is : c.args.self.now ≡ Some c.self.inside.reader = sym c.self.view_is ∙ ap (λ b. unless_over b c.self.inside.reader) c.if-self.false in
+    let is : c.args.self.now ≡ Some c.self.inside.reader = sym c.self.view_is
+        ∙ ap (λ b. unless_over b c.self.inside.reader) c.if-self.false in
     (ap left_of is ∙ ended c.self.inside.reader c.take_end_array.new.self c.if-take_end_array.ensures, refl)
 
 pub invariant_of-self-in-Ok : goal.invariant_of-self-in-Ok
