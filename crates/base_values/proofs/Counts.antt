@@ -22,6 +22,7 @@ plus_some : (o : Option ℕ) (m n : ℕ) → plus m o ≡ Some n → (c : ℕ) �
 plus_some None m n e = absurd cc
 plus_some (Some c) m n e = (c, refl, cc)
 
+-- nothing more
 pub plus_none : (o : Option ℕ) → o ≡ plus 0 o
 plus_none None = refl
 plus_none (Some c) = ap Some (omega arith)
@@ -33,10 +34,12 @@ plus_twice m n (Some c) = ap Some (omega arith)
 -- ---- one member more
 
 module _ (k l : List ℕ) (j : Json) where
+  -- a member of the key is counted
   pub tally_same : bytes_eq l k ≡ true → (o : Option (Members × List Token)) → tally k (parse_map (member l j) o) ≡ plus 1 (tally k o)
   tally_same e None = refl
   tally_same e (Some p) = ap (λ b. Some (if b then 1 + count_key k p.0 else count_key k p.0)) e
 
+  -- a member of another key is not
   pub tally_other : bytes_eq l k ≡ false → (o : Option (Members × List Token)) → tally k (parse_map (member l j) o) ≡ tally k o
   tally_other e None = refl
   tally_other e (Some p) = ap (λ b. Some (if b then 1 + count_key k p.0 else count_key k p.0)) e
@@ -45,6 +48,7 @@ module _ (k l : List ℕ) (j : Json) where
   or_none None = refl
   or_none (Some i) = refl
 
+  -- nor is it the last one
   pub latest_other : bytes_eq l k ≡ false → (o : Option (Members × List Token)) → latest k (parse_map (member l j) o) ≡ latest k o
   latest_other e None = refl
   latest_other e (Some p) = ap (λ b. or_else (last k p.0) (if b then Some j else None)) e ∙ or_none (last k p.0)
@@ -79,14 +83,17 @@ uncounted k (member l j ms) h = by (bytes_eq l k) refl h (uncounted k ms)
     by true e g again = let never : ⊥ = omega arith in absurd never
     by false e g again = ap (λ x. or_else x None) (again g)
 
+-- where some are counted, there is a last one
 pub latest_some : (k : List ℕ) (o : Option (Members × List Token)) (n : ℕ) → tally k o ≡ Some n → 0 < n → (j : Json) × (latest k o ≡ Some j)
 latest_some k None n e h = absurd cc
 latest_some k (Some p) n e h = let is : count_key k p.0 ≡ n = cc in counted k p.0 (omega arith)
 
+-- where none is, there is none
 pub latest_none : (k : List ℕ) (o : Option (Members × List Token)) → tally k o ≡ Some 0 → latest k o ≡ None
 latest_none k None e = refl
 latest_none k (Some p) e = uncounted k p.0 cc
 
+-- one that others follow is not the last
 pub latest_same : (k l : List ℕ) (j : Json) → bytes_eq l k ≡ true → (o : Option (Members × List Token)) (n : ℕ) → tally k o ≡ Some n → 0 < n
     → latest k (parse_map (member l j) o) ≡ latest k o
 latest_same k l j e None n h some = refl
@@ -111,6 +118,7 @@ module _ (p : Parse Json) (k : List ℕ) where
       ∙ ap (λ m. option_and_then (λ q. parse_map (member l q.0) (members p m q.1)) (p s)) less
 
   module _ (n : ℕ) (l : List ℕ) (ts s : List Token) (some : 0 < n) (key : read_key ts ≡ Some (Some l, s)) where
+    -- the count past a member of the key
     pub count_same : (r : List Token) (found : ℕ) (all : Option ℕ) → bytes_eq l k ≡ true → left (p s) ≡ Some r
         → all ≡ plus found (tally k (members p n ts)) → all ≡ plus (found + 1) (tally k (members p (n - 1) r))
     count_same r found all e skip is =
@@ -118,6 +126,7 @@ module _ (p : Parse Json) (k : List ℕ) where
         is ∙ ap (λ o. plus found (tally k o)) (members_more p n l ts s r j.0 some key j.1)
         ∙ ap (plus found) (tally_same k l j.0 e (members p (n - 1) r)) ∙ plus_twice found 1 _
 
+    -- the count past another member
     pub count_other : (r : List Token) (all : Option ℕ) (found : ℕ) → bytes_eq l k ≡ false → left (p s) ≡ Some r
         → all ≡ plus found (tally k (members p n ts)) → all ≡ plus found (tally k (members p (n - 1) r))
     count_other r all found e skip is =
@@ -125,6 +134,7 @@ module _ (p : Parse Json) (k : List ℕ) where
         is ∙ ap (λ o. plus found (tally k o)) (members_more p n l ts s r j.0 some key j.1)
         ∙ ap (plus found) (tally_other k l j.0 e (members p (n - 1) r))
 
+    -- what is left to count past another member
     pub pass_other : (r : List Token) (c : ℕ) (all : Option Json) → bytes_eq l k ≡ false → left (p s) ≡ Some r
         → tally k (members p n ts) ≡ Some c → all ≡ latest k (members p n ts)
         → (tally k (members p (n - 1) r) ≡ Some c) × (all ≡ latest k (members p (n - 1) r))
@@ -135,6 +145,7 @@ module _ (p : Parse Json) (k : List ℕ) where
           is ∙ ap (latest k) turn ∙ latest_other k l j.0 e (members p (n - 1) r),
         )
 
+    -- what is left to count past a member of the key that others follow
     pub pass_same : (r : List Token) (c : ℕ) (all : Option Json) → bytes_eq l k ≡ true → left (p s) ≡ Some r
         → tally k (members p n ts) ≡ Some c → 1 < c → all ≡ latest k (members p n ts)
         → (tally k (members p (n - 1) r) ≡ Some (c - 1)) × (all ≡ latest k (members p (n - 1) r))
@@ -149,6 +160,7 @@ module _ (p : Parse Json) (k : List ℕ) where
           is ∙ ap (latest k) turn ∙ latest_same k l j.0 e (members p (n - 1) r) (c - 1) here (omega arith),
         )
 
+    -- the last one, where one is left to count
     pub last_here : (all : Option Json) → bytes_eq l k ≡ true → tally k (members p n ts) ≡ Some 1 → all ≡ latest k (members p n ts)
         → option_map (λ q. q.0) (p s) ≡ all
     last_here all e count is =
@@ -169,6 +181,7 @@ module _ (p : Parse Json) (k : List ℕ) where
             let none : one.0 ≡ 0 = omega (arith, one.2) in
             sym (only q.0 (members p (n - 1) q.1) (one.1 ∙ ap Some none))
 
+  -- the count at the end
   pub count_ends : (n : ℕ) (ts r : List Token) (found : ℕ) (all : Option ℕ) → length ts ≤ n → read_key ts ≡ Some (None, r)
       → all ≡ plus found (tally k (members p n ts)) → all ≡ Some found
   count_ends n ts r found all enough e is =

@@ -21,6 +21,7 @@ module _ (p : Parse Json) (takes : Takes p) (none : p [] ≡ None) where
   nothing_left zero = refl
   nothing_left (suc n) = ap (option_and_then (λ q. parse_map (item q.0) (items p n q.1))) none
 
+  -- two bounds that are enough give the same
   pub items_enough : (n m : ℕ) (ts : List Token) → length ts ≤ n → length ts ≤ m → items p n ts ≡ items p m ts
   unfolding items
   items_enough zero m [] a b = sym (nothing_left m)

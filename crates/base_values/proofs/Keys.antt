@@ -122,6 +122,7 @@ key_of_object k ts t h e =
     ap (λ o. get k (or_null o)) same ∙ key_is k (members_at t) (sym (ap is_some same) ∙ h)
     ∙ ap (λ o. option_and_then of_json (option_and_then (λ (r : List Token). latest k (members_at r)) o)) (sym e)
 
+-- the last member of a key in a text that is read is read
 pub reads_of_object : (k : List ℕ) (ts t : List Token) (j : json.Json) → is_some (whole (value 127 ts)) ≡ true
     → after_begin_object ts ≡ Some t
     → last_in k ts ≡ Some j → is_some (of_json j) ≡ true

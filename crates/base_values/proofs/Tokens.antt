@@ -21,22 +21,28 @@ use Rattle.serde_json.specs.Read.{converted, number_of, of_items, of_json, of_me
 use Rattle.base_values.proofs.Turns.{converted-array, converted-object, item_read, item_refused, items_over}
 
 module _ (depth : ℕ) (ts : List Token) where
+  -- a text
   pub string_read : (s : List ℕ) → converted of_json (value depth (Token.string s ∷ ts)) ≡ Some (string s, ts)
   string_read s = ap (converted of_json) (value_is depth _)
 
+  -- a truth value
   pub boolean_read : (b : Bool) → converted of_json (value depth (Token.boolean b ∷ ts)) ≡ Some (boolean b, ts)
   boolean_read b = ap (converted of_json) (value_is depth _)
 
+  -- null
   pub null_read : converted of_json (value depth (Token.null ∷ ts)) ≡ Some (null, ts)
   null_read = ap (converted of_json) (value_is depth _)
 
+  -- a number in range
   pub number_read : (s : List ℕ) (n : Num) → number_of s ≡ Some n
       → converted of_json (value depth (Token.number s ∷ ts)) ≡ Some (number n, ts)
   number_read s n e = ap (converted of_json) (value_is depth _) ∙ ap (λ o. option_map (λ (b : Data). (b, ts)) (option_map number o)) e
 
+  -- a number that is not
   pub no_number : (s : List ℕ) → number_of s ≡ None → converted of_json (value depth (Token.number s ∷ ts)) ≡ None
   no_number s e = ap (converted of_json) (value_is depth _) ∙ ap (λ o. option_map (λ (b : Data). (b, ts)) (option_map number o)) e
 
+  -- some value, where the number is in range
   pub number_passes : (s : List ℕ) → is_some (number_of s) ≡ true
       → (d : Data) × (converted of_json (value depth (Token.number s ∷ ts)) ≡ Some (d, ts))
   number_passes s h = by (number_of s) refl h
@@ -46,6 +52,7 @@ module _ (depth : ℕ) (ts : List Token) where
       by None e g = absurd cc
       by (Some n) e g = (number n, number_read s n e)
 
+  -- no value, where it is not
   pub number_refused : (s : List ℕ) → is_some (number_of s) ≡ false → converted of_json (value depth (Token.number s ∷ ts)) ≡ None
   number_refused s h = by (number_of s) refl h
     where
@@ -53,22 +60,28 @@ module _ (depth : ℕ) (ts : List Token) where
       by None e g = no_number s e
       by (Some n) e g = absurd cc
 
+  -- no value begins with a brace that closes
   pub end_object_refused : converted of_json (value depth (Token.end_object ∷ ts)) ≡ None
   end_object_refused = ap (converted of_json) (value_is depth _)
 
+  -- nor with a bracket that closes
   pub end_array_refused : converted of_json (value depth (Token.end_array ∷ ts)) ≡ None
   end_array_refused = ap (converted of_json) (value_is depth _)
 
+  -- nor with a key
   pub key_refused : (s : List ℕ) → converted of_json (value depth (Token.key s ∷ ts)) ≡ None
   key_refused s = ap (converted of_json) (value_is depth _)
 
+  -- nor where the text is none
   pub bad_refused : converted of_json (value depth (Token.bad ∷ ts)) ≡ None
   bad_refused = ap (converted of_json) (value_is depth _)
 
+  -- a list is what its values are
   pub array_is : 0 < depth → converted of_json (value depth (Token.begin_array ∷ ts))
       ≡ parse_map array (converted of_items (items (value (depth - 1)) (length ts) ts))
   array_is h = ap (converted of_json) (value-begin_array depth ts h) ∙ converted-array (items (value (depth - 1)) (length ts) ts)
 
+  -- an object is what its members are
   pub object_is : 0 < depth → converted of_json (value depth (Token.begin_object ∷ ts))
       ≡ parse_map object (converted (λ ms. of_members ms no_members) (members (value (depth - 1)) (length ts) ts))
   object_is h = ap (converted of_json) (value-begin_object depth ts h) ∙ converted-object (members (value (depth - 1)) (length ts) ts)
@@ -87,6 +100,7 @@ plain (Truth b) = true
 plain Null = true
 plain Bad = false
 
+-- a token that is a value is read
 pub plain_read : (t : Taken) (depth : ℕ) (ts : List Token) → plain t ≡ true
     → (d : Data) × (converted of_json (value depth (token_of t ∷ ts)) ≡ Some (d, ts))
 plain_read BeginObject depth ts e = absurd cc
@@ -105,6 +119,7 @@ pub deep_array_refused : (depth : ℕ) (ts : List Token) → depth ≡ 0 → con
 unfolding value
 deep_array_refused depth ts e = ap (λ d. converted of_json (value d (Token.begin_array ∷ ts))) e
 
+-- nor does an object
 pub deep_object_refused : (depth : ℕ) (ts : List Token) → depth ≡ 0 → converted of_json (value depth (Token.begin_object ∷ ts)) ≡ None
 unfolding value
 deep_object_refused depth ts e = ap (λ d. converted of_json (value d (Token.begin_object ∷ ts))) e
@@ -115,24 +130,29 @@ nothing_read depth = ap (converted of_json) (value_is depth [])
 
 -- ---- lists that are tested
 
+-- one map after another
 pub map_twice : {A B C : Type 0} (f : B → C) (g : A → B) (o : Option (A × List Token))
     → parse_map f (parse_map g o) ≡ parse_map (λ x. f (g x)) o
 map_twice f g None = refl
 map_twice f g (Some p) = refl
 
+-- a map that changes nothing
 pub map_none : {A : Type 0} (o : Option (A × List Token)) → o ≡ parse_map (λ x. x) o
 map_none None = refl
 map_none (Some p) = refl
 
 module _ (p : Parse json.Json) (n : ℕ) (ts : List Token) (f : Items → Items) (all : Option (Items × List Token))
     (e : all ≡ parse_map f (converted of_items (items p n ts))) where
+  -- past a value that is read
   pub one_more : (r : List Token) (d : Data) → 0 < n → after_end_array ts ≡ None → converted of_json (p ts) ≡ Some (d, r)
       → all ≡ parse_map (λ ds. f (item d ds)) (converted of_items (items p (n - 1) r))
   one_more r d some going h = e ∙ ap (parse_map f) (item_read p n ts r d some going h) ∙ map_twice f (item d) _
 
+  -- at the end
   pub no_more : (r : List Token) → length ts ≤ n → after_end_array ts ≡ Some r → all ≡ Some (f no_items, r)
   no_more r enough h = e ∙ ap (parse_map f) (items_over p n ts r enough h)
 
+  -- at a value that is not read
   pub one_refused : after_end_array ts ≡ None → converted of_json (p ts) ≡ None → all ≡ None
   one_refused going h = e ∙ ap (parse_map f) (item_refused p n ts going h)
 
@@ -216,14 +236,17 @@ flat_put k d (member l e ms) = sym (flat_placed (slice_cmp nat_cmp k l) _ _ _ _ 
 
 -- ---- what follows from an answer
 
+-- what follows where it is passed
 pub on_ok : {E P Q : Type 0} (r : Result ⊤ E) → (P → Q) → OnOk r P → OnOk r Q
 on_ok (Ok x) f p = f p
 on_ok (Err e) f p = tt
 
+-- what follows where it is refused
 pub on_err : {E P Q : Type 0} (r : Result ⊤ E) → (P → Q) → OnErr r P → OnErr r Q
 on_err (Ok x) f p = tt
 on_err (Err e) f p = f p
 
+-- what holds anyhow holds where it is refused
 pub err_any : {E P : Type 0} (r : Result ⊤ E) → P → OnErr r P
 err_any (Ok x) p = tt
 err_any (Err e) p = p

@@ -19,6 +19,7 @@ found : {A B : Type 0} (a : A) (r s : List Token) (x : Option B) (b : B)
 found a r s None b e = absurd (cc)
 found a r s (Some y) b e = let same = ap (pick (y, r)) e in (ap (λ p. p.1) same, ap (λ p. Some p.0) same)
 
+-- what is read as data is read
 pub converted_some : {A B : Type 0} (f : A → Option B) (o : Option (A × List Token)) (b : B) (r : List Token)
     → converted f o ≡ Some (b, r) → (a : A) × (o ≡ Some (a, r)) × (f a ≡ Some b)
 converted_some f None b r e = absurd (cc)
@@ -33,11 +34,13 @@ twice : {A B : Type 0} (g : A → B) (r : List Token) (x : Option A)
 twice g r None = refl
 twice g r (Some a) = refl
 
+-- a list is read as its values are
 pub converted-array : (o : Option (json.Items × List Token))
     → converted of_json (parse_map json.array o) ≡ parse_map array (converted of_items o)
 converted-array None = refl
 converted-array (Some p) = twice array p.1 (of_items p.0)
 
+-- an object is read as its members are
 pub converted-object : (o : Option (json.Members × List Token))
     → converted of_json (parse_map json.object o) ≡ parse_map object (converted (λ ms. of_members ms no_members) o)
 converted-object None = refl
@@ -64,6 +67,7 @@ without_member k j old e None = refl
 without_member k j old e (Some p) = rw e
 
 module _ (p : Parse json.Json) where
+  -- a value is read, and then those behind it
   pub item_read : (n : ℕ) (ts r : List Token) (d : Data) → 0 < n → after_end_array ts ≡ None → converted of_json (p ts) ≡ Some (d, r)
       → converted of_items (items p n ts) ≡ parse_map (item d) (converted of_items (items p (n - 1) r))
   item_read n ts r d some going e = let j = converted_some of_json (p ts) d r e in ap (converted of_items)
@@ -74,17 +78,20 @@ module _ (p : Parse json.Json) where
   no_item more None e = refl
   no_item more (Some q) e = without_item q.0 (refused q.1 (of_json q.0) e) (more q.1)
 
+  -- a value is refused, and so the list
   pub item_refused : (n : ℕ) (ts : List Token) → after_end_array ts ≡ None → converted of_json (p ts) ≡ None
       → converted of_items (items p n ts) ≡ None
   unfolding items
   item_refused zero ts going e = refl
   item_refused (suc n) ts going e = ap (λ o. converted of_items (items_step p (items p n) ts o)) going ∙ no_item (items p n) (p ts) e
 
+  -- the list ends
   pub items_over : (n : ℕ) (ts r : List Token) → length ts ≤ n → after_end_array ts ≡ Some r
       → converted of_items (items p n ts) ≡ Some (no_items, r)
   items_over n ts r enough e = ap (converted of_items) (items_end p n ts r enough e)
 
   module _ (old : Members) where
+    -- a member is read, and then those behind it
     pub member_read : (n : ℕ) (k : List ℕ) (ts s r : List Token) (d : Data) → 0 < n → read_key ts ≡ Some (Some k, s)
         → converted of_json (p s) ≡ Some (d, r)
         → converted (λ ms. of_members ms old) (members p n ts) ≡ converted (λ ms. of_members ms (put k d old)) (members p (n - 1) r)
@@ -97,15 +104,18 @@ module _ (p : Parse json.Json) where
     no_member k more None e = refl
     no_member k more (Some q) e = without_member k q.0 old (refused q.1 (of_json q.0) e) (more q.1)
 
+    -- a member is refused, and so the object
     pub member_refused : (n : ℕ) (k : List ℕ) (ts s : List Token) → read_key ts ≡ Some (Some k, s) → converted of_json (p s) ≡ None
         → converted (λ ms. of_members ms old) (members p n ts) ≡ None
     unfolding members
     member_refused zero k ts s key e = refl
     member_refused (suc n) k ts s key e = rw key (no_member k (members p n) (p s) e)
 
+    -- no key stands where one has to
     pub key_refused : (n : ℕ) (ts : List Token) → read_key ts ≡ None → converted (λ ms. of_members ms old) (members p n ts) ≡ None
     key_refused n ts e = ap (converted (λ ms. of_members ms old)) (members_no_key p n ts e)
 
+    -- the object ends
     pub members_over : (n : ℕ) (ts r : List Token) → length ts ≤ n → read_key ts ≡ Some (None, r)
         → converted (λ ms. of_members ms old) (members p n ts) ≡ Some (old, r)
     members_over n ts r enough e = ap (converted (λ ms. of_members ms old)) (members_end p n ts r enough e)
@@ -116,6 +126,7 @@ abbrev pub items_before : List Value → Items → Items
 items_before [] rest = rest
 items_before (v ∷ vs) rest = item (view v) (items_before vs rest)
 
+-- no values behind those that were read
 pub items_before-no_items : (vs : List Value) → items_before vs no_items ≡ items_view vs
 items_before-no_items [] = refl
 items_before-no_items (v ∷ vs) = ap (item (view v)) (items_before-no_items vs)
@@ -124,11 +135,13 @@ items_push : (vs : List Value) (v : Value) (rest : Items) → items_before vs (i
 items_push [] v rest = refl
 items_push (w ∷ vs) v rest = ap (item (view w)) (items_push vs v rest)
 
+-- one value more
 pub one_more_item : (vs : List Value) (v : Value) (r : Option (Items × List Token))
     → parse_map (items_before vs) (parse_map (item (view v)) r) ≡ parse_map (items_before (vs ++ v ∷ [])) r
 one_more_item vs v None = refl
 one_more_item vs v (Some p) = ap (λ ds. Some (ds, p.1)) (items_push vs v p.0)
 
+-- no values before
 pub none_before : (r : Option (Items × List Token)) → r ≡ parse_map (λ a. a) r
 none_before None = refl
 none_before (Some p) = refl
@@ -138,13 +151,16 @@ none_before (Some p) = refl
 abbrev pub whole : Option (json.Json × List Token) → Option Data
 whole o = option_and_then of_json (option_and_then (λ p. if_last p.0 p.1) o)
 
+-- a text is a value with nothing behind it
 pub whole_read : (o : Option (json.Json × List Token)) (d : Data) → converted of_json o ≡ Some (d, []) → whole o ≡ Some d
 whole_read o d e = let j = converted_some of_json o d [] e in ap whole j.1 ∙ j.2
 
+-- a value with something behind it is no text
 pub whole_and_more : (o : Option (json.Json × List Token)) (d : Data) (t : Token) (r : List Token)
     → converted of_json o ≡ Some (d, t ∷ r) → whole o ≡ None
 whole_and_more o d t r e = ap whole (converted_some of_json o d (t ∷ r) e).1
 
+-- a text is no value
 pub whole_refused : (o : Option (json.Json × List Token)) → converted of_json o ≡ None → whole o ≡ None
 whole_refused None e = refl
 whole_refused (Some (j, [])) e = refused [] (of_json j) e
