@@ -1,5 +1,5 @@
 -- The members of a key, counted, and the last of them.
-use Rattle.std.proofs.Common.{◌≡◌, ℕ, zero, suc, ◌+◌, ◌-◌, ◌<◌, ◌≤◌, List, [], ◌∷◌, length, Bool, true, false, Option, Some, None}
+use Rattle.std.proofs.Common.{◌≡◌, ℕ, zero, suc, ◌+◌, ◌-◌, ◌<◌, ◌≤◌, List, length, Bool, true, false, Option, Some, None}
 use Rattle.std.proofs.Common.{option_map, option_and_then, refl, sym, ap, ◌∙◌, arith}
 use Rattle.std.specs.Prelude.{if◌then◌else◌}
 use Rattle.std.specs.Str.{bytes_eq}
@@ -153,7 +153,7 @@ module _ (p : Parse Json) (k : List ℕ) where
         let j = left_some (p s) r skip in
         let turn = members_more p n l ts s r j.0 some key j.1 in
         let one = plus_some (tally k (members p (n - 1) r)) 1 c (sym (ap (tally k) turn ∙ tally_same k l j.0 e (members p (n - 1) r))
-            ∙ count) in
+        ∙ count) in
         let less : one.0 ≡ c - 1 = omega (arith, one.2) in
         let here : tally k (members p (n - 1) r) ≡ Some (c - 1) = one.1 ∙ ap Some less in (
           here,

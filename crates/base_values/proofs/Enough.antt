@@ -1,8 +1,8 @@
 -- The count of the tokens bounds the turns of a list, and a greater bound changes nothing.
-use Rattle.std.proofs.Common.{◌≡◌, ℕ, zero, suc, ◌<◌, ◌≤◌, List, [], ◌∷◌, length, Option, Some, None, option_map, option_and_then, refl}
-use Rattle.std.proofs.Common.{sym, ap, ◌∙◌, arith}
+use Rattle.std.proofs.Common.{◌≡◌, ℕ, zero, suc, ◌≤◌, List, [], ◌∷◌, length, Option, Some, None, option_and_then, refl}
+use Rattle.std.proofs.Common.{sym, ap, arith}
 use Rattle.json.specs.Token.{Token}
-use Rattle.json.specs.Json.{Json, Items, Parse, after_end_array, item, items, items_step, parse_map, value}
+use Rattle.json.specs.Json.{Json, Parse, after_end_array, item, items, items_step, parse_map, value}
 use Rattle.json.proofs.Grammar.{Takes, left, skip_value-shorter, value_is}
 
 module _ (p : Parse Json) (takes : Takes p) (none : p [] ≡ None) where

@@ -1,5 +1,5 @@
 -- What the last member of a key is in the object that is read.
-use Rattle.std.proofs.Common.{◌≡◌, ℕ, ◌-◌, ◌<◌, List, [], ◌∷◌, length, Bool, true, false, Option, Some, None, option_map, option_and_then}
+use Rattle.std.proofs.Common.{◌≡◌, ℕ, ◌<◌, List, [], ◌∷◌, Bool, true, false, Option, Some, None, option_map, option_and_then}
 use Rattle.std.proofs.Common.{refl, sym, ap, ◌∙◌, subst, arith}
 use Rattle.std.specs.Prelude.{if◌then◌else◌, is_some}
 use Rattle.std.specs.Str.{bytes_eq}
@@ -9,10 +9,10 @@ use Rattle.json.specs.Json as json
 use Rattle.json.specs.Json.{Parse, members, parse_map, value, value_with}
 use Rattle.json.proofs.Grammar.{value-begin_object, value_is}
 use Rattle.serde_json.proofs.Views.{get_member-put, get_member-put_other}
-use Rattle.serde_json.specs.Data.{Data, Members, array, no_members, null, number, object, put}
+use Rattle.serde_json.specs.Data.{Data, Members, array, no_members, number, object, put}
 use Rattle.serde_json.specs.Find.{get, get_member}
-use Rattle.serde_json.specs.Read.{number_of, of_items, of_json, of_members, read}
-use Rattle.base_values.specs.Documents.{after_begin_object, count_in, last_in, or_null, value_of}
+use Rattle.serde_json.specs.Read.{number_of, of_items, of_json, of_members}
+use Rattle.base_values.specs.Documents.{after_begin_object, count_in, last_in, or_null}
 use Rattle.base_values.specs.Places.{last, members_at, or_else}
 use Rattle.base_values.proofs.Counts.{latest, latest_none, latest_some, tally}
 use Rattle.base_values.proofs.Turns.{whole}

@@ -1,5 +1,5 @@
 -- The elements of a list, one after another.
-use Rattle.std.proofs.Common.{◌≡◌, ℕ, ◌-◌, ◌<◌, ◌≤◌, List, [], ◌∷◌, length, Bool, true, false, Option, Some, None, option_map}
+use Rattle.std.proofs.Common.{◌≡◌, ◌-◌, ◌<◌, List, [], ◌∷◌, length, Bool, true, false, Option, Some, None, option_map}
 use Rattle.std.proofs.Common.{option_and_then, refl, sym, ap, ◌∙◌, arith}
 use Rattle.std.specs.Prelude.{is_some}
 use Rattle.json.specs.Token.{Token}
@@ -61,7 +61,7 @@ first_data o = option_and_then of_json (option_map (λ p. p.0) o)
 
 array_elements : (o : Option (json.Items × List Token)) → is_some (first_data (parse_map json.array o)) ≡ true
     → (is_some (converted of_items o) ≡ true)
-        × (Some (first_items (converted of_items o)) ≡ option_and_then as_array (first_data (parse_map json.array o)))
+    × (Some (first_items (converted of_items o)) ≡ option_and_then as_array (first_data (parse_map json.array o)))
 array_elements None e = absurd cc
 array_elements (Some (js, r)) e = by (of_items js) e
   where

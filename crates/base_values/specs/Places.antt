@@ -1,5 +1,5 @@
 -- The last member of a key in an object.
-use Rattle.std.specs.Prelude.{◌+◌, ℕ, Bool, List, Option, None, Some, if◌then◌else◌, length, option_and_then, option_map}
+use Rattle.std.specs.Prelude.{◌+◌, ℕ, List, Option, None, Some, if◌then◌else◌, length, option_and_then, option_map}
 use Rattle.std.specs.Str.{bytes_eq}
 use Rattle.json.specs.Json.{Json, Members, member, members, no_members, value}
 use Rattle.json.specs.Token.{Token}

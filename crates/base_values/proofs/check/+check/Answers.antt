@@ -1,10 +1,9 @@
-use Rattle.std.proofs.Common.{◌≡◌, ◌-◌, ◌<◌, [], ◌∷◌, length, true, false, Some, None, refl, sym, ap, ap₂, ◌∙◌, arith}
-use Rattle.json.specs.Token.{Token}
-use Rattle.json.specs.Json.{parse_map, after_end_array, read_key, items, members, value}
+use Rattle.std.proofs.Common.{◌≡◌, ◌-◌, ◌<◌, [], ◌∷◌, length, Some, None, refl, sym, ap, ◌∙◌, arith}
+use Rattle.json.specs.Json.{parse_map, after_end_array, read_key, items, value}
 use Rattle.json.specs.Reads.{token_of}
 use Rattle.json.proofs.Grammar.{value_is, read_key-shorter}
 use Rattle.serde_json.specs.Data.{array, item, no_items, object, no_members, put}
-use Rattle.serde_json.specs.Read.{of_json, of_items, of_members, converted}
+use Rattle.serde_json.specs.Read.{of_json, of_items, converted}
 use Rattle.base_values.proofs.Tokens.{array_is, deep_array_refused, deep_object_refused, map_none, no_more, nothing_read, number_passes}
 use Rattle.base_values.proofs.Tokens.{number_refused}
 use Rattle.base_values.proofs.Tokens.{err_any, object_is, on_err, on_ok, one_more, one_refused, plain, plain_read}
@@ -117,9 +116,11 @@ check_items-returns-in_err-check_value-clause-err t c =
 pub check_items-returns-clause-ok : goal.check_items-returns-clause-ok
 check_items-returns-clause-ok t c =
     let p = value c.args.depth in
-    let l = c.items in
-    (l.invariant.2 no_items, no_more p l.invariant.0 l.reader l.invariant.2 _ l.invariant.3 c.take_end_array.new.self l.invariant.1
-        (grind arith))
+    let l = c.items in (
+      l.invariant.2 no_items,
+      no_more p l.invariant.0 l.reader l.invariant.2 _ l.invariant.3 c.take_end_array.new.self l.invariant.1
+          (grind arith),
+    )
 
 pub check_members-members-init : goal.check_members-members-init
 check_members-members-init t c = (length c.args.reader.now, omega arith, no_members, refl, omega arith)
@@ -157,7 +158,7 @@ check_members-returns-in_err-check_value-clause-err t c =
     let s = c.next_key.new.self in
     let named : read_key l.reader ≡ Some (Some k, s) = grind arith in
     err_any c.from_residual-in_err-check_value.result (l.invariant.3
-        ∙ member_refused p l.invariant.2 l.invariant.0 k l.reader s named c.in_err-check_value.ensures.err)
+    ∙ member_refused p l.invariant.2 l.invariant.0 k l.reader s named c.in_err-check_value.ensures.err)
 
 pub check_members-returns-clause-ok : goal.check_members-returns-clause-ok
 check_members-returns-clause-ok t c =

@@ -1,4 +1,4 @@
-use Rattle.std.proofs.Common.{◌≡◌, ◌<◌, ◌∙◌, ap, sym, arith}
+use Rattle.std.proofs.Common.{◌<◌, ◌∙◌, ap, sym, arith}
 use Rattle.std.specs.Prelude.{is_some, option_and_then}
 use Rattle.json.specs.Lex.{tokens}
 use Rattle.serde_json.specs.Find.{as_array}

@@ -1,9 +1,7 @@
-use Rattle.std.proofs.Common.{◌≡◌, ◌∙◌, Some, ap, sym, arith}
+use Rattle.std.proofs.Common.{◌≡◌, ◌∙◌, Some, ap, arith}
 use Rattle.std.specs.Prelude.{None}
-use Rattle.serde_json.specs.Find.{get}
-use Rattle.json.specs.Json.{value}
 use Rattle.json.specs.Lex.{tokens}
-use Rattle.base_values.specs.Documents.{after_begin_object, count_in, value_of}
+use Rattle.base_values.specs.Documents.{after_begin_object, count_in}
 use Rattle.base_values.proofs.Keys.{key_of_other, key_uncounted}
 use Rattle.base_values.proofs.document.occurrences.Goals as goal
 

@@ -1,4 +1,4 @@
-use Rattle.std.proofs.Common.{◌≡◌, ◌<◌, ◌∷◌, [], length, None, Some, refl, sym, ap, ◌∙◌, arith, rules}
+use Rattle.std.proofs.Common.{◌≡◌, ◌∷◌, [], length, sym, ap, ◌∙◌, arith, rules}
 use Rattle.json.specs.Token.{Token}
 use Rattle.json.specs.Json.{value}
 use Rattle.json.specs.Reads.{token_of}

@@ -1,11 +1,10 @@
-use Rattle.std.proofs.Common.{◌≡◌, ◌-◌, ◌<◌, length, Some, string_bytes, refl, sym, ap, ◌∙◌, arith, rules}
-use Rattle.json.specs.Json.{members, read_key, value}
+use Rattle.std.proofs.Common.{◌≡◌, ◌-◌, length, Some, string_bytes, refl, ap, ◌∙◌, arith, rules}
+use Rattle.json.specs.Json.{read_key, value}
 use Rattle.json.proofs.Grammar.{read_key-shorter}
 use Rattle.serde_json.proofs.Views.{members_view-insert_entry}
 use Rattle.serde_json.specs.Data.{no_members, put}
-use Rattle.serde_json.specs.Read.{converted, of_json, of_members}
 use Rattle.serde_json.specs.View.{members_view, view}
-use Rattle.base_values.specs.Outline.{flat, flat_members}
+use Rattle.base_values.specs.Outline.{flat_members}
 use Rattle.base_values.proofs.Tokens.{flat_put}
 use Rattle.base_values.proofs.Turns.{key_refused, member_read, member_refused, members_over}
 use Rattle.base_values.proofs.outline.read_flat_members.Goals as goal

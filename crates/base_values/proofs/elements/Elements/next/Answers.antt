@@ -1,4 +1,4 @@
-use Rattle.std.proofs.Common.{◌≡◌, ◌<◌, ◌||◌, length, Bool, true, false, None, Some, refl, sym, ap, ◌∙◌, arith}
+use Rattle.std.proofs.Common.{◌≡◌, ◌<◌, ◌||◌, length, Bool, true, false, None, Some, refl, sym, ap, ◌∙◌}
 use Rattle.json.specs.Json.{after_end_array, value}
 use Rattle.serde_json.specs.Data.{item}
 use Rattle.serde_json.specs.Read.{converted, of_json}
@@ -14,7 +14,7 @@ or_right false b e = e
 pub returns-then-take_end_array : goal.returns-then-take_end_array
 returns-then-take_end_array c =
     let is : c.args.self.now ≡ Some c.self.inside.reader = sym c.self.view_is
-        ∙ ap (λ b. unless_over b c.self.inside.reader) c.if-self.false in
+    ∙ ap (λ b. unless_over b c.self.inside.reader) c.if-self.false in
     (ap left_of is ∙ ended c.self.inside.reader c.take_end_array.new.self c.if-take_end_array.ensures, refl)
 
 pub invariant_of-self-in-Ok : goal.invariant_of-self-in-Ok
