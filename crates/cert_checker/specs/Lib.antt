@@ -9,4 +9,5 @@ pub mod Usable
 pub mod EvidenceEvents
 pub mod Combined
 pub mod CheckEvents
+pub mod Needs
 pub mod Laws

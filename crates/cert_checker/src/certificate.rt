@@ -52,7 +52,7 @@ pub fn check(
         (fault : Fault) → result ≡ Err (fault_answer fault) → certificate_fault (equations_of system.now) theirs ≡ Some fault }
     ensures least { IsOk result → Least (equations_of system.now) (bounds_vector (equations_of system.now) cert.now.bounds) }
 {
-    if !has_size(system, cert) {
+    if !has_size(system, &cert.bounds, cert.uppers.as_slice().len()) {
         return Err(CheckFault::Size);
     }
     check_steps(system, cert.steps.as_slice(), scratch)?;

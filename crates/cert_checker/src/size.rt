@@ -9,7 +9,6 @@ ghost use Rattle.theory_validity.specs.Certificates.{into_needs, needs_at, needs
 ghost use Rattle.cert_checker.specs.Stands.{Stands};
 
 use base_fractions::Ext;
-use cert_types::Cert;
 use flow_edges::Edge;
 use flow_systems::{Bounds, System};
 
@@ -48,13 +47,12 @@ fn count_needed(system: &System, bounds: &Bounds) -> usize
 }
 
 /// Whether there are as many bounds as points times rows, and at most as much evidence as the bounds need.
-pub fn has_size(system: &System, cert: &Cert) -> bool
+pub fn has_size(system: &System, bounds: &Bounds, evidence: usize) -> bool
     ensures { let S = equations_of system.now in
-        IsTrue result ↔ ((length cert.now.bounds ≡ S.points * length S.template) ×
-        (length cert.now.uppers ≤ length (needs S (bounds_vector S cert.now.bounds)))) }
+        IsTrue result ↔ ((length bounds.now ≡ S.points * length S.template) ×
+        (evidence ≤ length (needs S (bounds_vector S bounds.now)))) }
 {
     let rows = system.template.as_slice().len();
     let points = system.flow.points.as_slice().len();
-    cert.bounds.as_slice().len() == points * rows
-        && cert.uppers.as_slice().len() <= count_needed(system, &cert.bounds)
+    bounds.as_slice().len() == points * rows && evidence <= count_needed(system, bounds)
 }

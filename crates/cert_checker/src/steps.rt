@@ -12,7 +12,7 @@ ghost use Rattle.cert_checker.specs.Events.{IsRun, first_stop};
 ghost use Rattle.cert_checker.specs.Items.{item_count, item_at, is_short};
 ghost use Rattle.cert_checker.specs.StepEvents.{StepPasses, second_pass_events, step_events, steps_events};
 ghost use Rattle.cert_checker.specs.Stands.{Stands, start_at};
-ghost use Rattle.cert_checker.specs.Rooms.{HasRoom};
+ghost use Rattle.cert_checker.specs.Rooms.{HasRoom, IsAt};
 ghost use Rattle.cert_checker.specs.Usable.{IsUsable};
 
 use crate::fault::CheckFault;
@@ -144,13 +144,53 @@ fn restart(rows: u32, bounds: &mut Bounds)
     }
 }
 
-/// The tests of steps that follow each other from the start, `+inf` at the entry and `-inf` elsewhere: the scratch has the
-/// vector that they lead to as its `base`.
+/// Gives a scratch the vector from which steps start: `+inf` at the entry and `-inf` elsewhere.
+pub fn start(system: &System, scratch: &mut Scratch)
+    requires { HasRoom (equations_of system.now) scratch.old }
+    ensures room { HasRoom (equations_of system.now) scratch.new }
+    ensures start { IsAt (equations_of system.now) scratch.new start_vector }
+{
+    let rows = system.template.as_slice().len() as u32;
+    restart(rows, &mut scratch.base);
+    restart(rows, &mut scratch.next);
+}
+
+/// Takes the step of this number, where a scratch has the vector that it finds: the scratch then has the one that it leads to.
 ///
 /// # Errors
 ///
-/// The first test that fails, or the first sum that is too wide, whichever comes first. Takes no memory.
-pub fn check_steps(system: &System, steps: &[Step], scratch: &mut Scratch) -> Result<(), CheckFault>
+/// The first test of the step that fails, or the first sum that is too wide, whichever comes first; the scratch then has anything. Takes
+/// no memory.
+pub fn take_step(
+    system: &System,
+    step: &Step,
+    number: u32,
+    scratch: &mut Scratch,
+) -> Result<(), CheckFault>
+    requires few { item_count step.now < 2 ^ 32 }
+    requires room { HasRoom (equations_of system.now) scratch.old }
+    ensures room { HasRoom (equations_of system.now) scratch.new }
+    ensures answer { (z : Vector) → IsAt (equations_of system.now) scratch.old z →
+        let theirs = step_of (length system.now.template) step.now in
+        IsRun (λ u. IsAt (equations_of system.now) scratch.new (after_step theirs z))
+        (step_events (equations_of system.now) z number theirs) result }
+{
+    take(
+        system,
+        step,
+        number,
+        &mut scratch.base,
+        &mut scratch.next,
+        &mut scratch.rates,
+    )
+}
+
+// The tests of steps that follow each other from the start: the scratch has the vector that they lead to as its `base`.
+pub(crate) fn check_steps(
+    system: &System,
+    steps: &[Step],
+    scratch: &mut Scratch,
+) -> Result<(), CheckFault>
     requires few { length steps.now < 2 ^ 32 }
     requires short { IsTrue (list_all is_short steps.now) }
     requires room { HasRoom (equations_of system.now) scratch.old }
@@ -159,18 +199,9 @@ pub fn check_steps(system: &System, steps: &[Step], scratch: &mut Scratch) -> Re
         IsRun (λ u. Stands (equations_of system.now) scratch.new.base (after_steps theirs start_vector))
         (steps_events (equations_of system.now) start_vector 0 theirs) result }
 {
-    let rows = system.template.as_slice().len() as u32;
-    restart(rows, &mut scratch.base);
-    restart(rows, &mut scratch.next);
+    start(system, scratch);
     for (number, step) in steps.iter().enumerate() {
-        take(
-            system,
-            step,
-            number as u32,
-            &mut scratch.base,
-            &mut scratch.next,
-            &mut scratch.rates,
-        )?;
+        take_step(system, step, number as u32, scratch)?;
     }
     Ok(())
 }

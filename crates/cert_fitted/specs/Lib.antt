@@ -1,4 +1,5 @@
 pub mod Needed
 pub mod Fitted
 pub mod Dense
+pub mod Checked
 pub mod Laws

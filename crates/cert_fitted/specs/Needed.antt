@@ -40,7 +40,3 @@ guards_needed system bounds = guards_of_points system bounds (system.points - 1)
 -- how many free values the edge of a number has, and none where there is no such edge
 abbrev pub frees_at : Equations → ℕ → ℕ
 frees_at system edge = count_by is_havoc (get_or system.edges edge (record { from = 0; to = 0; actions = [] })).actions
-
--- the number at a place, and 0 past the end
-abbrev pub count_at : List ℕ → ℕ → ℕ
-count_at counts place = get_or counts place 0

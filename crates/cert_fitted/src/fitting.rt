@@ -1,21 +1,19 @@
-//! The certificate for which a written one stands where its system is known.
+//! The steps and the evidence for which written ones stand where their system is known.
 #![tactic(auto, using(crate::proofs::lists::Maps::map_push))]
 
 ghost use Rattle.std.specs.Prelude.{◌≡◌, IfOk, length, map};
 ghost use Rattle.flow_systems.specs.View.{equations_of};
-ghost use Rattle.cert_fitted.specs.Fitted.{cert_for, item_for, jump_item_for, ray_item_for, row_for, rows_for, step_for, trace_for};
-ghost use Rattle.cert_fitted.specs.Fitted.{upper_for, uppers_for};
-ghost use Rattle.cert_fitted.specs.Needed.{count_at};
+ghost use Rattle.cert_fitted.specs.Fitted.{item_for, jump_item_for, ray_item_for, row_for, rows_for, step_for, trace_for, upper_for};
 ghost use Rattle.cert_written.specs.Entries.{entries_for};
 
 use crate::lists::entries_for;
-use crate::needed::{frees_at, guards_needed};
+use crate::needed::frees_at;
 use base_fractions::Frac;
 use cert_types as fitted;
-use cert_types::{Cert, Items, JumpItems, RayItems, Rows, Step, Steps, Upper, Uppers};
+use cert_types::{Items, JumpItems, RayItems, Rows, Step, Upper};
 use cert_written as written;
 use cert_written::Entries;
-use flow_systems::{Bounds, Fracs, System, Trace};
+use flow_systems::{Fracs, System, Trace};
 use lang_tree::Coeffs;
 use std::alloc::{AllocError, Global};
 
@@ -163,8 +161,12 @@ fn ray_items_for(
     Ok(RayItems::new(list))
 }
 
-// A step.
-fn step_for(alloc: Global, system: &System, step: &written::Step) -> Result<Step, AllocError>
+/// A step.
+pub(crate) fn step_for(
+    alloc: Global,
+    system: &System,
+    step: &written::Step,
+) -> Result<Step, AllocError>
     ensures { IfOk result (λ made. made ≡ step_for (equations_of system.now) step.now) }
 {
     match step {
@@ -180,17 +182,6 @@ fn step_for(alloc: Global, system: &System, step: &written::Step) -> Result<Step
     }
 }
 
-// The steps.
-fn steps_for(alloc: Global, system: &System, steps: &[written::Step]) -> Result<Steps, AllocError>
-    ensures { IfOk result (λ made. made ≡ map (step_for (equations_of system.now)) steps.now) }
-{
-    let mut list = Vec::new(alloc);
-    for step in steps {
-        list.push(step_for(alloc, system, step)?)?;
-    }
-    Ok(Steps::new(list))
-}
-
 // A list of multipliers.
 fn multipliers(alloc: Global, count: usize, list: &Entries) -> Result<Fracs, AllocError>
     ensures { IfOk result (λ made. made ≡ entries_for count list.now) }
@@ -198,8 +189,8 @@ fn multipliers(alloc: Global, count: usize, list: &Entries) -> Result<Fracs, All
     Ok(Fracs::new(entries_for(alloc, count, list)?))
 }
 
-// Evidence where there are so many rows and so many guards.
-fn upper_for(
+/// Evidence where there are so many rows and so many guards.
+pub(crate) fn upper_for(
     alloc: Global,
     rows: usize,
     guards: usize,
@@ -220,62 +211,4 @@ fn upper_for(
             Ok(Upper::Bound { rows: r, guards: g })
         }
     }
-}
-
-// The number of guards at a place, and none past the end.
-fn count_at(counts: &[usize], place: usize) -> usize
-    ensures { result ≡ count_at counts.now place }
-{
-    match counts.get(place) {
-        Some(count) => *count,
-        None => 0,
-    }
-}
-
-// The evidence, for edges of so many guards.
-#[tactic(auto, using(crate::proofs::fitting::Uppers::evidence_push))]
-fn uppers_for(
-    alloc: Global,
-    rows: usize,
-    counts: &[usize],
-    uppers: &[written::Upper],
-) -> Result<Uppers, AllocError>
-    ensures { IfOk result (λ made. made ≡ uppers_for rows counts.now uppers.now) }
-{
-    let mut list = Vec::new(alloc);
-    for (place, upper) in uppers.iter().enumerate() {
-        list.push(upper_for(alloc, rows, count_at(counts, place), upper)?)?;
-    }
-    Ok(Uppers::new(list))
-}
-
-// The same bounds once more.
-fn bounds_again(alloc: Global, bounds: &Bounds) -> Result<Bounds, AllocError>
-    ensures { IfOk result (λ copy. copy ≡ bounds.now) }
-{
-    let list = bounds.as_slice().to_vec(alloc)?;
-    Ok(Bounds::new(list))
-}
-
-/// The certificate for which a written one stands where these rows are its rows and the template of the system.
-pub fn fitted_cert(
-    alloc: Global,
-    system: &System,
-    rows: Rows,
-    cert: &written::Cert,
-) -> Result<Cert, AllocError>
-    requires { rows ≡ system.now.template }
-    ensures { IfOk result (λ made. made ≡ cert_for (equations_of system.now) cert.now) }
-{
-    let counts = guards_needed(alloc, system, &cert.bounds)?;
-    let count = system.template.as_slice().len();
-    let steps = steps_for(alloc, system, cert.steps.as_slice())?;
-    let uppers = uppers_for(alloc, count, counts.as_slice(), cert.uppers.as_slice())?;
-    let bounds = bounds_again(alloc, &cert.bounds)?;
-    Ok(Cert {
-        rows,
-        bounds,
-        steps,
-        uppers,
-    })
 }

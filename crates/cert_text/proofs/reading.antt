@@ -1,2 +1,3 @@
 pub mod ReadShapes
+pub mod Outlines
 pub mod ReadRests

@@ -1,7 +1,7 @@
 -- A certificate as JSON.
-use Rattle.std.specs.Prelude.{◌≡◌, ◌≤◌, ◌<◌, ◌&&◌, ◌||◌, ◌==◌, ◌⊎◌, ℕ, ℤ, Bool, false, true, List, [], Option}
+use Rattle.std.specs.Prelude.{◌≡◌, ◌≤◌, ◌<◌, ◌&&◌, ◌||◌, ◌==◌, ◌⊎◌, ℕ, ℤ, Bool, false, List, [], Option}
 use Rattle.std.specs.Prelude.{Some, None, Result, Ok, Err, IsUtf8, if◌then◌else◌, is_some, length, map, nat_lt, option_and_then, codes, ⊤}
-use Rattle.serde_json.specs.Data.{Data, Members, member, no_members, object}
+use Rattle.serde_json.specs.Data.{Data, Items, Members, member, no_members, object}
 use Rattle.serde_json.specs.Find.{as_i64, as_number, as_u64, get}
 use Rattle.serde_json.specs.Read.{read}
 use Rattle.base_fractions.specs.Extended.{extended}
@@ -19,7 +19,7 @@ use Rattle.cert_text.specs.declared.fault.FormFault.{FormFault}
 use Rattle.cert_text.specs.declared.fault.FormFault.TheVariants.{Expanded, Number, Shape, Version}
 use Rattle.cert_text.specs.declared.limits.TheConstants.{MOST_VALUES}
 use Rattle.cert_text.specs.declared.setting.Setting.{Setting}
-use Rattle.cert_text.specs.Lists.{is_list, list_data, list_in}
+use Rattle.cert_text.specs.Lists.{all_items, is_list, items_in, list_data, list_in}
 use Rattle.cert_text.specs.Keys.{index_data, member_count}
 use Rattle.cert_text.specs.Pairs.{are_entries, entries_data, entries_in}
 use Rattle.cert_text.specs.Traces.{is_trace, trace_data, trace_in}
@@ -88,6 +88,10 @@ or_number field (Some xs) = Ok xs
 abbrev pub list_from : {A : Type 0} → Field → (Data → Bool) → (Data → Option A) → Option Data → Result (List A) FormFault
 list_from field test read None = Err (Shape field)
 list_from field test read (Some d) = if is_list test d then or_number field (list_in read d) else Err (Shape field)
+
+-- the elements of a field that these values are: all shapes before the numbers
+abbrev pub read_from : {A : Type 0} → Field → (Data → Bool) → (Data → Option A) → Items → Result (List A) FormFault
+read_from field test read ds = if all_items test ds then or_number field (items_in read ds) else Err (Shape field)
 
 -- a list, if its entries are whole numbers
 abbrev pub if_row : Entries → Option Entries

@@ -91,11 +91,11 @@ impl Entry for Line {
     }
 }
 
-/// The bounds of all points, one after another.
-pub(crate) fn joined(alloc: Global, lines: &[Line]) -> Result<Vec<Ext>, AllocError>
+/// The bounds of all points, one after another, with room for `rows` of each.
+pub(crate) fn joined(alloc: Global, rows: usize, lines: &[Line]) -> Result<Vec<Ext>, AllocError>
     ensures { IfOk result (λ list. list.items ≡ joined lines.now) }
 {
-    let mut list = Vec::new(alloc);
+    let mut list = Vec::with_capacity(alloc, lines.len().saturating_mul(rows))?;
     for line in lines {
         list.extend_from_slice(line.list.as_slice())?;
     }

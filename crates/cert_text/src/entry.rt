@@ -81,7 +81,7 @@ fn read_each<T: Entry>(
 ) -> Result<Option<Vec<T>>, AllocError>
     ensures { IfOk result (λ list. option_map vec_items list ≡ items_in (T.element_in setting.now) (items_view values.now)) }
 {
-    let mut list = Vec::new(alloc);
+    let mut list = Vec::with_capacity(alloc, values.len())?;
     for value in values {
         match T::read(alloc, setting, value)? {
             Some(element) => list.push(element)?,
@@ -119,7 +119,7 @@ pub(crate) fn write_list<T: Entry>(
     ensures back { IfOk result (λ _. list_in (T.element_in (relisting rows names.now)) (list_data (T.element_data rows names.now) list.now)
         ≡ Some (map T.bare list.now)) }
 {
-    let mut values = Vec::new(alloc);
+    let mut values = Vec::with_capacity(alloc, list.len())?;
     for element in list {
         values.push(element.write(alloc, rows, names)?)?;
     }

@@ -9,6 +9,7 @@ mod items;
 mod keys;
 mod law;
 mod limits;
+mod listed;
 mod members;
 mod naming;
 mod numbering;

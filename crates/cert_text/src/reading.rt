@@ -1,26 +1,32 @@
 //! Reading a certificate.
 
-ghost use Rattle.std.specs.Prelude.{◌≡◌, ◌≢◌, IfErr, IfOk, IsErrOf, MatchResult, None, Some, codes, option_and_then};
+ghost use Rattle.std.specs.Prelude.{◌≡◌, ◌≢◌, Err, IfErr, IfOk, IsErrOf, List, MatchResult, None, Ok, Some, codes, option_and_then};
 ghost use Rattle.serde_json.specs.Data.{Data};
 ghost use Rattle.serde_json.specs.Find.{as_i64, as_number, as_u64, get};
 ghost use Rattle.serde_json.specs.View.{view};
+ghost use Rattle.base_values.specs.Documents.{value_of};
+ghost use Rattle.base_values.specs.Outline.{outline_of};
+ghost use Rattle.base_fractions.specs.declared.ext.Ext.{Ext};
+ghost use Rattle.cert_text.specs.BoundLines.{joined};
 ghost use Rattle.cert_text.specs.Naming.{capped, named_traces, values_of};
 ghost use Rattle.cert_text.specs.Traces.{listing};
-ghost use Rattle.cert_text.specs.Certificates.{IsWritable, Spells, SpellsCert, and_then, cert_in, fields_in, format_in, has_key};
-ghost use Rattle.cert_text.specs.Certificates.{has_keys, has_traces, is_sparse_form, is_top, list_from, natural_format, rest_in};
-ghost use Rattle.cert_text.specs.Certificates.{step_setting, steps_in, traces_in};
+ghost use Rattle.cert_text.specs.Certificates.{IsWritable, Spells, SpellsCert, and_then, bounds_in, cert_in, fields_in, format_in};
+ghost use Rattle.cert_text.specs.Certificates.{has_key, has_keys, has_traces, is_sparse_form, is_top, list_from, natural_format, rest_in};
+ghost use Rattle.cert_text.specs.Certificates.{step_setting, steps_in, top_in, traces_in};
 
 use crate::bounds::{Line, joined};
-use crate::entry::{Entry, is_list, read_list};
+use crate::entry::Entry;
 use crate::fault::{Field, FormFault};
 use crate::keys::member_count;
 use crate::limits::MOST_VALUES;
-use crate::naming::list_values;
+use crate::listed::{count_elements, read_elements};
 use crate::setting::{Setting, Traces};
+use base_fractions::Ext;
+use base_values::{Document, Fault};
 use cert_written::{Cert, Entries, Rows, Step, Steps, Trace, Upper, Uppers};
 use flow_systems::Bounds;
+use json::Scratch;
 use serde_json::Value;
-use serde_json::error::Category;
 use std::alloc::Global;
 
 // Whether the value has a member of this key.
@@ -101,38 +107,53 @@ fn test_format(value: &Value) -> Result<(), FormFault>
 fn read_field<T: Entry>(
     alloc: Global,
     setting: &Setting,
-    value: &Value,
+    document: &Document<'_>,
     key: &str,
     field: Field,
 ) -> Result<Vec<T>, FormFault>
-    ensures { MatchResult result (λ list. list_from field (T.shaped setting.now) (T.element_in setting.now) (get key.now (view value.now))
-        ≡ Ok list.items)
+    ensures { MatchResult result
+        (λ list. list_from field (T.shaped setting.now) (T.element_in setting.now) (get key.now (value_of document.now)) ≡ Ok list.items)
         (λ fault. fault ≢ FormFault.NoMemory → list_from field (T.shaped setting.now) (T.element_in setting.now)
-        (get key.now (view value.now)) ≡ Err fault) }
+        (get key.now (value_of document.now)) ≡ Err fault) }
 {
-    match value.get(key) {
-        Some(member) => {
-            if !is_list::<T>(setting, member) {
-                return Err(FormFault::Shape(field));
-            }
-            match read_list(alloc, setting, member)? {
-                Some(list) => Ok(list),
-                None => Err(FormFault::Number(field)),
-            }
-        }
-        None => Err(FormFault::Shape(field)),
-    }
+    let mut scratch = Scratch::new(alloc);
+    let Some(found) = document.elements(&mut scratch, key)? else {
+        return Err(FormFault::Shape(field));
+    };
+    let mut elements = found;
+    read_elements(alloc, setting, &mut elements, field)
+}
+
+// The bounds of all points, one after another.
+fn read_bounds(
+    alloc: Global,
+    lists: &Setting,
+    document: &Document<'_>,
+) -> Result<Vec<Ext>, FormFault>
+    ensures { MatchResult result
+        (λ bounds. (lines : List (List Ext)) × (bounds_in lists.now.rows (value_of document.now) ≡ Ok lines)
+        × (bounds.items ≡ joined lines))
+        (λ fault. fault ≢ FormFault.NoMemory → bounds_in lists.now.rows (value_of document.now) ≡ Err fault) }
+{
+    let lines = read_field::<Line>(alloc, lists, document, "bounds", Field::Bounds)?;
+    Ok(joined(alloc, lists.rows, lines.as_slice())?)
 }
 
 // The traces, if they stand in a list of their own.
-fn read_traces(alloc: Global, setting: &Setting, value: &Value) -> Result<Option<Traces>, FormFault>
-    ensures { MatchResult result (λ traces. traces_in setting.now.sparse (view value.now) ≡ Ok traces)
-        (λ fault. fault ≢ FormFault.NoMemory → traces_in setting.now.sparse (view value.now) ≡ Err fault) }
+fn read_traces(
+    alloc: Global,
+    lists: &Setting,
+    document: &Document<'_>,
+    listed: bool,
+) -> Result<Option<Traces>, FormFault>
+    requires { listed ≡ has_traces (value_of document.now) }
+    ensures { MatchResult result (λ traces. traces_in lists.now.sparse (value_of document.now) ≡ Ok traces)
+        (λ fault. fault ≢ FormFault.NoMemory → traces_in lists.now.sparse (value_of document.now) ≡ Err fault) }
 {
-    if !has_traces(value) {
+    if !listed {
         return Ok(None);
     }
-    let traces = read_field::<Trace>(alloc, setting, value, "traces", Field::Traces)?;
+    let traces = read_field::<Trace>(alloc, lists, document, "traces", Field::Traces)?;
     Ok(Some(Traces::new(traces)))
 }
 
@@ -144,22 +165,24 @@ struct Rest {
 }
 
 // How many values the traces hold that the steps name, counted up to `MOST_VALUES + 1`. Nothing is copied.
-fn count_values(setting: &Setting, traces: &[Trace], value: &Value) -> Result<usize, FormFault>
+fn count_values(
+    alloc: Global,
+    setting: &Setting,
+    traces: &[Trace],
+    document: &Document<'_>,
+) -> Result<usize, FormFault>
     requires { setting.now ≡ listing setting.now.rows traces.now }
-    ensures { result ≡ and_then (steps_in setting.now (view value.now)) (λ steps. Ok (capped (values_of (named_traces steps)))) }
+    ensures { MatchResult result
+        (λ n. and_then (steps_in setting.now (value_of document.now)) (λ steps. Ok (capped (values_of (named_traces steps)))) ≡ Ok n)
+        (λ fault. fault ≢ FormFault.NoMemory
+        → and_then (steps_in setting.now (value_of document.now)) (λ steps. Ok (capped (values_of (named_traces steps)))) ≡ Err fault) }
 {
-    match value.get("steps") {
-        Some(member) => {
-            if !is_list::<Step>(setting, member) {
-                return Err(FormFault::Shape(Field::Steps));
-            }
-            match list_values::<Step>(setting.rows, traces, member) {
-                Some(values) => Ok(values),
-                None => Err(FormFault::Number(Field::Steps)),
-            }
-        }
-        None => Err(FormFault::Shape(Field::Steps)),
-    }
+    let mut scratch = Scratch::new(alloc);
+    let Some(found) = document.elements(&mut scratch, "steps")? else {
+        return Err(FormFault::Shape(Field::Steps));
+    };
+    let mut elements = found;
+    count_elements::<Step>(alloc, setting, traces, &mut elements, Field::Steps)
 }
 
 // The steps and the evidence where traces are listed. A step is read only once all steps are known not to expand too far.
@@ -168,18 +191,19 @@ fn read_listed(
     lists: &Setting,
     setting: &Setting,
     traces: &[Trace],
-    value: &Value,
+    document: &Document<'_>,
 ) -> Result<Rest, FormFault>
     requires { setting.now ≡ listing setting.now.rows traces.now }
-    ensures { MatchResult result (λ rest. rest_in lists.now.sparse setting.now (view value.now) ≡ Ok (rest.steps.items, rest.uppers.items))
-        (λ fault. fault ≢ FormFault.NoMemory → rest_in lists.now.sparse setting.now (view value.now) ≡ Err fault) }
+    ensures { MatchResult result
+        (λ rest. rest_in lists.now.sparse setting.now (value_of document.now) ≡ Ok (rest.steps.items, rest.uppers.items))
+        (λ fault. fault ≢ FormFault.NoMemory → rest_in lists.now.sparse setting.now (value_of document.now) ≡ Err fault) }
 {
-    let values = count_values(setting, traces, value)?;
-    let uppers = read_field::<Upper>(alloc, lists, value, "uppers", Field::Uppers)?;
+    let values = count_values(alloc, setting, traces, document)?;
+    let uppers = read_field::<Upper>(alloc, lists, document, "uppers", Field::Uppers)?;
     if values > MOST_VALUES {
         return Err(FormFault::Expanded);
     }
-    let steps = read_field::<Step>(alloc, setting, value, "steps", Field::Steps)?;
+    let steps = read_field::<Step>(alloc, setting, document, "steps", Field::Steps)?;
     Ok(Rest { steps, uppers })
 }
 
@@ -188,14 +212,15 @@ fn read_placed(
     alloc: Global,
     lists: &Setting,
     setting: &Setting,
-    value: &Value,
+    document: &Document<'_>,
 ) -> Result<Rest, FormFault>
     requires { setting.now.traces ≡ None }
-    ensures { MatchResult result (λ rest. rest_in lists.now.sparse setting.now (view value.now) ≡ Ok (rest.steps.items, rest.uppers.items))
-        (λ fault. fault ≢ FormFault.NoMemory → rest_in lists.now.sparse setting.now (view value.now) ≡ Err fault) }
+    ensures { MatchResult result
+        (λ rest. rest_in lists.now.sparse setting.now (value_of document.now) ≡ Ok (rest.steps.items, rest.uppers.items))
+        (λ fault. fault ≢ FormFault.NoMemory → rest_in lists.now.sparse setting.now (value_of document.now) ≡ Err fault) }
 {
-    let steps = read_field::<Step>(alloc, setting, value, "steps", Field::Steps)?;
-    let uppers = read_field::<Upper>(alloc, lists, value, "uppers", Field::Uppers)?;
+    let steps = read_field::<Step>(alloc, setting, document, "steps", Field::Steps)?;
+    let uppers = read_field::<Upper>(alloc, lists, document, "uppers", Field::Uppers)?;
     Ok(Rest { steps, uppers })
 }
 
@@ -204,15 +229,16 @@ fn read_rest(
     alloc: Global,
     lists: &Setting,
     setting: &Setting,
-    value: &Value,
+    document: &Document<'_>,
 ) -> Result<Rest, FormFault>
     requires { setting.now ≡ step_setting setting.now.rows setting.now.traces }
-    ensures { MatchResult result (λ rest. rest_in lists.now.sparse setting.now (view value.now) ≡ Ok (rest.steps.items, rest.uppers.items))
-        (λ fault. fault ≢ FormFault.NoMemory → rest_in lists.now.sparse setting.now (view value.now) ≡ Err fault) }
+    ensures { MatchResult result
+        (λ rest. rest_in lists.now.sparse setting.now (value_of document.now) ≡ Ok (rest.steps.items, rest.uppers.items))
+        (λ fault. fault ≢ FormFault.NoMemory → rest_in lists.now.sparse setting.now (value_of document.now) ≡ Err fault) }
 {
     match &setting.traces {
-        Some(traces) => read_listed(alloc, lists, setting, traces.as_slice(), value),
-        None => read_placed(alloc, lists, setting, value),
+        Some(traces) => read_listed(alloc, lists, setting, traces.as_slice(), document),
+        None => read_placed(alloc, lists, setting, document),
     }
 }
 
@@ -235,28 +261,33 @@ fn step_setting(rows: usize, traces: Option<Traces>) -> Setting
     }
 }
 
-// The fields of the value one after another.
-fn read_fields(alloc: Global, sparse: bool, value: &Value) -> Result<Cert, FormFault>
-    ensures { MatchResult result (λ c. fields_in sparse (view value.now) ≡ Ok c)
-        (λ fault. fault ≢ FormFault.NoMemory → fields_in sparse (view value.now) ≡ Err fault) }
+// The fields one after another.
+fn read_fields(
+    alloc: Global,
+    sparse: bool,
+    listed: bool,
+    document: &Document<'_>,
+) -> Result<Cert, FormFault>
+    requires { listed ≡ has_traces (value_of document.now) }
+    ensures { MatchResult result (λ c. fields_in sparse (value_of document.now) ≡ Ok c)
+        (λ fault. fault ≢ FormFault.NoMemory → fields_in sparse (value_of document.now) ≡ Err fault) }
 {
     let start = Setting {
         rows: 0,
         traces: None,
         sparse,
     };
-    let rows = read_field::<Entries>(alloc, &start, value, "rows", Field::Rows)?;
+    let rows = read_field::<Entries>(alloc, &start, document, "rows", Field::Rows)?;
     let count = rows.len();
     let lists = Setting {
         rows: count,
         traces: None,
         sparse,
     };
-    let lines = read_field::<Line>(alloc, &lists, value, "bounds", Field::Bounds)?;
-    let bounds = joined(alloc, lines.as_slice())?;
-    let traces = read_traces(alloc, &lists, value)?;
+    let bounds = read_bounds(alloc, &lists, document)?;
+    let traces = read_traces(alloc, &lists, document, listed)?;
     let setting = step_setting(count, traces);
-    let Rest { steps, uppers } = read_rest(alloc, &lists, &setting, value)?;
+    let Rest { steps, uppers } = read_rest(alloc, &lists, &setting, document)?;
     Ok(Cert {
         rows: Rows::new(rows),
         bounds: Bounds::new(bounds),
@@ -265,16 +296,29 @@ fn read_fields(alloc: Global, sparse: bool, value: &Value) -> Result<Cert, FormF
     })
 }
 
-// The certificate that the value is.
-fn read_cert(alloc: Global, value: &Value) -> Result<Cert, FormFault>
-    ensures { MatchResult result (λ c. cert_in (view value.now) ≡ Ok c)
-        (λ fault. fault ≢ FormFault.NoMemory → cert_in (view value.now) ≡ Err fault) }
+// Refuses all but the keys and the format of a certificate.
+fn test_top(outline: &Value) -> Result<(), FormFault>
+    ensures { result ≡ and_then (top_in (view outline.now)) (λ _. format_in (view outline.now)) }
 {
-    if !is_top(value) {
+    if !is_top(outline) {
         return Err(FormFault::Shape(Field::Top));
     }
-    test_format(value)?;
-    read_fields(alloc, is_sparse_form(value), value)
+    test_format(outline)
+}
+
+// The certificate that the text is whose value has this outline.
+fn read_cert(alloc: Global, document: &Document<'_>, outline: &Value) -> Result<Cert, FormFault>
+    requires { view outline.now ≡ outline_of (value_of document.now) }
+    ensures { MatchResult result (λ c. cert_in (value_of document.now) ≡ Ok c)
+        (λ fault. fault ≢ FormFault.NoMemory → cert_in (value_of document.now) ≡ Err fault) }
+{
+    test_top(outline)?;
+    read_fields(
+        alloc,
+        is_sparse_form(outline),
+        has_traces(outline),
+        document,
+    )
 }
 
 /// The certificate that the bytes are, in format 1, 2 or 3. It has the traces in their places, in each.
@@ -290,11 +334,12 @@ pub fn read(alloc: Global, bytes: &[u8]) -> Result<Cert, FormFault>
     ensures refused { IfErr result (λ fault. fault ≢ FormFault.NotJson → fault ≢ FormFault.NoMemory →
         (d : Data) × Spells bytes.now d × (cert_in d ≡ Err fault)) }
 {
-    match Value::from_slice(alloc, bytes) {
-        Ok(value) => read_cert(alloc, &value),
-        Err(error) => match error.classify() {
-            Category::Memory => Err(FormFault::NoMemory),
-            _ => Err(FormFault::NotJson),
-        },
+    match Document::new(alloc, bytes) {
+        Ok(both) => {
+            let (document, outline) = both;
+            read_cert(alloc, &document, &outline)
+        }
+        Err(Fault::NotJson) => Err(FormFault::NotJson),
+        Err(Fault::NoMemory) => Err(FormFault::NoMemory),
     }
 }

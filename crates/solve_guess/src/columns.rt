@@ -2,20 +2,23 @@
 
 use std::alloc::{AllocError, Global};
 
-/// For each unknown of a system, in order of its number, its place in a list, where it is listed. This is the column of its rise.
+/// For each unknown of a system, in order of its number, one more than its place in a list, where it is listed, and else 0. The place is
+/// the column of its rise.
 #[derive(Drop)]
 pub struct Columns {
-    places: Vec<Option<usize>>,
+    places: Vec<u32>,
 }
 
 impl Columns {
     /// Those of a list, over so many unknowns.
     pub fn new(alloc: Global, unknowns: usize, list: &[u32]) -> Result<Columns, AllocError> {
-        let mut places = vec![in alloc; None; unknowns]?;
-        for (place, unknown) in list.iter().enumerate() {
+        let mut places = vec![in alloc; 0; unknowns]?;
+        let mut more: u32 = 0;
+        for unknown in list {
             let number = *unknown as usize;
+            more = more.saturating_add(1);
             if number < places.len() {
-                places[number] = Some(place);
+                places[number] = more;
             }
         }
         Ok(Columns { places })
@@ -23,10 +26,9 @@ impl Columns {
 
     /// The column of an unknown, where it is listed.
     pub fn at(&self, unknown: usize) -> Option<usize> {
-        if unknown < self.places.len() {
-            self.places[unknown]
-        } else {
-            None
+        match self.places.get(unknown) {
+            None | Some(0) => None,
+            Some(more) => Some(*more as usize - 1),
         }
     }
 }

@@ -97,14 +97,17 @@ fn go(
     alloc: Global,
     asked: Asked<'_>,
     columns: &Columns,
+    reached: &mut Reached,
     master: &mut Shaped,
 ) -> Result<Option<Guess>, Halt>
-    ensures { IfOk result (λ guess. IfSome guess (HasNumbers (length asked.entry.list.now))) }
+    requires { length reached.old.vector ≡ length asked.bounds.now }
+    ensures size { length reached.new.vector ≡ length reached.old.vector }
+    ensures numbers { IfOk result (λ guess. IfSome guess (HasNumbers (length asked.entry.list.now))) }
 {
     match end_of(alloc, master)? {
         Furthest::Point(rises) => {
-            let reached = Reached::by(alloc, asked, rises)?;
-            match add_cuts(alloc, asked, columns, &reached, master)? {
+            reached.go_to(asked, rises)?;
+            match add_cuts(alloc, asked, columns, reached, master)? {
                 Cuts::None => Ok(Some(Guess::Point(reached.numbers(alloc, asked.list)?))),
                 Cuts::Excluding => Ok(None),
                 Cuts::Others => Err(Halt::GivenUp),
@@ -112,8 +115,8 @@ fn go(
         }
         Furthest::Ray(ray) => {
             let rises = far_out(alloc, ray.as_slice())?;
-            let reached = Reached::by(alloc, asked, rises)?;
-            match add_cuts(alloc, asked, columns, &reached, master)? {
+            reached.go_to(asked, rises)?;
+            match add_cuts(alloc, asked, columns, reached, master)? {
                 Cuts::Excluding => Ok(None),
                 _ => Ok(Some(Guess::Ray(rates(alloc, asked, columns, ray.as_slice())?))),
             }
@@ -127,10 +130,10 @@ fn search(alloc: Global, asked: Asked<'_>, vectors: u32) -> Result<Guess, Halt>
 {
     let columns = Columns::new(alloc, asked.bounds.as_slice().len(), asked.list)?;
     let mut master = master(alloc, asked.list.len())?;
-    let base = Reached::by(alloc, asked, Vec::new(alloc))?;
-    add_cuts(alloc, asked, &columns, &base, &mut master)?;
+    let mut reached = Reached::base(alloc, asked)?;
+    add_cuts(alloc, asked, &columns, &reached, &mut master)?;
     for _vector in 0..vectors {
-        if let Some(guess) = go(alloc, asked, &columns, &mut master)? {
+        if let Some(guess) = go(alloc, asked, &columns, &mut reached, &mut master)? {
             return Ok(guess);
         }
     }

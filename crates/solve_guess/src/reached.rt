@@ -24,16 +24,29 @@ pub fn entry(list: &[Frac], place: usize) -> Frac {
 }
 
 impl Reached {
-    /// The vector of these rises. Those behind the last are 0.
-    pub fn by(alloc: Global, asked: Asked<'_>, rises: Vec<Frac>) -> Result<Reached, Halt>
+    /// The vector without rises.
+    pub fn base(alloc: Global, asked: Asked<'_>) -> Result<Reached, Halt>
         ensures { IfOk result (λ reached. length reached.vector ≡ length asked.entry.bounds.now) }
     {
-        let mut vector = Bounds::new(asked.bounds.as_slice().to_vec(alloc)?);
+        let vector = Bounds::new(asked.bounds.as_slice().to_vec(alloc)?);
+        Ok(Reached {
+            rises: Vec::new(alloc),
+            vector,
+        })
+    }
+
+    /// Goes to the vector of these rises. Those behind the last are 0. The bounds that aren't listed are those that were copied
+    /// once, as there may be many more of them.
+    pub fn go_to(&mut self, asked: Asked<'_>, rises: Vec<Frac>) -> Result<(), Halt>
+        requires { length self.old.vector ≡ length asked.bounds.now }
+        ensures { length self.new.vector ≡ length self.old.vector }
+    {
         for (place, unknown) in asked.list.iter().enumerate() {
             let number = number_at(asked.bounds, *unknown)?.plus(entry(&rises, place))?;
-            vector.set(*unknown, Ext::Fin(number));
+            self.vector.set(*unknown, Ext::Fin(number));
         }
-        Ok(Reached { rises, vector })
+        self.rises = rises;
+        Ok(())
     }
 
     /// The numbers of the unknowns of a list, in order.

@@ -1,2 +1,4 @@
 pub mod UpperSources
 pub mod Marks
+pub mod Forgotten
+pub mod Unchanged

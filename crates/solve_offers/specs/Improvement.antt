@@ -1,5 +1,5 @@
 -- What an improvement makes of a pick.
-use Rattle.std.specs.Prelude.{◌≡◌, ℕ, suc, ◌+◌, ◌*◌, ◌/◌, ◌%◌, eqb, ltb, Bool, true, false, ℤ}
+use Rattle.std.specs.Prelude.{◌≡◌, ◌⊎◌, ℕ, suc, ◌≤◌, ◌<◌, ◌+◌, ◌*◌, ◌/◌, ◌%◌, eqb, ltb, Bool, true, false, ℤ}
 use Rattle.std.specs.Prelude.{List, [], ◌∷◌, length, map, get_or, slice_get, if◌then◌else◌, Option, Some, None, Contains}
 use Rattle.base_facts.specs.Elements.{In}
 use Rattle.base_numbers.specs.Extended.{◌≤ᴱ◌}
@@ -71,3 +71,16 @@ pub record UnknownBecomes (system : Equations) (z : Vector) (policy : Offer → 
   pub becomes : Becomes system (transformer system) z policy (u / length system.template) (u % length system.template)
       (offers system (transformer system) z (u / length system.template) (u % length system.template)) before after
   pub told : IsListed (offers system (transformer system) z (u / length system.template) (u % length system.template)) offered
+
+-- n unknowns from a first one on have their next edges and all others their old ones, and whether one of them was offered any
+pub record AreImproved (system : Equations) (z : Vector) (policy : Offer → ℕ → Type 0) (first n : ℕ) (old new : List (Option ℕ))
+    (improved : Bool) : Type 0 where
+  pub each : (k : ℕ) → first ≤ k → k < first + n → (offered : Bool)
+      × UnknownBecomes system z policy k (get_or old k None) (get_or new k None) offered × (offered ≡ true → improved ≡ true)
+  pub others : (k : ℕ) → (k < first) ⊎ (first + n ≤ k) → get_or new k None ≡ get_or old k None
+  pub some : improved ≡ true → (k : ℕ) × (first ≤ k) × (k < first + n) × IsListed
+      (offers system (transformer system) z (k / length system.template) (k % length system.template)) true
+
+-- the next pick where there was an improvement
+abbrev pub next_pick : Bool → List (Option ℕ) → Option (List (Option ℕ))
+next_pick improved pick = if improved then Some pick else None

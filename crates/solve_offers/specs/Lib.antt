@@ -7,3 +7,4 @@ pub mod Policies
 pub mod Known
 pub mod Found
 pub mod Incoming
+pub mod Outgoing

@@ -1,12 +1,13 @@
 //! Improvement.
 
-ghost use Rattle.std.specs.Prelude.{◌≡◌, ◌↔◌, ◌*◌, ◌/◌, ◌%◌, ◌<◌, length, get_or, IfOk, IfErr, IfSome, IsNone, MatchResult, None, true};
+ghost use Rattle.std.specs.Prelude.{◌≡◌, ◌↔◌, ◌+◌, ◌*◌, ◌/◌, ◌%◌, ◌<◌, ℕ, length, get_or, IfOk, IfErr, IfSome, IsNone, MatchResult, None};
+ghost use Rattle.std.specs.Prelude.{true, false};
 ghost use Rattle.base_numbers.specs.Extended.{◌<ᴱ◌, neg_inf, pos_inf};
 ghost use Rattle.flow_systems.specs.View.{equations_of};
 ghost use Rattle.solve_composition.specs.Composed.{AreComposed};
 ghost use Rattle.solve_offers.specs.AtBounds.{vector_at, IsTransformerAt, IsOfferAt, IsNextPick, NothingExceeds, IsTightPick};
 ghost use Rattle.solve_offers.specs.AtBounds.{IsSupportedPick};
-ghost use Rattle.solve_offers.specs.Improvement.{UnknownBecomes};
+ghost use Rattle.solve_offers.specs.Improvement.{AreImproved, UnknownBecomes, next_pick};
 ghost use Rattle.solve_offers.specs.Known.{AreKnown};
 ghost use Rattle.solve_offers.specs.Offers.{is_top};
 ghost use Rattle.solve_offers.specs.Stops.{IsSolvedStop, IsOfferStop};
@@ -110,125 +111,141 @@ fn asked_offer(
 fn offer_edge(
     alloc: Global,
     at: &Offering,
-    pick: &Pick,
     chooser: &Chooser,
     unknown: u32,
-    better: &mut Pick,
+    pick: &mut Pick,
     known: &mut Known,
 ) -> Result<bool, Stop>
-    requires pick { length pick.now ≡ length at.now.system.now.flow.points * length at.now.system.now.template }
-    requires better { length better.old ≡ length at.now.system.now.flow.points * length at.now.system.now.template }
+    requires pick { length pick.old ≡ length at.now.system.now.flow.points * length at.now.system.now.template }
     requires unknown { unknown < length at.now.system.now.flow.points * length at.now.system.now.template }
     requires known { AreKnown at.now.system.now at.now.bounds.now known.old }
-    ensures size { length better.new ≡ length better.old }
-    ensures others { IfOk result (λ offered. (u : _) → (u ≡ unknown → ⊥) → get_or better.new u None ≡ get_or better.old u None) }
+    ensures size { length pick.new ≡ length pick.old }
+    ensures others { IfOk result (λ offered. (u : _) → (u ≡ unknown → ⊥) → get_or pick.new u None ≡ get_or pick.old u None) }
     ensures becomes { IfOk result (λ offered. UnknownBecomes (equations_of at.now.system.now)
         (vector_at at.now.system.now at.now.bounds.now)
         (λ offer k. (shown : _) × Policy.post chooser.now.policy shown k × (shown.now ≡ offer))
-        unknown (get_or pick.now unknown None) (get_or better.new unknown None) offered) }
+        unknown (get_or pick.old unknown None) (get_or pick.new unknown None) offered) }
     ensures stop { IfErr result (IsOfferStop at.now.system.now at.now.bounds.now at.now.round) }
     ensures known { AreKnown at.now.system.now at.now.bounds.now known.new }
 {
     let asked = asked_offer(alloc, at, unknown, known)?;
     match asked {
-        None => {
-            better.set(unknown, pick.at(unknown));
-            Ok(false)
-        }
+        None => Ok(false),
         Some(offer) => {
             if offer.some_exceeds() {
                 let position = chooser.choose(&offer);
-                better.set(unknown, Some(offer.edges.as_slice()[position]));
+                pick.set(unknown, Some(offer.edges.as_slice()[position]));
                 Ok(true)
             } else {
-                better.set(unknown, pick.at(unknown));
                 Ok(false)
             }
         }
     }
 }
 
-// Gives an unknown its next edge, and tells whether one was offered. One that is settled keeps its own and is offered none; one that
-// is offered none is settled.
-fn improve_at(
+// Gives the unknowns of a point their next edges, and tells whether one was offered.
+fn offer_edges(
     alloc: Global,
     at: &Offering,
-    pick: &Pick,
     chooser: &Chooser,
-    unknown: u32,
-    better: &mut Pick,
+    point: u32,
+    pick: &mut Pick,
     known: &mut Known,
 ) -> Result<bool, Stop>
-    requires pick { length pick.now ≡ length at.now.system.now.flow.points * length at.now.system.now.template }
-    requires better { length better.old ≡ length at.now.system.now.flow.points * length at.now.system.now.template }
-    requires unknown { unknown < length at.now.system.now.flow.points * length at.now.system.now.template }
+    requires pick { length pick.old ≡ length at.now.system.now.flow.points * length at.now.system.now.template }
+    requires point { point < length at.now.system.now.flow.points }
     requires known { AreKnown at.now.system.now at.now.bounds.now known.old }
-    ensures size { length better.new ≡ length better.old }
-    ensures others { IfOk result (λ offered. (u : _) → (u ≡ unknown → ⊥) → get_or better.new u None ≡ get_or better.old u None) }
-    ensures becomes { IfOk result (λ offered. UnknownBecomes (equations_of at.now.system.now)
-        (vector_at at.now.system.now at.now.bounds.now)
+    ensures improved { IfOk result (AreImproved (equations_of at.now.system.now) (vector_at at.now.system.now at.now.bounds.now)
         (λ offer k. (shown : _) × Policy.post chooser.now.policy shown k × (shown.now ≡ offer))
-        unknown (get_or pick.now unknown None) (get_or better.new unknown None) offered) }
+        (point * length at.now.system.now.template) (length at.now.system.now.template) pick.old pick.new) }
+    ensures size { length pick.new ≡ length pick.old }
     ensures stop { IfErr result (IsOfferStop at.now.system.now at.now.bounds.now at.now.round) }
     ensures known { AreKnown at.now.system.now at.now.bounds.now known.new }
 {
-    if known.is_settled(unknown) {
-        better.set(unknown, pick.at(unknown));
+    let rows = at.system.template.as_slice().len() as u32;
+    let mut improved = false;
+    for row in 0..rows {
+        if offer_edge(alloc, at, chooser, point * rows + row, pick, known)? {
+            improved = true;
+        }
+    }
+    Ok(improved)
+}
+
+// Gives the unknowns of a point their next edges, and tells whether one was offered. Those of one that is settled are offered none;
+// one whose unknowns are offered none is settled.
+fn improve_point(
+    alloc: Global,
+    at: &Offering,
+    chooser: &Chooser,
+    point: u32,
+    pick: &mut Pick,
+    known: &mut Known,
+) -> Result<bool, Stop>
+    requires pick { length pick.old ≡ length at.now.system.now.flow.points * length at.now.system.now.template }
+    requires point { point < length at.now.system.now.flow.points }
+    requires known { AreKnown at.now.system.now at.now.bounds.now known.old }
+    ensures improved { IfOk result (AreImproved (equations_of at.now.system.now) (vector_at at.now.system.now at.now.bounds.now)
+        (λ offer k. (shown : _) × Policy.post chooser.now.policy shown k × (shown.now ≡ offer))
+        (point * length at.now.system.now.template) (length at.now.system.now.template) pick.old pick.new) }
+    ensures size { length pick.new ≡ length pick.old }
+    ensures stop { IfErr result (IsOfferStop at.now.system.now at.now.bounds.now at.now.round) }
+    ensures known { AreKnown at.now.system.now at.now.bounds.now known.new }
+{
+    if known.is_settled(point) {
         return Ok(false);
     }
-    if offer_edge(alloc, at, pick, chooser, unknown, better, known)? {
+    if offer_edges(alloc, at, chooser, point, pick, known)? {
         return Ok(true);
     }
-    known.settle(unknown);
+    known.mark(point, true);
     Ok(false)
 }
 
-/// The next pick at the bounds. For each unknown in order, the offer has the transformers of all edges into its point, by edge
-/// number. Where one exceeds the unknown's bound, the edge at the position that the chooser answers becomes its edge; else the
-/// unknown keeps its own. `None` exactly where no transformer exceeds its bound anywhere. The transformers of an unknown at
-/// `+inf` aren't solved, since none exceeds it, nor are those that are known already; those that are found are kept. An unknown that
-/// is known to be settled isn't looked at again.
+/// Makes a pick the next one at the bounds, and tells whether some unknown was offered an edge. For each unknown in order, the
+/// offer has the transformers of all edges into its point, by edge number. Where one exceeds the unknown's bound, the edge at the
+/// position that the chooser answers becomes its edge; else the unknown keeps its own. `false` exactly where no transformer
+/// exceeds its bound anywhere. The transformers of an unknown at `+inf` aren't solved, since none exceeds it, nor are those that
+/// are known already; those that are found are kept. A point that is known to be settled isn't looked at again.
 ///
 /// # Errors
 ///
 /// `Wide` only where an operation of the transformer of an edge and a row is too wide for a fraction at these bounds, at the
 /// site of the offer of that edge and row, in this round, and the bound that the edge leads to is below `+inf`. `NoMemory`.
-pub fn improve_from(
+pub fn improve(
     alloc: Global,
     system: &System,
     paths: &Paths,
     bounds: &Bounds,
-    pick: &Pick,
+    pick: &mut Pick,
     round: u32,
     chooser: &Chooser,
     known: &mut Known,
-) -> Result<Option<Pick>, Stop>
+) -> Result<bool, Stop>
     requires composed { AreComposed (equations_of system.now) paths.now }
     requires bounds { length bounds.now ≡ length system.now.flow.points * length system.now.template }
-    requires pick { length pick.now ≡ length system.now.flow.points * length system.now.template }
+    requires pick { length pick.old ≡ length system.now.flow.points * length system.now.template }
     requires known { AreKnown system.now bounds.now known.old }
-    ensures none { IfOk result (λ next. IsNone next ↔ NothingExceeds system.now bounds.now) }
-    ensures next { IfOk result (λ next. IsNextPick system.now bounds.now
-        (λ offer k. (shown : _) × Policy.post chooser.now.policy shown k × (shown.now ≡ offer)) pick.now next) }
-    ensures size { IfOk result (λ next. IfSome next (λ better. length better ≡ length pick.now)) }
-    ensures supported { IfOk result
-        (λ next. IfSome next (λ better. IsTightPick system.now bounds.now pick.now → IsSupportedPick system.now bounds.now better)) }
+    ensures none { IfOk result (λ improved. improved ≡ false ↔ NothingExceeds system.now bounds.now) }
+    ensures next { IfOk result (λ improved. IsNextPick system.now bounds.now
+        (λ offer k. (shown : _) × Policy.post chooser.now.policy shown k × (shown.now ≡ offer)) pick.old (next_pick improved pick.new)) }
+    ensures size { length pick.new ≡ length pick.old }
+    ensures supported { IfOk result (λ improved. improved ≡ true → IsTightPick system.now bounds.now pick.old
+        → IsSupportedPick system.now bounds.now pick.new) }
     ensures stop { IfErr result (IsOfferStop system.now bounds.now round) }
     ensures known { AreKnown system.now bounds.now known.new }
 {
-    let count = system.flow.points.as_slice().len() * system.template.as_slice().len();
     let at = Offering {
         system,
         paths,
         bounds,
         round,
     };
-    let mut better = Pick::none(alloc, system)?;
     let mut improved = false;
-    for unknown in 0..count as u32 {
-        if improve_at(alloc, &at, pick, chooser, unknown, &mut better, known)? {
+    for point in 0..system.flow.points.as_slice().len() as u32 {
+        if improve_point(alloc, &at, chooser, point, pick, known)? {
             improved = true;
         }
     }
-    if improved { Ok(Some(better)) } else { Ok(None) }
+    Ok(improved)
 }

@@ -9,8 +9,8 @@ use std::marker::Model;
 
 // Numbers in order, to which more are added.
 #[derive(Drop)]
-struct Numbers {
-    list: Vec<u32>,
+pub(crate) struct Numbers {
+    pub list: Vec<u32>,
 }
 
 impl Model for Numbers {
@@ -23,7 +23,7 @@ impl Model for Numbers {
 
 impl Numbers {
     // No numbers.
-    fn none(alloc: Global) -> Numbers
+    pub(crate) fn none(alloc: Global) -> Numbers
         ensures { result ≡ [] }
     {
         let list = Vec::new(alloc);
@@ -31,7 +31,7 @@ impl Numbers {
     }
 
     // Puts a number behind the others.
-    fn add(&mut self, number: u32) -> Result<(), AllocError>
+    pub(crate) fn add(&mut self, number: u32) -> Result<(), AllocError>
         ensures { OnOk result (self.new ≡ self.old ++ number ∷ []) }
     {
         self.list.push(number)?;
@@ -54,7 +54,7 @@ impl Model for Incoming {
 }
 
 // So many empty lists.
-fn empty_lists(alloc: Global, count: usize) -> Result<Vec<Numbers>, AllocError>
+pub(crate) fn empty_lists(alloc: Global, count: usize) -> Result<Vec<Numbers>, AllocError>
     ensures { IfOk result (λ v. v.items ≡ replicate count []) }
 {
     let mut lists = Vec::with_capacity(alloc, count)?;

@@ -1,7 +1,9 @@
 pub mod Kept
+pub mod Over
 pub mod PassedTo
 pub mod PickedUnknowns
 pub mod Quiet
 pub mod RaiseRead
 pub mod Tested
+pub mod Unraised
 pub mod Walked

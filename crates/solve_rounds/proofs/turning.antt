@@ -1,5 +1,6 @@
 pub mod FoundFacts
 pub mod LayoutReads
+pub mod OthersKept
 pub mod OutcomeFacts
 pub mod TurnItems
 pub mod Turned

@@ -1,1 +1,2 @@
+pub mod IntoNumbers
 pub mod UpperLists

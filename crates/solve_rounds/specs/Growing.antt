@@ -84,13 +84,58 @@ abbrev pub IsKnownWithin : Option CodeExtended → CodeExtended → Type 0
 IsKnownWithin None bound = ⊥
 IsKnownWithin (Some value) bound = extended value ≤ᴱ extended bound
 
--- an unknown is marked as quiet only where its picked transformer is at most its bound
+-- there is a quiet mark for each unknown, and a calm mark for each point
+pub record HasMarks (system : System) (growing : Growing) : Type 0 where
+  pub quiet : length growing.quiet.items ≡ length system.flow.points * length system.template
+  pub calm : length growing.calm.items ≡ length system.flow.points
+
+-- an unknown is marked as quiet only where its picked transformer is at most its bound, and a point as calm only where each of its
+-- unknowns was raised or has such a transformer
 pub record AreQuiet (system : System) (pick : List (Option ℕ)) (growing : Growing) : Type 0 where
-  pub size : length growing.quiet.items ≡ length system.flow.points * length system.template
-  pub within : (u edge : ℕ) → u < length system.flow.points * length system.template → get_or growing.quiet.items u false ≡ true →
-      get_or pick u None ≡ Some edge →
-      value_at (equations_of system) (transformers system) (vector_at system growing.bounds) (choice_of (length system.template) u edge)
-      ≤ᴱ get_or growing.bounds u neg_inf
+  pub marks : HasMarks system growing
+  pub within : (u : ℕ) → u < length system.flow.points * length system.template → get_or growing.quiet.items u false ≡ true
+      → IsWithin system growing.bounds pick u
+  pub calm : (u : ℕ) → u < length system.flow.points * length system.template
+      → get_or growing.calm.items (u / length system.template) false ≡ true → get_or growing.raised.items u false ≡ false
+      → IsWithin system growing.bounds pick u
+
+-- each picked edge ends at the point of its unknown
+abbrev pub EdgesEnd : System → List (Option ℕ) → Type 0
+EdgesEnd system pick = (u edge : ℕ) → get_or pick u None ≡ Some edge → (edge_at system edge).to ≡ u / length system.template
+
+-- nothing is raised, and nothing is forgotten of it
+pub record KeepsSteps (old new : Growing) : Type 0 where
+  pub bounds : new.bounds ≡ old.bounds
+  pub raised : new.raised.items ≡ old.raised.items
+  pub steps : new.steps.items ≡ old.steps.items
+
+-- no mark is new, and none is left of an unknown for which an edge is picked, nor of its point
+pub record WakesEdge (system : System) (pick : List (Option ℕ)) (edge : ℕ) (old new : Growing) : Type 0 where
+  pub quiet_kept : (u : ℕ) → get_or new.quiet.items u false ≡ true → get_or old.quiet.items u false ≡ true
+  pub calm_kept : (p : ℕ) → get_or new.calm.items p false ≡ true → get_or old.calm.items p false ≡ true
+  pub quiet : (u : ℕ) → get_or new.quiet.items u false ≡ true → get_or pick u None ≡ Some edge → ⊥
+  pub calm : (u : ℕ) → get_or new.calm.items (u / length system.template) false ≡ true → get_or pick u None ≡ Some edge → ⊥
+
+-- no mark is new, and none is left of an unknown whose picked edge starts at a point, nor of its point
+pub record WakesPoint (system : System) (pick : List (Option ℕ)) (point : ℕ) (old new : Growing) : Type 0 where
+  pub quiet_kept : (u : ℕ) → get_or new.quiet.items u false ≡ true → get_or old.quiet.items u false ≡ true
+  pub calm_kept : (p : ℕ) → get_or new.calm.items p false ≡ true → get_or old.calm.items p false ≡ true
+  pub quiet : (u edge : ℕ) → get_or new.quiet.items u false ≡ true → get_or pick u None ≡ Some edge → edge < length system.flow.edges
+      → (edge_at system edge).from ≡ point → ⊥
+  pub calm : (u edge : ℕ) → get_or new.calm.items (u / length system.template) false ≡ true → get_or pick u None ≡ Some edge
+      → edge < length system.flow.edges → (edge_at system edge).from ≡ point → ⊥
+
+-- n unknowns from a first one on need no test: no bound and no mark of a raise changes, and each of them was raised or has a picked
+-- transformer of at most its bound
+pub record AreOver (system : System) (pick : List (Option ℕ)) (first n : ℕ) (old new : Growing) : Type 0 where
+  pub bounds : new.bounds ≡ old.bounds
+  pub raised : new.raised.items ≡ old.raised.items
+  pub over : (u : ℕ) → first ≤ u → u < first + n → get_or new.raised.items u false ≡ false → IsWithin system new.bounds pick u
+
+-- what isn't marked as raised wasn't before, and keeps its bound
+abbrev pub StaysUnraised : Growing → Growing → Type 0
+StaysUnraised old new = (u : ℕ) → get_or new.raised.items u false ≡ false
+    → (get_or old.raised.items u false ≡ false) × (get_or new.bounds u neg_inf ≡ get_or old.bounds u neg_inf)
 
 -- whether steps were made
 abbrev pub IsTold : List Step → Bool → Type 0

@@ -5,7 +5,7 @@ ghost use Rattle.flow_systems.specs.View.{equations_of};
 ghost use Rattle.cert_types.specs.Certificates.{step_of};
 ghost use Rattle.solve_composition.specs.Composed.{AreComposed};
 ghost use Rattle.solve_offers.specs.AtBounds.{IsSupportedPick, IsTightPick};
-ghost use Rattle.solve_offers.specs.Known.{AreKnown};
+ghost use Rattle.solve_offers.specs.Known.{AreKnown, KeepsOthers};
 ghost use Rattle.solve_rounds.specs.Growth.{growth_at, named_at};
 ghost use Rattle.solve_rounds.specs.Round.{IsRoundAt, rounded_at, AreBoundsOf, AreAbove, AreValidFrom, IsRoundStop, IsTurnStop};
 ghost use Rattle.solve_rounds.specs.Turning.{AreAllDone, ComesAfter, ComesAmong, IsDone, IsPart, IsPickAt, IsWaiting, PartsWait};
@@ -35,6 +35,7 @@ fn part<W: Watch>(
     requires few { length turning.old.steps.items + length list.now ≤ 4294967296 }
     requires part { IsPart at.now.system.now at.now.pick.now at.now.raises.now at.now.places.now list.now }
     requires waiting { IsWaiting at.now.system.now at.now.pick.now at.now.raises.now at.now.places.now list.now turning.old.bounds }
+    ensures others { IfOk result (λ done. KeepsOthers list.now turning.old.bounds turning.new.bounds) }
     ensures done { IfOk result (λ done. IsDone at.now.system.now at.now.pick.now at.now.raises.now at.now.places.now list.now turning.old
         turning.new) }
     ensures stop { IfErr result (IsTurnStop at.now.system.now at.now.pick.now (ComesAfter at.now.system.now at.now.raises.now
@@ -60,6 +61,7 @@ fn turns<W: Watch>(
     requires none { length turning.old.steps.items ≡ 0 }
     requires list { IsPart at.now.system.now at.now.pick.now at.now.raises.now at.now.places.now list.now }
     requires waiting { PartsWait at.now.system.now at.now.pick.now at.now.raises.now at.now.places.now list.now turning.old.bounds }
+    ensures others { IfOk result (λ done. KeepsOthers list.now turning.old.bounds turning.new.bounds) }
     ensures done { IfOk result (λ done. AreAllDone at.now.system.now at.now.pick.now at.now.raises.now at.now.places.now list.now
         turning.old turning.new) }
     ensures stop { IfErr result (IsTurnStop at.now.system.now at.now.pick.now (ComesAmong at.now.system.now at.now.pick.now
@@ -88,30 +90,31 @@ pub(crate) fn round_from<W: Watch>(
     alloc: Global,
     system: &System,
     paths: &Paths,
-    bounds: &Bounds,
+    bounds: Bounds,
     pick: &Pick,
     round: u32,
     known: &Known,
     watch: &mut W,
 ) -> Result<Grown, RoundStop>
     requires composed { AreComposed (equations_of system.now) paths.now }
-    requires bounds { length bounds.now ≡ length system.now.flow.points * length system.now.template }
+    requires bounds { length bounds ≡ length system.now.flow.points * length system.now.template }
     requires pick { length pick.now ≡ length system.now.flow.points * length system.now.template }
-    requires supported { IsSupportedPick system.now bounds.now pick.now }
-    requires known { AreKnown system.now bounds.now known.now }
-    ensures steps { IfOk result (λ grown. IsRoundAt system.now bounds.now pick.now
+    requires supported { IsSupportedPick system.now bounds pick.now }
+    requires known { AreKnown system.now bounds known.now }
+    ensures steps { IfOk result (λ grown. IsRoundAt system.now bounds pick.now
         (map (step_of (length system.now.template)) grown.steps)) }
-    ensures bounds { IfOk result (λ grown. AreBoundsOf system.now (rounded_at system.now bounds.now pick.now) grown.bounds) }
-    ensures size { IfOk result (λ grown. length grown.bounds ≡ length bounds.now) }
-    ensures above { IfOk result (λ grown. AreAbove system.now bounds.now pick.now grown.bounds) }
+    ensures bounds { IfOk result (λ grown. AreBoundsOf system.now (rounded_at system.now bounds pick.now) grown.bounds) }
+    ensures size { IfOk result (λ grown. length grown.bounds ≡ length bounds) }
+    ensures above { IfOk result (λ grown. AreAbove system.now bounds pick.now grown.bounds) }
     ensures tight { IfOk result (λ grown. IsTightPick system.now grown.bounds pick.now) }
-    ensures valid { IfOk result (λ grown. AreValidFrom system.now bounds.now (map (step_of (length system.now.template)) grown.steps)) }
-    ensures raised { IfOk result (λ grown. grown.raised ≡ named_at system.now (growth_at system.now bounds.now pick.now)) }
-    ensures stop { IfErr result (IsRoundStop system.now bounds.now pick.now round) }
+    ensures valid { IfOk result (λ grown. AreValidFrom system.now bounds (map (step_of (length system.now.template)) grown.steps)) }
+    ensures others { IfOk result (λ grown. KeepsOthers grown.raised bounds grown.bounds) }
+    ensures raised { IfOk result (λ grown. grown.raised ≡ named_at system.now (growth_at system.now bounds pick.now)) }
+    ensures stop { IfErr result (IsRoundStop system.now bounds pick.now round) }
 {
     let grown = grow_from(alloc, system, paths, bounds, pick, round, known)?;
     let mut steps = grown.steps.into_list();
-    let count = bounds.as_slice().len();
+    let count = grown.bounds.as_slice().len();
     let places = places(alloc, count, steps.as_slice())?;
     let list = finite(alloc, &grown.bounds, grown.raised.as_slice())?;
     let mut turning = Turning {

@@ -1,18 +1,21 @@
 //! Unknowns that grow.
 
-ghost use Rattle.flow_systems.specs.declared.limits.TheConstants.{MOST_UNKNOWNS};
 ghost use Rattle.std.specs.Prelude.{◌≡◌, ◌*◌, ◌<◌, ◌≤◌, ◌%◌, ℕ, length, get_or, IfOk, IfErr, Some, None, false, true};
 ghost use Rattle.base_numbers.specs.Extended.{◌<ᴱ◌, neg_inf, pos_inf};
 ghost use Rattle.base_fractions.specs.Extended.{extended};
 ghost use Rattle.flow_systems.specs.View.{equations_of};
 ghost use Rattle.solve_composition.specs.Composed.{AreComposed};
 ghost use Rattle.solve_composition.specs.Value.{number_of};
-ghost use Rattle.solve_offers.specs.AtBounds.{EdgesAreThere, edge_at};
+ghost use Rattle.solve_offers.specs.AtBounds.{EdgesAreThere};
+ghost use Rattle.solve_offers.specs.Outgoing.{AreLeaving};
 ghost use Rattle.cert_types.specs.Certificates.{step_of};
 ghost use Rattle.solve_raise.specs.Raises.{HasSizes, Rises, choice_of, raised, raise_operations};
 ghost use Rattle.solve_rounds.specs.Growing.{
   IsKept,
+  AreOver,
   AreQuiet,
+  EdgesEnd,
+  StaysUnraised,
   ArePassed,
   OthersKeep,
   IsPassStop,
@@ -25,21 +28,24 @@ ghost use Rattle.solve_rounds.specs.Growing.{
   HasItem,
 };
 
+use crate::waking::wake;
 use base_fractions::Ext;
 use cert_types::Step;
 use flow_systems::{Bounds, PartFault, Pick, Site, Spot, System};
-use solve_offers::{Stop, exceeds, is_unlimited, supremum};
+use solve_offers::{Known, Stop, exceeds, is_unlimited, supremum};
 use solve_raise::{RaiseFault, raise};
 use solve_transformer::{Paths, Value, operator};
 use std::alloc::Global;
 
-// The bounds so far, whether each unknown was raised, whether it is quiet, and the steps of the raises in order. A quiet unknown
-// was tested without a raise, and no bound at its picked edge's source has changed since: its next test would answer the same.
+// The bounds so far, whether each unknown was raised, whether it is quiet, whether each point is calm, and the steps of the raises in
+// order. A quiet unknown was tested without a raise, and no bound at its picked edge's source has changed since: its next test would
+// answer the same. At a calm point there is no unknown to be tested, so that it costs a pass no more than a look at its mark.
 #[derive(Drop)]
 pub(crate) struct Growing {
     pub bounds: Bounds,
     pub raised: Vec<bool>,
     pub quiet: Vec<bool>,
+    pub calm: Vec<bool>,
     pub steps: Vec<Step>,
 }
 
@@ -116,25 +122,6 @@ fn raising_step(
     }
 }
 
-// The unknowns whose picked edge starts at the point aren't quiet any more.
-fn wake(system: &System, pick: &Pick, point: u32, quiet: &mut [bool])
-    requires pick { length pick.now ≡ length quiet.old }
-    requires edges { EdgesAreThere system.now pick.now }
-    requires few { length quiet.old ≤ MOST_UNKNOWNS }
-    ensures size { length quiet.new ≡ length quiet.old }
-    ensures quiet { (u : ℕ) → get_or quiet.new u false ≡ true →
-        (get_or quiet.old u false ≡ true) × ((edge : ℕ) → get_or pick.now u None ≡ Some edge → (edge_at system.now edge).from ≡ point → ⊥) }
-{
-    let edges = system.flow.edges.as_slice();
-    for (unknown, mark) in quiet.iter_mut().enumerate() {
-        if let Some(edge) = pick.at(unknown as u32) {
-            if edges[edge as usize].from == point {
-                *mark = false;
-            }
-        }
-    }
-}
-
 // Tests an unraised unknown below `+inf` with a pick, and raises it where the picked transformer exceeds its bound. Tells whether it
 // did.
 fn test_picked(
@@ -143,6 +130,7 @@ fn test_picked(
     paths: &Paths,
     pick: &Pick,
     edge: u32,
+    known: &Known,
     round: u32,
     unknown: u32,
     growing: &mut Growing,
@@ -150,6 +138,8 @@ fn test_picked(
     requires composed { AreComposed (equations_of system.now) paths.now }
     requires pick { length pick.now ≡ length system.now.flow.points * length system.now.template }
     requires edges { EdgesAreThere system.now pick.now }
+    requires ends { EdgesEnd system.now pick.now }
+    requires leaving { AreLeaving system.now known.now.outgoing }
     requires edge { get_or pick.now unknown None ≡ Some edge }
     requires kept { IsKept system.now growing.old }
     requires quiet { AreQuiet system.now pick.now growing.old }
@@ -160,6 +150,7 @@ fn test_picked(
     ensures kept { IfOk result (λ told. IsKept system.now growing.new) }
     ensures quiet { IfOk result (λ told. AreQuiet system.now pick.now growing.new) }
     ensures tested { IfOk result (AreTested system.now edge unknown growing.old growing.new) }
+    ensures stays { IfOk result (λ told. StaysUnraised growing.old growing.new) }
     ensures stop { IfErr result (IsTestStop system.now edge unknown growing.old round) }
 {
     let rows = system.template.as_slice().len() as u32;
@@ -182,7 +173,7 @@ fn test_picked(
     growing.bounds.set(unknown, new_bound(&step));
     growing.raised[unknown as usize] = true;
     growing.steps.push(step)?;
-    wake(system, pick, unknown / rows, &mut growing.quiet);
+    wake(system, pick, known, unknown / rows, growing);
     Ok(true)
 }
 
@@ -193,6 +184,7 @@ fn test(
     system: &System,
     paths: &Paths,
     pick: &Pick,
+    known: &Known,
     round: u32,
     unknown: u32,
     growing: &mut Growing,
@@ -200,6 +192,8 @@ fn test(
     requires composed { AreComposed (equations_of system.now) paths.now }
     requires pick { length pick.now ≡ length system.now.flow.points * length system.now.template }
     requires edges { EdgesAreThere system.now pick.now }
+    requires ends { EdgesEnd system.now pick.now }
+    requires leaving { AreLeaving system.now known.now.outgoing }
     requires kept { IsKept system.now growing.old }
     requires quiet { AreQuiet system.now pick.now growing.old }
     requires unknown { unknown < length system.now.flow.points * length system.now.template }
@@ -207,6 +201,8 @@ fn test(
     ensures quiet { IfOk result (λ told. AreQuiet system.now pick.now growing.new) }
     ensures others { IfOk result (λ told. OthersKeep unknown 1 growing.old growing.new) }
     ensures passed { IfOk result (ArePassed system.now pick.now unknown 1 growing.old growing.new) }
+    ensures over { IfOk result (λ told. told ≡ false → AreOver system.now pick.now unknown 1 growing.old growing.new) }
+    ensures stays { IfOk result (λ told. StaysUnraised growing.old growing.new) }
     ensures stop { IfErr result (IsPassStop system.now pick.now unknown 1 growing.old round) }
 {
     if growing.raised[unknown as usize] {
@@ -219,36 +215,131 @@ fn test(
         return Ok(false);
     }
     match pick.at(unknown) {
-        Some(edge) => test_picked(alloc, system, paths, pick, edge, round, unknown, growing),
+        Some(edge) => test_picked(
+            alloc, system, paths, pick, edge, known, round, unknown, growing,
+        ),
         None => Ok(false),
     }
 }
 
-// Tests all unknowns in order. Tells whether one was raised.
+// Tests the unknowns of a point in order. Tells whether one was raised.
+fn test_point(
+    alloc: Global,
+    system: &System,
+    paths: &Paths,
+    pick: &Pick,
+    known: &Known,
+    round: u32,
+    point: u32,
+    growing: &mut Growing,
+) -> Result<bool, Stop>
+    requires composed { AreComposed (equations_of system.now) paths.now }
+    requires pick { length pick.now ≡ length system.now.flow.points * length system.now.template }
+    requires edges { EdgesAreThere system.now pick.now }
+    requires ends { EdgesEnd system.now pick.now }
+    requires leaving { AreLeaving system.now known.now.outgoing }
+    requires kept { IsKept system.now growing.old }
+    requires quiet { AreQuiet system.now pick.now growing.old }
+    requires point { point < length system.now.flow.points }
+    ensures kept { IfOk result (λ told. IsKept system.now growing.new) }
+    ensures quiet { IfOk result (λ told. AreQuiet system.now pick.now growing.new) }
+    ensures others { IfOk result (λ told. OthersKeep (point * length system.now.template) (length system.now.template) growing.old
+        growing.new) }
+    ensures passed { IfOk result (ArePassed system.now pick.now (point * length system.now.template) (length system.now.template)
+        growing.old growing.new) }
+    ensures over { IfOk result (λ told. told ≡ false → AreOver system.now pick.now (point * length system.now.template)
+        (length system.now.template) growing.old growing.new) }
+    ensures stays { IfOk result (λ told. StaysUnraised growing.old growing.new) }
+    ensures stop { IfErr result (IsPassStop system.now pick.now (point * length system.now.template) (length system.now.template)
+        growing.old round) }
+{
+    let rows = system.template.as_slice().len() as u32;
+    let mut told = false;
+    for row in 0..rows {
+        if test(
+            alloc,
+            system,
+            paths,
+            pick,
+            known,
+            round,
+            point * rows + row,
+            growing,
+        )? {
+            told = true;
+        }
+    }
+    Ok(told)
+}
+
+// Passes the unknowns of a point: a calm one has none to be tested, and one where none was raised is calm from then on. Tells
+// whether one was raised.
+fn pass_point(
+    alloc: Global,
+    system: &System,
+    paths: &Paths,
+    pick: &Pick,
+    known: &Known,
+    round: u32,
+    point: u32,
+    growing: &mut Growing,
+) -> Result<bool, Stop>
+    requires composed { AreComposed (equations_of system.now) paths.now }
+    requires pick { length pick.now ≡ length system.now.flow.points * length system.now.template }
+    requires edges { EdgesAreThere system.now pick.now }
+    requires ends { EdgesEnd system.now pick.now }
+    requires leaving { AreLeaving system.now known.now.outgoing }
+    requires kept { IsKept system.now growing.old }
+    requires quiet { AreQuiet system.now pick.now growing.old }
+    requires point { point < length system.now.flow.points }
+    ensures kept { IfOk result (λ told. IsKept system.now growing.new) }
+    ensures quiet { IfOk result (λ told. AreQuiet system.now pick.now growing.new) }
+    ensures others { IfOk result (λ told. OthersKeep (point * length system.now.template) (length system.now.template) growing.old
+        growing.new) }
+    ensures passed { IfOk result (ArePassed system.now pick.now (point * length system.now.template) (length system.now.template)
+        growing.old growing.new) }
+    ensures stays { IfOk result (λ told. StaysUnraised growing.old growing.new) }
+    ensures stop { IfErr result (IsPassStop system.now pick.now (point * length system.now.template) (length system.now.template)
+        growing.old round) }
+{
+    if growing.calm[point as usize] {
+        return Ok(false);
+    }
+    let told = test_point(alloc, system, paths, pick, known, round, point, growing)?;
+    if !told {
+        growing.calm[point as usize] = true;
+    }
+    Ok(told)
+}
+
+// Passes all unknowns in order. Tells whether one was raised.
 pub(crate) fn pass(
     alloc: Global,
     system: &System,
     paths: &Paths,
     pick: &Pick,
+    known: &Known,
     round: u32,
     growing: &mut Growing,
 ) -> Result<bool, Stop>
     requires composed { AreComposed (equations_of system.now) paths.now }
     requires pick { length pick.now ≡ length system.now.flow.points * length system.now.template }
     requires edges { EdgesAreThere system.now pick.now }
+    requires ends { EdgesEnd system.now pick.now }
+    requires leaving { AreLeaving system.now known.now.outgoing }
     requires kept { IsKept system.now growing.old }
     requires quiet { AreQuiet system.now pick.now growing.old }
     ensures kept { IfOk result (λ told. IsKept system.now growing.new) }
     ensures quiet { IfOk result (λ told. AreQuiet system.now pick.now growing.new) }
     ensures passed { IfOk result (ArePassed system.now pick.now 0 (length system.now.flow.points * length system.now.template) growing.old
         growing.new) }
+    ensures stays { IfOk result (λ told. StaysUnraised growing.old growing.new) }
     ensures stop { IfErr result (IsPassStop system.now pick.now 0 (length system.now.flow.points * length system.now.template) growing.old
         round) }
 {
-    let count = system.flow.points.as_slice().len() * system.template.as_slice().len();
     let mut told = false;
-    for unknown in 0..count as u32 {
-        if test(alloc, system, paths, pick, round, unknown, growing)? {
+    for point in 0..system.flow.points.as_slice().len() as u32 {
+        if pass_point(alloc, system, paths, pick, known, round, point, growing)? {
             told = true;
         }
     }

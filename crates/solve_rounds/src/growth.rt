@@ -5,9 +5,10 @@ ghost use Rattle.flow_systems.specs.View.{equations_of};
 ghost use Rattle.cert_types.specs.Certificates.{step_of};
 ghost use Rattle.solve_composition.specs.Composed.{AreComposed};
 ghost use Rattle.solve_offers.specs.AtBounds.{EdgesAreThere};
-ghost use Rattle.solve_offers.specs.Known.{AreKnown};
+ghost use Rattle.solve_offers.specs.Known.{AreKnown, KeepsOthers};
+ghost use Rattle.solve_offers.specs.Outgoing.{AreLeaving};
 ghost use Rattle.flow_systems.specs.declared.fault.Fault.TheVariants.{NoMemory};
-ghost use Rattle.solve_rounds.specs.Growing.{IsKept, AreQuiet, IsFresh, IsGrown, marked_numbers};
+ghost use Rattle.solve_rounds.specs.Growing.{IsKept, AreQuiet, EdgesEnd, IsFresh, IsGrown, StaysUnraised, marked_numbers};
 ghost use Rattle.solve_rounds.specs.Growth.{growth_at, AreLed, named_at, IsGrowthStop};
 ghost use Rattle.flow_systems.specs.declared.limits.TheConstants.{MOST_UNKNOWNS};
 
@@ -53,27 +54,31 @@ fn passes(
     system: &System,
     paths: &Paths,
     pick: &Pick,
+    known: &Known,
     round: u32,
     growing: &mut Growing,
 ) -> Result<(), Stop>
     requires composed { AreComposed (equations_of system.now) paths.now }
     requires pick { length pick.now ≡ length system.now.flow.points * length system.now.template }
     requires edges { EdgesAreThere system.now pick.now }
+    requires ends { EdgesEnd system.now pick.now }
+    requires leaving { AreLeaving system.now known.now.outgoing }
     requires kept { IsKept system.now growing.old }
     requires quiet { AreQuiet system.now pick.now growing.old }
     requires unraised { IsFresh system.now growing.old }
     ensures kept { IfOk result (λ done. IsKept system.now growing.new) }
     ensures grown { IfOk result (λ done. IsGrown system.now growing.old.bounds pick.now growing.new) }
+    ensures stays { IfOk result (λ done. StaysUnraised growing.old growing.new) }
     ensures stop { IfErr result (IsGrowthStop system.now growing.old.bounds pick.now round) }
 {
-    while pass(alloc, system, paths, pick, round, growing)? {}
+    while pass(alloc, system, paths, pick, known, round, growing)? {}
     Ok(())
 }
 
 /// The growth of a pick from the bounds. In passes, the unknowns with a pick are tested in order of number; one that wasn't
 /// raised yet and whose picked edge's transformer exceeds its bound is raised at once, by one step, and later tests see its new
 /// bound. The passes end with one that raises nothing. Transformers that are known already and don't exceed their bounds aren't solved
-/// again. `docs/METHOD.md` says to which bound an unknown is raised.
+/// again, and points where nothing is to be tested aren't gone through. `docs/METHOD.md` says to which bound an unknown is raised.
 ///
 /// # Errors
 ///
@@ -83,33 +88,37 @@ pub(crate) fn grow_from(
     alloc: Global,
     system: &System,
     paths: &Paths,
-    bounds: &Bounds,
+    bounds: Bounds,
     pick: &Pick,
     round: u32,
     known: &Known,
 ) -> Result<Grown, Stop>
     requires composed { AreComposed (equations_of system.now) paths.now }
-    requires bounds { length bounds.now ≡ length system.now.flow.points * length system.now.template }
+    requires bounds { length bounds ≡ length system.now.flow.points * length system.now.template }
     requires pick { length pick.now ≡ length system.now.flow.points * length system.now.template }
     requires edges { EdgesAreThere system.now pick.now }
-    requires known { AreKnown system.now bounds.now known.now }
+    requires ends { EdgesEnd system.now pick.now }
+    requires known { AreKnown system.now bounds known.now }
     ensures steps { IfOk result (λ grown. map (step_of (length system.now.template)) grown.steps
-        ≡ growth_at system.now bounds.now pick.now) }
-    ensures bounds { IfOk result (λ grown. AreLed system.now bounds.now (map (step_of (length system.now.template)) grown.steps)
+        ≡ growth_at system.now bounds pick.now) }
+    ensures bounds { IfOk result (λ grown. AreLed system.now bounds (map (step_of (length system.now.template)) grown.steps)
         grown.bounds) }
-    ensures size { IfOk result (λ grown. length grown.bounds ≡ length bounds.now) }
+    ensures size { IfOk result (λ grown. length grown.bounds ≡ length bounds) }
     ensures raised { IfOk result (λ grown. grown.raised ≡ named_at system.now (map (step_of (length system.now.template)) grown.steps)) }
-    ensures stop { IfErr result (IsGrowthStop system.now bounds.now pick.now round) }
+    ensures others { IfOk result (λ grown. KeepsOthers grown.raised bounds grown.bounds) }
+    ensures stop { IfErr result (IsGrowthStop system.now bounds pick.now round) }
 {
     let count = system.flow.points.as_slice().len() * system.template.as_slice().len();
-    let list = bounds.as_slice().to_vec(alloc)?;
+    let quiet = quiet_unknowns(alloc, system, &bounds, pick, known)?;
+    let calm = known.settled.as_slice().to_vec(alloc)?;
     let mut growing = Growing {
-        bounds: Bounds::new(list),
+        bounds,
         raised: vec![in alloc; false; count]?,
-        quiet: quiet_unknowns(alloc, system, bounds, pick, known)?,
+        quiet,
+        calm,
         steps: Vec::new(alloc),
     };
-    passes(alloc, system, paths, pick, round, &mut growing)?;
+    passes(alloc, system, paths, pick, known, round, &mut growing)?;
     let raised = raised_unknowns(alloc, &growing.raised)?;
     Ok(Grown {
         bounds: growing.bounds,

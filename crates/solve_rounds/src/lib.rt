@@ -18,6 +18,7 @@ mod solving;
 mod solving_by;
 mod turning;
 mod uppers;
+mod waking;
 
 pub use halt::Halt;
 pub use law::{

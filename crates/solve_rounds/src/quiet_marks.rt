@@ -1,9 +1,9 @@
 //! Unknowns that known transformers show to be quiet before anything is raised.
 
-ghost use Rattle.std.specs.Prelude.{◌≡◌, ◌*◌, ◌<◌, length, IfOk, IsTrue};
+ghost use Rattle.std.specs.Prelude.{◌≡◌, ◌*◌, ◌/◌, ◌<◌, ℕ, false, true, get_or, length, IfOk, IsTrue};
 ghost use Rattle.solve_offers.specs.AtBounds.{EdgesAreThere};
 ghost use Rattle.solve_offers.specs.Known.{AreKnown};
-ghost use Rattle.solve_rounds.specs.Growing.{IsWithin, AreWithin, IsKnownWithin};
+ghost use Rattle.solve_rounds.specs.Growing.{EdgesEnd, IsWithin, AreWithin, IsKnownWithin};
 
 use base_fractions::Ext;
 use flow_systems::{Bounds, Pick, System};
@@ -39,7 +39,35 @@ fn is_quiet(system: &System, bounds: &Bounds, pick: &Pick, known: &Known, unknow
     }
 }
 
-/// A mark for each unknown, in order of number: whether the transformer of its picked edge is known and doesn't exceed its bound.
+// Marks the unknowns of a point whose picked edge's transformer is known and doesn't exceed the bound, and those alone.
+fn mark_point(
+    system: &System,
+    bounds: &Bounds,
+    pick: &Pick,
+    known: &Known,
+    point: u32,
+    marks: &mut [bool],
+)
+    requires bounds { length bounds.now ≡ length system.now.flow.points * length system.now.template }
+    requires pick { length pick.now ≡ length system.now.flow.points * length system.now.template }
+    requires edges { EdgesAreThere system.now pick.now }
+    requires known { AreKnown system.now bounds.now known.now }
+    requires point { point < length system.now.flow.points }
+    requires marks { length marks.old ≡ length system.now.flow.points * length system.now.template }
+    ensures size { length marks.new ≡ length marks.old }
+    ensures others { (u : ℕ) → (u / length system.now.template ≡ point → ⊥) → get_or marks.new u false ≡ get_or marks.old u false }
+    ensures within { (u : ℕ) → u < length system.now.flow.points * length system.now.template → u / length system.now.template ≡ point
+        → get_or marks.new u false ≡ true → IsWithin system.now bounds.now pick.now u }
+{
+    let rows = system.template.as_slice().len() as u32;
+    for row in 0..rows {
+        let unknown = point * rows + row;
+        marks[unknown as usize] = is_quiet(system, bounds, pick, known, unknown);
+    }
+}
+
+/// A mark for each unknown, in order of number, only where the transformer of its picked edge doesn't exceed its bound: at settled
+/// points, and where it is known.
 pub(crate) fn quiet_unknowns(
     alloc: Global,
     system: &System,
@@ -50,14 +78,15 @@ pub(crate) fn quiet_unknowns(
     requires bounds { length bounds.now ≡ length system.now.flow.points * length system.now.template }
     requires pick { length pick.now ≡ length system.now.flow.points * length system.now.template }
     requires edges { EdgesAreThere system.now pick.now }
+    requires ends { EdgesEnd system.now pick.now }
     requires known { AreKnown system.now bounds.now known.now }
     ensures { IfOk result (λ marks. AreWithin system.now bounds.now pick.now marks.items) }
 {
-    let count = system.flow.points.as_slice().len() * system.template.as_slice().len();
-    let mut marks = vec![in alloc; false; count]?;
-    for unknown in 0..count as u32 {
-        if is_quiet(system, bounds, pick, known, unknown) {
-            marks[unknown as usize] = true;
+    let points = system.flow.points.as_slice().len();
+    let mut marks = vec![in alloc; true; points * system.template.as_slice().len()]?;
+    for point in 0..points as u32 {
+        if !known.is_settled(point) {
+            mark_point(system, bounds, pick, known, point, &mut marks);
         }
     }
     Ok(marks)

@@ -29,7 +29,7 @@ use base_fractions::Ext;
 use base_watch::Watch;
 use cert_types::{Step, Steps};
 use flow_systems::{Bounds, Pick, System};
-use solve_offers::{Chooser, Known, Offering, Policy, Stop, forget, improve_from};
+use solve_offers::{Chooser, Known, Offering, Policy, Stop, forget, improve};
 use solve_transformer::{Paths, compose_all};
 use std::alloc::Global;
 
@@ -56,41 +56,46 @@ fn begin(alloc: Global, system: &System) -> Result<Progress, Stop>
     })
 }
 
-// Makes a round by a pick.
+// Makes the round by the pick.
 fn advance<W: Watch>(
     alloc: Global,
     system: &System,
     paths: &Paths,
-    better: Pick,
     number: u32,
-    progress: &mut Progress,
+    progress: Progress,
     watch: &mut W,
-) -> Result<(), RoundStop>
+) -> Result<Progress, RoundStop>
     requires composed { AreComposed (equations_of system.now) paths.now }
-    requires bounds { length progress.old.bounds ≡ length system.now.flow.points * length system.now.template }
-    requires pick { length better ≡ length system.now.flow.points * length system.now.template }
-    requires supported { IsSupportedPick system.now progress.old.bounds better }
-    requires known { AreKnown system.now progress.old.bounds progress.old.known }
-    ensures advanced { IfOk result (λ done. IsAdvanced system.now better progress.old progress.new) }
-    ensures known { IfOk result (λ done. AreKnown system.now progress.new.bounds progress.new.known) }
-    ensures stop { IfErr result (IsRoundStop system.now progress.old.bounds better number) }
+    requires bounds { length progress.bounds ≡ length system.now.flow.points * length system.now.template }
+    requires pick { length progress.pick ≡ length system.now.flow.points * length system.now.template }
+    requires supported { IsSupportedPick system.now progress.bounds progress.pick }
+    requires known { AreKnown system.now progress.bounds progress.known }
+    ensures advanced { IfOk result (IsAdvanced system.now progress.pick progress) }
+    ensures known { IfOk result (λ advanced. AreKnown system.now advanced.bounds advanced.known) }
+    ensures stop { IfErr result (IsRoundStop system.now progress.bounds progress.pick number) }
 {
+    let pick = progress.pick;
+    let mut known = progress.known;
+    let mut steps = progress.steps;
     let grown = round_from(
         alloc,
         system,
         paths,
-        &progress.bounds,
-        &better,
+        progress.bounds,
+        &pick,
         number,
-        &progress.known,
+        &known,
         watch,
     )?;
-    let mut steps = grown.steps.into_list();
-    progress.steps.append(&mut steps)?;
-    forget(system, &progress.bounds, &grown.bounds, &mut progress.known);
-    progress.bounds = grown.bounds;
-    progress.pick = better;
-    Ok(())
+    let mut made = grown.steps.into_list();
+    steps.append(&mut made)?;
+    forget(system, grown.raised.as_slice(), &mut known);
+    Ok(Progress {
+        bounds: grown.bounds,
+        pick,
+        steps,
+        known,
+    })
 }
 
 // How many steps a solution may have: each has a number of 32 bits. More would take more memory than there is.
@@ -204,33 +209,24 @@ pub fn least<W: Watch>(
     let paths = compose_all(alloc, system)?;
     let mut progress = begin(alloc, system)?;
     for made in 0..limit + 1 {
-        match improve_from(
+        let improved = improve(
             alloc,
             system,
             &paths,
             &progress.bounds,
-            &progress.pick,
+            &mut progress.pick,
             made + 1,
             chooser,
             &mut progress.known,
-        )? {
-            None => return Ok(finish(alloc, system, &paths, progress, made)?),
-            Some(better) => {
-                if made == limit {
-                    return Err(Halt::Spent(progress.bounds));
-                }
-                watch.round(made + 1, raised(system, &progress.bounds));
-                advance(
-                    alloc,
-                    system,
-                    &paths,
-                    better,
-                    made + 1,
-                    &mut progress,
-                    watch,
-                )?;
-            }
+        )?;
+        if !improved {
+            return Ok(finish(alloc, system, &paths, progress, made)?);
         }
+        if made == limit {
+            return Err(Halt::Spent(progress.bounds));
+        }
+        watch.round(made + 1, raised(system, &progress.bounds));
+        progress = advance(alloc, system, &paths, made + 1, progress, watch)?;
     }
     unreachable!()
 }

@@ -1,6 +1,7 @@
 //! One turn of a round.
 
 ghost use Rattle.std.specs.Prelude.{◌≡◌, ◌*◌, ◌+◌, ◌<◌, ◌≤◌, ℕ, ◌∷◌, [], List, Option, length, map, get_or, IfOk, IfErr};
+ghost use Rattle.base_facts.specs.Elements.{In};
 ghost use Rattle.base_numbers.specs.Extended.{Ext as Extended};
 ghost use Rattle.base_fractions.specs.Extended.{extended};
 ghost use Rattle.flow_systems.specs.View.{equations_of, vector_of};
@@ -10,6 +11,7 @@ ghost use Rattle.solve_joint.specs.Numbers.{all_listed, ArePicked, Rises};
 ghost use Rattle.solve_joint.specs.Joints.{IsJointFault};
 ghost use Rattle.flow_systems.specs.declared.system.System.{System as SystemValue};
 ghost use Rattle.flow_systems.specs.declared.fault.Fault.TheVariants.{NoMemory};
+ghost use Rattle.solve_offers.specs.Known.{KeepsOthers};
 ghost use Rattle.solve_rounds.specs.Lows.{AreRaised, IsRaised};
 ghost use Rattle.solve_rounds.specs.Guessed.{IsFound};
 ghost use Rattle.solve_rounds.specs.Putting.{AreNumberedIn};
@@ -265,6 +267,8 @@ pub(crate) fn turn<W: Watch>(
     requires condition { MeetsCondition at.now.system.now at.now.pick.now at.now.raises.now at.now.places.now list.now turning.old.bounds }
     ensures turned { IfOk result (λ left. IsTurned at.now.system.now at.now.pick.now at.now.raises.now at.now.places.now list.now
         turning.old turning.new left.items) }
+    ensures others { IfOk result (λ left. KeepsOthers list.now turning.old.bounds turning.new.bounds) }
+    ensures among { IfOk result (λ left. (u : ℕ) → In left.items u → In list.now u) }
     ensures stop { IfErr result (IsJoinedStop at.now.system.now at.now.pick.now turning.old.bounds list.now (length
         turning.old.steps.items) at.now.round) }
 {

@@ -48,6 +48,7 @@ fn push_into(
     known: &mut Known,
     uppers: &mut Vec<Upper>,
 ) -> Result<(), Stop>
+    requires point { point < length at.now.system.now.flow.points }
     requires row { row < length at.now.system.now.template }
     requires limited { vector_at at.now.system.now at.now.bounds.now point row <ᴱ pos_inf }
     requires known { AreKnown at.now.system.now at.now.bounds.now known.old }
@@ -56,11 +57,10 @@ fn push_into(
     ensures stop { IfErr result (IsOfferStop at.now.system.now at.now.bounds.now at.now.round) }
     ensures known { AreKnown at.now.system.now at.now.bounds.now known.new }
 {
-    for (number, edge) in at.system.flow.edges.as_slice().iter().enumerate() {
-        if edge.to == point {
-            let upper = shown(alloc, at, number as u32, row, known)?;
-            uppers.push(upper)?;
-        }
+    for place in 0..known.count_into(point) {
+        let number = known.edge_into(point, place);
+        let upper = shown(alloc, at, number, row, known)?;
+        uppers.push(upper)?;
     }
     Ok(())
 }

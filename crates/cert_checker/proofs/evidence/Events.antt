@@ -29,7 +29,7 @@ use Rattle.cert_checker.specs.Stands.{Stands}
 use Rattle.cert_checker.proofs.following.Traces.{stop_sooner, stop_later, test_yes, test_no, alone_yes, sums_none, sums_some}
 use Rattle.cert_checker.proofs.combination.Forms.{forms_at, end_constant}
 use Rattle.cert_checker.proofs.evidence.Columns.{ending_same}
-use Rattle.cert_checker.proofs.uppers.Numbers.{bound_of}
+use Rattle.cert_checker.proofs.events.Numbers.{bound_of}
 use Rattle.cert_checker.proofs.evidence.Sums.{tested_wide, tested_yes, tested_no}
 
 -- ---- bounds and vectors

@@ -8,7 +8,7 @@ use Rattle.cert_checker.specs.declared.fault.CheckFault.TheVariants.{Final}
 use Rattle.cert_checker.specs.Events.{first_stop}
 use Rattle.cert_checker.specs.CheckEvents.{final_events}
 use Rattle.cert_checker.proofs.following.Traces.{test_yes, test_no}
-use Rattle.cert_checker.proofs.uppers.Numbers.{range_next, range_end, unknowns_from, unknowns_all, number_is}
+use Rattle.cert_checker.proofs.events.Numbers.{range_next, range_end, unknowns_from, unknowns_all, number_is}
 
 module _ (system : Equations) (z goal : Vector) where
   -- what is left from number u on

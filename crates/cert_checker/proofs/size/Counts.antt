@@ -12,7 +12,8 @@ use Rattle.base_fractions.specs.Extended.{extended}
 use Rattle.flow_edges.specs.declared.edge.Edge.{Edge}
 use Rattle.flow_systems.specs.Equations.{Equations, Vector}
 use Rattle.theory_validity.specs.Certificates.{into_needs, needs_at, needs}
-use Rattle.cert_checker.proofs.uppers.Numbers.{needs_of, needs_from, needs_all, needs_next, needs_end}
+use Rattle.cert_checker.specs.Needs.{needs_from, needs_of}
+use Rattle.cert_checker.proofs.events.Numbers.{needs_all, needs_next, needs_end}
 
 into_needs-filter : (p r k : ℕ) (edges : List Edge) → length (into_needs p r k edges) ≡ length (filter (λ edge. edge.to == p) edges)
 unfolding into_needs

@@ -63,7 +63,8 @@ guards_same n actions = as_many n (columns n) actions ∙ counted_so actions
 
 -- ---- the guards of what is needed
 
-abbrev guards_of : Need → ℕ
+-- of one need
+abbrev pub guards_of : Need → ℕ
 guards_of need = guard_count need.edge.actions
 
 into_guards : (p r k : ℕ) (edges : List Edge) → map guards_of (into_needs p r k edges) ≡ guards_into p edges
@@ -89,7 +90,8 @@ flat_guards : (f : ℕ → List Need) (g : ℕ → List ℕ) (xs : List ℕ) →
 flat_guards f g [] h = refl
 flat_guards f g (x ∷ xs) h = map-append guards_of (f x) (flat_map f xs) ∙ ap₂ (λ a b. a ++ b) (h x) (flat_guards f g xs h)
 
-needed_guards : (system : Equations) (bounds : List Ext) → map guards_of (needs system (bounds_vector system bounds))
+-- of all needs
+pub needed_guards : (system : Equations) (bounds : List Ext) → map guards_of (needs system (bounds_vector system bounds))
     ≡ guards_needed system bounds
 unfolding needs bounds_vector
 needed_guards system bounds =

@@ -1,6 +1,6 @@
 -- A certificate that is read can be written again.
 use Rattle.std.proofs.Common.{◌≡◌, ◌⊎◌, inl, inr, ⊎_elim, ◌*◌, ◌%◌, ◌<◌, ◌&&◌, ◌||◌, ◌==◌, ℕ, suc, Bool, true, false, List, [], ◌∷◌, length}
-use Rattle.std.proofs.Common.{map, Option, Some, None, ℤ, refl, sym, ap, ap₂, ◌∙◌, arith, codes, Result, Ok, Err, IfOk, MatchResult, subst}
+use Rattle.std.proofs.Common.{map, Option, Some, None, refl, sym, ap, ap₂, ◌∙◌, arith, codes, Result, Ok, Err, IfOk, MatchResult, subst}
 use Rattle.std.proofs.Common.{length-append}
 use Rattle.std.specs.Prelude.{nat_lt, is_some, if◌then◌else◌, option_map, option_and_then}
 use Rattle.std.specs.List.{list_all}

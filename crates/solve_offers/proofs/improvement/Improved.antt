@@ -1,7 +1,8 @@
 -- A pick that is improved unknown by unknown.
-use Rattle.std.proofs.Common.{◌≡◌, ◌∙◌, ◌⊎◌, inl, ⊎_elim, ℕ, suc, ◌+◌, ◌*◌, ◌/◌, ◌%◌, ◌<◌, ◌≤◌, Bool, true, false, true≢false, List, []}
-use Rattle.std.proofs.Common.{◌∷◌, length, get_or, refl, sym, subst, subst₂, arith}
-use Rattle.std.specs.Prelude.{Option, Some, None}
+use Rattle.std.proofs.Common.{◌≡◌, ◌∙◌, ◌⊎◌, inl, inr, ⊎_elim, ℕ, suc, ◌+◌, ◌*◌, ◌/◌, ◌%◌, ◌<◌, ◌≤◌, Bool, true, false, true≢false, List}
+use Rattle.std.proofs.Common.{[], ◌∷◌, length, get_or, refl, sym, subst, subst₂, arith}
+use Rattle.std.specs.Prelude.{◌↔◌, Option, Some, None}
+use Rattle.std.specs.Option.{option_map}
 use Rattle.std.proofs.lemmas.Option.{slice_get_within, get_or_from_slice_get, slice_get-get_or}
 use Rattle.std.proofs.lemmas.Bool.{cases_lt}
 use Rattle.std.proofs.lemmas.Nat.{div-mul-add, mod-mul-add}
@@ -21,7 +22,7 @@ use Rattle.theory_strategy.proofs.round.Solve.{Answers}
 use Rattle.theory_transformers.specs.EdgeProblems.{transformer}
 use Rattle.theory_transformers.proofs.edge_problems.TransformerOf.{transformer_reaches}
 use Rattle.solve_offers.specs.declared.offer.Offer.{Offer}
-use Rattle.solve_offers.specs.Improvement.{pick_of, Becomes, IsListed, UnknownBecomes, IsNext, NoneExceeds}
+use Rattle.solve_offers.specs.Improvement.{pick_of, AreImproved, Becomes, IsListed, UnknownBecomes, IsNext, NoneExceeds, next_pick}
 use Rattle.solve_offers.proofs.offers.Unknowns.{row_within}
 use Rattle.solve_offers.proofs.offers.NextPick.{next_is, no_next, ends_there, unlisted, offers_at}
 
@@ -33,54 +34,82 @@ module _ (system : Equations) (z : Vector) (policy : Offer → ℕ → Type 0) w
   abbrev offers_of : ℕ → List ℕ
   offers_of u = offers system (transformer system) z (u / length system.template) (u % length system.template)
 
-  -- the unknowns before u have their next edges, and whether one of them was offered any
-  pub record ImprovedTo (old new : List (Option ℕ)) (u : ℕ) (improved : Bool) : Type 0 where
-    -- there is one entry for each unknown
-    pub size : length new ≡ system.points * length system.template
-    -- each unknown so far becomes what the policy says, and an offer to it marks an improvement
-    pub each : (k : ℕ) → k < u → (offered : Bool) × UnknownBecomes system z policy k (get_or old k None) (get_or new k None) offered
-        × (offered ≡ true → improved ≡ true)
-    -- an improvement comes from an unknown with an offer
-    pub some : improved ≡ true → (k : ℕ) × (k < u) × IsListed (offers system (transformer system) z (k / length system.template)
-        (k % length system.template)) true
+  -- the range ends where another does
+  pub improved_until : (first n m : ℕ) (old new : List (Option ℕ)) (improved : Bool) → n ≡ m
+      → AreImproved system z policy first n old new improved → AreImproved system z policy first m old new improved
+  improved_until first n m old new improved e so_far = subst (λ k. AreImproved system z policy first k old new improved) e so_far
 
-  -- before the first unknown nothing is improved
-  pub improved_none : (old new : List (Option ℕ)) → length new ≡ system.points * length system.template → ImprovedTo old new 0 false
-  improved_none old new size = record {
-    size = size;
-    each = λ k l. absurd (omega arith);
-    some = λ e. absurd (true≢false (sym e));
+  -- one unknown changes
+  pub improved_one : (u : ℕ) (old new : List (Option ℕ)) (offered : Bool)
+      → ((k : ℕ) → (k ≡ u → ⊥) → get_or new k None ≡ get_or old k None)
+      → UnknownBecomes system z policy u (get_or old u None) (get_or new u None) offered → AreImproved system z policy u 1 old new offered
+  improved_one u old new offered others becomes = record {
+    each = λ k l b. let same : u ≡ k = omega arith in subst (λ k. (o : Bool)
+        × UnknownBecomes system z policy k (get_or old k None) (get_or new k None) o × (o ≡ true → offered ≡ true)) same
+        (offered, becomes, λ e. e);
+    others = λ k apart. others k (λ e. ⊎_elim (λ l. omega (arith, l, e)) (λ l. omega (arith, l, e)) apart);
+    some = λ e. (u, omega arith, omega arith, subst (IsListed (offers_of u)) e becomes.told);
+  }
+
+  -- two ranges, one behind the other
+  pub improved_both : (first n m : ℕ) (old mid new : List (Option ℕ)) (before after improved : Bool)
+      → AreImproved system z policy first n old mid before → AreImproved system z policy (first + n) m mid new after
+      → (before ≡ true → improved ≡ true) → (after ≡ true → improved ≡ true)
+      → (improved ≡ true → (before ≡ true) ⊎ (after ≡ true)) → AreImproved system z policy first (n + m) old new improved
+  improved_both first n m old mid new before after improved left right kept told one = record {
+    each = λ k l b. ⊎_elim
+        (λ h. let e = left.each k l h in (
+          e.0,
+          subst (λ o. UnknownBecomes system z policy k (get_or old k None) o e.0) (sym (right.others k (inl h))) e.1,
+          λ t. kept (e.2 t),
+        ))
+        (λ h. let e = right.each k h (omega (arith, b)) in (
+          e.0,
+          subst (λ o. UnknownBecomes system z policy k o (get_or new k None) e.0) (left.others k (inr h)) e.1,
+          λ t. told (e.2 t),
+        ))
+        (cases_lt k (first + n));
+    others = λ k apart. ⊎_elim
+        (λ l. right.others k (inl (omega (arith, l))) ∙ left.others k (inl l))
+        (λ l. right.others k (inr (omega (arith, l))) ∙ left.others k (inr (omega (arith, l))))
+        apart;
+    some = λ e. ⊎_elim
+        (λ h. let s = left.some h in (s.0, s.1, (let l = s.2 in omega (arith, l)), s.3))
+        (λ h. let s = right.some h in (s.0, (let l = s.1 in omega (arith, l)), (let l = s.2 in omega (arith, l)), s.3))
+        (one e);
   }
 
   -- one more unknown
-  pub improved_more : (old new next : List (Option ℕ)) (u : ℕ) (before after offered : Bool) → ImprovedTo old new u before
-      → length next ≡ length new →
-      ((k : ℕ) → (k ≡ u → ⊥) → get_or next k None ≡ get_or new k None)
-      → UnknownBecomes system z policy u (get_or old u None) (get_or next u None) offered →
-      (before ≡ true → after ≡ true) → (offered ≡ true → after ≡ true) → (after ≡ true → (before ≡ true) ⊎ (offered ≡ true))
-      → ImprovedTo old next (u + 1) after
-  improved_more old new next u before after offered so_far size others becomes kept told one = record {
-    size = size ∙ so_far.size;
-    each = λ k l. ⊎_elim
-        (λ h. let e = so_far.each k h in (
-          e.0,
-          subst (λ o. UnknownBecomes system z policy k (get_or old k None) o e.0)
-              (sym (others k (λ s. omega (arith, h, s)))) e.1,
-          λ t. kept (e.2 t),
-        ))
-        (λ h. let same : u ≡ k = omega arith in subst (λ k. (o : Bool)
-        × UnknownBecomes system z policy k (get_or old k None) (get_or next k None) o × (o ≡ true → after ≡ true)) same
-        (offered, becomes, told))
-        (cases_lt k u);
-    some = λ e. ⊎_elim (λ h. let s = so_far.some h in (s.0, (let l = s.1 in omega arith), s.2))
-        (λ h. (u, omega arith, subst (IsListed (offers_of u)) h becomes.told)) (one e);
-  }
+  pub improved_more : (first n u : ℕ) (old mid new : List (Option ℕ)) (before offered improved : Bool) → u ≡ first + n
+      → AreImproved system z policy first n old mid before
+      → ((k : ℕ) → (k ≡ u → ⊥) → get_or new k None ≡ get_or mid k None)
+      → UnknownBecomes system z policy u (get_or mid u None) (get_or new u None) offered
+      → (before ≡ true → improved ≡ true) → (offered ≡ true → improved ≡ true)
+      → (improved ≡ true → (before ≡ true) ⊎ (offered ≡ true)) → AreImproved system z policy first (n + 1) old new improved
+  improved_more first n u old mid new before offered improved e so_far others becomes =
+      improved_both first n 1 old mid new before offered improved so_far
+      (subst (λ k. AreImproved system z policy k 1 mid new offered) e (improved_one u mid new offered others becomes))
+
+  -- one more point
+  pub improved_point : (point : ℕ) (old mid new : List (Option ℕ)) (before offered improved : Bool)
+      → AreImproved system z policy 0 (point * length system.template) old mid before
+      → AreImproved system z policy (point * length system.template) (length system.template) mid new offered
+      → (before ≡ true → improved ≡ true) → (offered ≡ true → improved ≡ true)
+      → (improved ≡ true → (before ≡ true) ⊎ (offered ≡ true))
+      → AreImproved system z policy 0 ((point + 1) * length system.template) old new improved
+  improved_point point old mid new before offered improved so_far more kept told one =
+      let start : point * length system.template ≡ 0 + point * length system.template = omega arith in
+      let end : point * length system.template + length system.template ≡ (point + 1) * length system.template = omega arith in
+      subst (λ k. AreImproved system z policy 0 k old new improved) end
+      (improved_both 0 (point * length system.template) (length system.template) old mid new before offered improved so_far
+      (subst (λ k. AreImproved system z policy k (length system.template) mid new offered) start more) kept told one)
 
   module _ (range : PointsInRange system) (old new : List (Option ℕ)) (improved : Bool)
       (old_size : length old ≡ system.points * length system.template)
-      (u : ℕ) (last : u ≡ system.points * length system.template) (so_far : ImprovedTo old new u improved) where
-    done : ImprovedTo old new (system.points * length system.template) improved
-    done = subst (λ k. ImprovedTo old new k improved) last so_far
+      (new_size : length new ≡ system.points * length system.template)
+      (u : ℕ) (last : u ≡ system.points * length system.template) (so_far : AreImproved system z policy 0 u old new improved) where
+    done : AreImproved system z policy 0 (system.points * length system.template) old new improved
+    done = improved_until 0 u (system.points * length system.template) old new improved last so_far
 
     number_within : (p r : ℕ) → p < system.points → r < length system.template
         → p * length system.template + r < system.points * length system.template
@@ -94,7 +123,7 @@ module _ (system : Equations) (z : Vector) (policy : Offer → ℕ → Type 0) w
         × IsListed (offers system (transformer system) z p r) offered × (offered ≡ true → improved ≡ true)
     each_at p r h l =
         let k = p * length system.template + r in
-        let e = done.each k (number_within p r h l) in
+        let e = done.each k (omega arith) (let m = number_within p r h l in omega (arith, m)) in
         let point = div-mul-add p (length system.template) r l in
         let row = mod-mul-add p (length system.template) r l in (
           e.0,
@@ -120,7 +149,7 @@ module _ (system : Equations) (z : Vector) (policy : Offer → ℕ → Type 0) w
 
     -- where no unknown is improved, there is no next pick
     pub next_none : improved ≡ false → IsNext system (transformer system) z policy (pick_of (length system.template) old) None
-    next_none e = no_next system (transformer system) z policy range old new old_size done.size becomes_at (none_offered e)
+    next_none e = no_next system (transformer system) z policy range old new old_size new_size becomes_at (none_offered e)
 
     -- where an unknown is improved, the new pick is the next one
     pub next_some : improved ≡ true → IsNext system (transformer system) z policy (pick_of (length system.template) old)
@@ -129,12 +158,12 @@ module _ (system : Equations) (z : Vector) (policy : Offer → ℕ → Type 0) w
       where
         s : (k : ℕ) × (k < system.points * length system.template) × IsListed
             (offers system (transformer system) z (k / length system.template) (k % length system.template)) true
-        s = done.some e
+        s = let o = done.some e in (o.0, (let l = o.2 in omega (arith, l)), o.3)
 
         by : (os : List ℕ) → offers_of s.0 ≡ os → IsListed os true → IsNext system (transformer system) z policy
             (pick_of (length system.template) old) (Some (pick_of (length system.template) new))
         by [] f t = absurd (true≢false t)
-        by (k ∷ ks) f t = next_is system (transformer system) z policy range old new old_size done.size becomes_at
+        by (k ∷ ks) f t = next_is system (transformer system) z policy range old new old_size new_size becomes_at
             (s.0 / length system.template) (s.0 % length system.template) k ks f
 
     -- and so nothing exceeds
@@ -153,7 +182,7 @@ module _ (system : Equations) (z : Vector) (policy : Offer → ℕ → Type 0) w
       where
         s : (k : ℕ) × (k < system.points * length system.template) × IsListed
             (offers system (transformer system) z (k / length system.template) (k % length system.template)) true
-        s = done.some e
+        s = let o = done.some e in (o.0, (let l = o.2 in omega (arith, l)), o.3)
 
         p : ℕ
         p = s.0 / length system.template
@@ -178,6 +207,29 @@ module _ (system : Equations) (z : Vector) (policy : Offer → ℕ → Type 0) w
             (none found.0 (s.0 % length system.template) (get_or system.template (s.0 % length system.template) [])
             (contains_from_in system.edges found.0 found.1) (slice_get-get_or system.template (s.0 % length system.template) []
             within)))
+
+  -- the next pick, or none
+  pub next_either : (improved : Bool) → PointsInRange system → (old new : List (Option ℕ))
+      → length old ≡ system.points * length system.template → length new ≡ system.points * length system.template → (u : ℕ)
+      → u ≡ system.points * length system.template → AreImproved system z policy 0 u old new improved
+      → IsNext system (transformer system) z policy (pick_of (length system.template) old)
+      (option_map (pick_of (length system.template)) (next_pick improved new))
+  next_either true range old new old_size new_size u last so_far = next_some range old new true old_size new_size u last so_far refl
+  next_either false range old new old_size new_size u last so_far = next_none range old new false old_size new_size u last so_far refl
+
+  -- nothing is improved exactly where nothing exceeds
+  pub none_exactly : (improved : Bool) → PointsInRange system → (old new : List (Option ℕ))
+      → length old ≡ system.points * length system.template → length new ≡ system.points * length system.template → (u : ℕ)
+      → u ≡ system.points * length system.template → AreImproved system z policy 0 u old new improved
+      → improved ≡ false ↔ NoneExceeds system (transformer system) z
+  none_exactly true range old new old_size new_size u last so_far = (
+    λ e. absurd (true≢false e),
+    λ none. absurd (something_exceeds range old new true old_size new_size u last so_far refl none),
+  )
+  none_exactly false range old new old_size new_size u last so_far = (
+    λ e. nothing_exceeds range old new false old_size new_size u last so_far refl,
+    λ none. refl,
+  )
 
   -- the next pick of a tight pick is supported
   pub next_supported : PointsInRange system → (old better : ℕ → ℕ → Option ℕ)

@@ -5,11 +5,12 @@ use Rattle.solve_rounds.specs.declared.halt.RoundStop.{RoundStop}
 use Rattle.flow_systems.specs.declared.system.System.{System}
 use Rattle.cert_types.specs.declared.step.Step.{Step as CodeStep}
 use Rattle.solve_joint.specs.PartLists.{EachRises, part_numbers}
+use Rattle.solve_offers.specs.Known.{KeepsOthers}
 use Rattle.solve_rounds.specs.declared.turning.Turning.{Turning}
 use Rattle.solve_rounds.specs.Round.{IsTurnStop}
 use Rattle.solve_rounds.specs.Turning.{IsPickAt, IsWaiting, IsPart, IsDone, ComesAfter, ComesAmong}
 use Rattle.solve_rounds.proofs.growing.Kept.{system_size}
-use Rattle.solve_rounds.proofs.evaluation.EachPart.{each_part, part_few}
+use Rattle.solve_rounds.proofs.evaluation.EachPart.{each_part, part_few, part_within}
 use Rattle.solve_rounds.proofs.evaluation.Partings.{ArePartings, partings_more, next_waits, next_comes}
 use Rattle.solve_rounds.proofs.evaluation.TurnStops.{turn_stop_more}
 use Rattle.flow_systems.specs.declared.limits.TheConstants.{MOST_UNKNOWNS}
@@ -47,12 +48,15 @@ module _ (system : System) (pick : List (Option ℕ)) (raises : List CodeStep) (
 
     -- after its turns
     pub numbered_more : (old now after : Turning) → IsPickAt system pick → ArePartings system pick raises places list old number now
-        → IsDone system pick raises places p now after → ArePartings system pick raises places list old (number + 1) after
-    numbered_more old now after chosen h done =
+        → IsDone system pick raises places p now after → KeepsOthers p now.bounds after.bounds
+        → ArePartings system pick raises places list old (number + 1) after
+    numbered_more old now after chosen h done others =
         partings_more system pick raises places list old number now after chosen n.within
         (each_part system pick raises places list whole (subst EachRises same rise))
-        (part_few system pick raises places list whole (system_size system) (subst EachRises same rise) number n.within) h
+        (part_few system pick raises places list whole (system_size system) (subst EachRises same rise) number n.within)
+        (part_within system pick raises places list whole number n.within) h
         (subst (λ q. IsDone system pick raises places q now after) n.is done)
+        (subst (λ q. KeepsOthers q now.bounds after.bounds) n.is others)
 
   -- its unknowns wait for their turn
   pub numbered_waits : (old now : Turning) → IsPickAt system pick → ArePartings system pick raises places list old number now

@@ -23,6 +23,7 @@ use Rattle.theory_rounds.proofs.turns.FactsAgree.{agree_back, facts_agree, waiti
 use Rattle.solve_rounds.specs.declared.turning.Turning.{Turning}
 use Rattle.solve_offers.specs.AtBounds.{vector_at, transformers}
 use Rattle.solve_offers.specs.Improvement.{pick_of}
+use Rattle.solve_offers.specs.Known.{KeepsOthers}
 use Rattle.solve_rounds.specs.Growing.{Agrees}
 use Rattle.solve_rounds.specs.Lows.{raise_at, item_in, items_at}
 use Rattle.solve_rounds.specs.Round.{IsTurnStop}
@@ -98,6 +99,10 @@ module _ (system : System) (pick : List (Option ℕ)) (raises : List CodeStep) (
     pub agrees : Agrees system (after_steps made V) now.bounds
     -- each step takes an unknown from those left
     pub few : length now.steps.items + length left ≤ length old.steps.items + length list
+    -- the unknowns left are on the list
+    pub among : (u : ℕ) → In left u → In list u
+    -- what isn't on the list keeps its bound
+    pub others : KeepsOthers list old.bounds now.bounds
 
   -- at first
   pub parting_starts : IsPart system pick raises places list → IsParting list old
@@ -110,6 +115,8 @@ module _ (system : System) (pick : List (Option ℕ)) (raises : List CodeStep) (
     steps = sym (append-nil (turns_so_far system old));
     agrees = λ p r l. refl;
     few = omega arith;
+    among = λ u m. m;
+    others = λ u out. refl;
   }
 
   -- at the end
@@ -136,8 +143,9 @@ module _ (system : System) (pick : List (Option ℕ)) (raises : List CodeStep) (
 
   -- one turn more takes the part one turn further
   pub left_more : (left more : List ℕ) (now new : Turning) → 0 < length left → IsParting left now
-      → IsTurned system pick raises places left now new more → IsParting more new
-  left_more left more now new some h t =
+      → IsTurned system pick raises places left now new more → ((u : ℕ) → In more u → In left u)
+      → KeepsOthers left now.bounds new.bounds → IsParting more new
+  left_more left more now new some h t among others =
       let step = step_by t.outcome in
       let before = after_steps h.made V in
       let here = facts_agree eqs (vector_at system now.bounds) before (agree_back eqs before (vector_at system now.bounds) h.agrees)
@@ -155,6 +163,8 @@ module _ (system : System) (pick : List (Option ℕ)) (raises : List CodeStep) (
         agrees = λ p r m. ap (λ z. z p r) (led_one h.made step V)
             ∙ after_agrees eqs step before (vector_at system now.bounds) h.agrees p r m ∙ t.agrees p r m;
         few = omega arith;
+        among = λ u m. h.among u (among u m);
+        others = λ u out. others u (λ m. out (h.among u m)) ∙ h.others u out;
       }
 
   -- the unknowns left wait for their turn

@@ -4,6 +4,7 @@ use Rattle.std.proofs.Common.{length, length-append, get_or, map, drop, refl, sy
 use Rattle.std.specs.Prelude.{Option}
 use Rattle.std.proofs.lemmas.List.{length-map, drop_more, drop_all}
 use Rattle.base_facts.proofs.elements.Membership.{of_append}
+use Rattle.base_facts.specs.Elements.{In}
 use Rattle.flow_systems.specs.Equations.{Equations, Vector}
 use Rattle.flow_systems.specs.View.{equations_of}
 use Rattle.flow_systems.specs.declared.system.System.{System}
@@ -26,6 +27,7 @@ use Rattle.solve_joint.specs.PartLists.{part_numbers}
 use Rattle.solve_rounds.specs.declared.turning.Turning.{Turning}
 use Rattle.solve_offers.specs.AtBounds.{vector_at, transformers}
 use Rattle.solve_offers.specs.Improvement.{pick_of}
+use Rattle.solve_offers.specs.Known.{KeepsOthers}
 use Rattle.solve_rounds.specs.Growing.{Agrees}
 use Rattle.solve_rounds.specs.Lows.{items_at}
 use Rattle.solve_rounds.specs.Turning.{turns_so_far, parts_at, IsPickAt, IsPart, IsDone, AreAllDone, IsWaiting, PartsWait}
@@ -78,6 +80,8 @@ module _ (system : System) (pick : List (Option ℕ)) (raises : List CodeStep) (
     pub agrees : Agrees system (after_steps made V) now.bounds
     -- each part so far makes at most as many steps as there may be unknowns
     pub few : length now.steps.items ≤ MOST_UNKNOWNS * number
+    -- what isn't on the list keeps its bound
+    pub others : KeepsOthers list old.bounds now.bounds
 
   -- at first
   pub partings_start : length old.steps.items ≡ 0 → PartsWait system pick raises places list old.bounds → ArePartings 0 old
@@ -92,6 +96,7 @@ module _ (system : System) (pick : List (Option ℕ)) (raises : List CodeStep) (
     comes = λ more v left h. subst (λ n. ComesUp eqs V (rest 0) n v left) (let e : more ≡ 0 + more = omega arith in e) h;
     agrees = λ q r l. refl;
     few = omega arith;
+    others = λ u out. refl;
   }
 
   -- at the end
@@ -161,9 +166,10 @@ module _ (system : System) (pick : List (Option ℕ)) (raises : List CodeStep) (
   -- after one part more
   pub partings_more : (number : ℕ) (now new : Turning) → IsPickAt system pick → number < length numbers
       → ((k : ℕ) → k < length numbers → IsPart system pick raises places (get_or numbers k []))
-      → length (get_or numbers number []) ≤ MOST_UNKNOWNS → ArePartings number now →
-      IsDone system pick raises places (get_or numbers number []) now new → ArePartings (number + 1) new
-  partings_more number now new chosen l each small h done =
+      → length (get_or numbers number []) ≤ MOST_UNKNOWNS → ((u : ℕ) → In (get_or numbers number []) u → In list u)
+      → ArePartings number now → IsDone system pick raises places (get_or numbers number []) now new
+      → KeepsOthers (get_or numbers number []) now.bounds new.bounds → ArePartings (number + 1) new
+  partings_more number now new chosen l each small within h done others =
       let part = get_or numbers number [] in
       let s = done.made in
       let before = vector_at system now.bounds in
@@ -201,4 +207,5 @@ module _ (system : System) (pick : List (Option ℕ)) (raises : List CodeStep) (
         agrees = λ q r m. ap (λ z. z q r) (led-append h.made s V) ∙ led_agrees eqs s (after_steps h.made V) before h.agrees q r m
             ∙ done.agrees q r m;
         few = (let a = h.few in let b = done.few in omega arith);
+        others = λ u out. others u (λ m. out (within u m)) ∙ h.others u out;
       }

@@ -12,7 +12,7 @@ use Rattle.base_numbers.specs.Extended.{Ext as Extended, neg_inf, ◌<ᴱ◌, �
 use Rattle.flow_systems.specs.Equations.{Equations, Vector}
 use Rattle.flow_systems.specs.View.{equations_of}
 use Rattle.flow_systems.specs.declared.system.System.{System}
-use Rattle.theory_validity.specs.Steps.{Item, Step, edge_of, row_of, Distinct}
+use Rattle.theory_validity.specs.Steps.{Item, Step, Placed, edge_of, row_of, Distinct}
 use Rattle.theory_validity.specs.Certificates.{after_steps}
 use Rattle.cert_types.specs.declared.step.Step.{Step as CodeStep}
 use Rattle.cert_types.specs.Certificates.{step_of}
@@ -45,11 +45,12 @@ use Rattle.solve_raise.specs.Numbers.{fitting}
 use Rattle.solve_rounds.specs.declared.turning.Turning.{Turning}
 use Rattle.solve_offers.specs.AtBounds.{transformers, vector_at, EdgesAreThere, IsTightPick, IsSupportedPick}
 use Rattle.solve_offers.specs.Improvement.{pick_of}
-use Rattle.solve_rounds.specs.Growing.{Agrees}
+use Rattle.solve_offers.specs.Known.{AreNumbersOf, KeepsOthers}
+use Rattle.solve_rounds.specs.Growing.{Agrees, EdgesEnd}
 use Rattle.solve_rounds.specs.Growth.{growth_at, named_at, AreLed}
 use Rattle.solve_rounds.specs.GrowthTests.{is_named}
 use Rattle.solve_rounds.specs.Lows.{item_in, ArePlaces, raise_at, items_at}
-use Rattle.solve_rounds.specs.Turning.{finite_in, IsPickAt, IsPart, PartsWait, AreAllDone, ComesAmong}
+use Rattle.solve_rounds.specs.Turning.{is_finite, finite_in, IsPickAt, IsPart, PartsWait, AreAllDone, ComesAmong}
 use Rattle.solve_rounds.specs.Round.{IsRoundAt, IsTurnOf, rounded_at, AreAbove, AreValidFrom}
 use Rattle.solve_rounds.proofs.lows.ListedLows.{listed_here, listed_same}
 use Rattle.solve_offers.proofs.offers.Unknowns.{row_within}
@@ -278,37 +279,61 @@ past [] u l = refl
 past (x ∷ xs) zero l = absurd (omega arith)
 past (x ∷ xs) (suc u) l = past xs u (omega arith)
 
--- each picked edge is one of the system
-pub picked_edges : (system : System) (pick : List (Option ℕ)) → length pick ≡ length system.flow.points * length system.template
-    → IsPickAt system pick → EdgesAreThere system pick
-picked_edges system pick size chosen u edge e = by (cases_lt u (length pick))
+-- a picked edge with the point and row of its unknown
+abbrev picked_item : ℕ → ℕ → ℕ → Item
+picked_item rows u edge = record {
+  point = u / rows;
+  row = u % rows;
+  edge = edge;
+  low = record { start = []; free = [] };
+  second =
+      record { start = []; free = [] };
+  number = zero_ℚ;
+}
+
+-- is one of the system and ends at the point
+picked_placed : (system : System) (pick : List (Option ℕ)) → length pick ≡ length system.flow.points * length system.template
+    → IsPickAt system pick → (u edge : ℕ) → get_or pick u None ≡ Some edge
+    → Placed (equations_of system) (picked_item (length system.template) u edge)
+picked_placed system pick size chosen u edge e = by (cases_lt u (length pick))
   where
-    by : (u < length pick) ⊎ (length pick ≤ u) → edge < length system.flow.edges
+    by : (u < length pick) ⊎ (length pick ≤ u) → Placed (equations_of system) (picked_item (length system.template) u edge)
     by (inl l) =
         let rows = length system.template in
         let b = lt-ltb (u % rows) rows (row_within u (length system.flow.points) rows (omega arith)) in
-        let item : Item = record {
-          point = u / rows;
-          row = u % rows;
-          edge = edge;
-          low = record { start = []; free = [] };
-          second =
-              record { start = []; free = [] };
-          number = zero_ℚ;
-        } in
-        (chosen item (ap (λ t. if t then get_or pick (u / rows * rows + u % rows) None else None) b
-        ∙ ap (λ n. get_or pick n None) (div-add-mod' u rows) ∙ e)).edge_within
+        chosen (picked_item rows u edge) (ap (λ t. if t then get_or pick (u / rows * rows + u % rows) None else None) b
+        ∙ ap (λ n. get_or pick n None) (div-add-mod' u rows) ∙ e)
     by (inr l) = absurd (none edge (sym (past pick u l) ∙ e))
       where
         none : (k : ℕ) → None ≡ Some k → ⊥
         none k i = cc
 
+-- each picked edge is one of the system
+pub picked_edges : (system : System) (pick : List (Option ℕ)) → length pick ≡ length system.flow.points * length system.template
+    → IsPickAt system pick → EdgesAreThere system pick
+picked_edges system pick size chosen u edge e = (picked_placed system pick size chosen u edge e).edge_within
+
+-- and ends at the point of its unknown
+pub picked_ends : (system : System) (pick : List (Option ℕ)) → length pick ≡ length system.flow.points * length system.template
+    → IsPickAt system pick → EdgesEnd system pick
+unfolding edge_of
+picked_ends system pick size chosen u edge e = (picked_placed system pick size chosen u edge e).into
+
 -- the named unknowns are some of the system's
-pub named_within : (system : System) (steps : List Step) (k : ℕ) → k < length (named_at system steps)
-    → get_or (named_at system steps) k 0 < length system.flow.points * length system.template
-named_within system steps k l =
+pub named_numbers_of : (system : System) (steps : List Step) → AreNumbersOf system (named_at system steps)
+named_numbers_of system steps u m =
     let rows = length system.template in
     let count = length system.flow.points * length system.template in
-    let h = of_range 0 count (get_or (named_at system steps) k 0) (of_filter (is_named rows (items_of steps)) (range_with_len 0 count)
-    (get_or (named_at system steps) k 0) (in_place (named_at system steps) 0 k l)) in
+    let h = of_range 0 count u (of_filter (is_named rows (items_of steps)) (range_with_len 0 count) u m) in
     omega arith
+
+-- at each place
+pub named_within : (system : System) (steps : List Step) (k : ℕ) → k < length (named_at system steps)
+    → get_or (named_at system steps) k 0 < length system.flow.points * length system.template
+named_within system steps k l = named_numbers_of system steps (get_or (named_at system steps) k 0) (in_place (named_at system steps) 0 k l)
+
+-- what a growth didn't raise keeps its bound through the turns of what it raised to fractions
+pub round_others : (raised list : List ℕ) (before grown after : List Extended) → list ≡ finite_in grown raised
+    → KeepsOthers raised before grown → KeepsOthers list grown after → KeepsOthers raised before after
+round_others raised list before grown after is growth turns u out =
+    turns u (λ m. out (of_filter (λ v. is_finite (get_or grown v neg_inf)) raised u (subst (λ l. In l u) is m))) ∙ growth u out

@@ -49,12 +49,6 @@ pub left-append : (rows : ℕ) (pick : List (Option ℕ)) (raised : List Bool) (
 left-append rows pick raised a n m = ap (flat_map (left_at rows pick raised)) (range-append a n m)
     ∙ flat_map-append (left_at rows pick raised) (range_with_len a n) (range_with_len (a + n) m)
 
--- the unknowns left of a range are those of its front and of its rest
-pub left_front : (rows : ℕ) (pick : List (Option ℕ)) (raised : List Bool) (n m : ℕ)
-    → left_from rows pick raised 0 (n + m) ≡ left_from rows pick raised 0 n ++ left_from rows pick raised n m
-left_front rows pick raised n m = left-append rows pick raised 0 n m ∙ ap
-    (λ k. left_from rows pick raised 0 n ++ left_from rows pick raised k m) (let e : 0 + n ≡ n = omega arith in e)
-
 -- the same marks leave the same
 pub left_same : (rows : ℕ) (pick : List (Option ℕ)) (old new : List Bool) (a n : ℕ)
     → ((u : ℕ) → a ≤ u → u < a + n → get_or new u false ≡ get_or old u false) → left_from rows pick new a n ≡ left_from rows pick old a n

@@ -1,10 +1,12 @@
 -- The numbers that are marked.
-use Rattle.std.proofs.Common.{◌≡◌, ◌∙◌, ℕ, zero, suc, ◌+◌, ◌*◌, ◌<◌, Bool, true, false, List, [], ◌∷◌, ◌++◌, get_or, length, map, refl, sym}
-use Rattle.std.proofs.Common.{ap, ap₂, arith, if◌then◌else◌}
+use Rattle.std.proofs.Common.{◌≡◌, ◌∙◌, inl, inr, ⊎_elim, ℕ, zero, suc, ◌+◌, ◌*◌, ◌<◌, Bool, true, false, true≢false, List, [], ◌∷◌}
+use Rattle.std.proofs.Common.{◌++◌, get_or, length, map, refl, sym, ap, ap₂, arith, if◌then◌else◌}
 use Rattle.std.specs.Prelude.{replicate}
 use Rattle.std.specs.List.{range_with_len, filter}
 use Rattle.std.proofs.lemmas.List.{append-nil, get_or-replicate, length-replicate}
 use Rattle.std.proofs.lemmas.List.Elements.{filter-append}
+use Rattle.base_facts.specs.Elements.{In}
+use Rattle.base_facts.proofs.elements.Membership.{in_range}
 use Rattle.flow_systems.specs.declared.system.System.{System}
 use Rattle.cert_types.specs.declared.step.Step.{Step as CodeStep}
 use Rattle.cert_types.specs.Certificates.{step_of}
@@ -32,6 +34,32 @@ marked_yes raised k e = marked_more raised k ∙ ap (λ b. marked_numbers raised
 pub marked_no : (raised : List Bool) (k : ℕ) → get_or raised k false ≡ false → marked_numbers raised (k + 1) ≡ marked_numbers raised k
 marked_no raised k e = marked_more raised k ∙ ap (λ b. marked_numbers raised k ++ (if b then k ∷ [] else [])) e
     ∙ append-nil (marked_numbers raised k)
+
+-- a number that is kept is one of a filtered list
+in_filter : (p : ℕ → Bool) (xs : List ℕ) (x : ℕ) → In xs x → p x ≡ true → In (filter p xs) x
+in_filter p [] x m e = m
+in_filter p (y ∷ xs) x m e = by (p y) refl (λ h. in_filter p xs x h e)
+  where
+    by : (b : Bool) → p y ≡ b → (In xs x → In (filter p xs) x) → In (if b then y ∷ filter p xs else filter p xs) x
+    by true f rest = ⊎_elim (λ h. inl h) (λ h. inr (rest h)) m
+    by false f rest = ⊎_elim (λ h. absurd (true≢false (sym e ∙ ap p (sym h) ∙ f))) rest m
+
+-- a mark that is there is one of the list
+marked_within : (marks : List Bool) (k : ℕ) → get_or marks k false ≡ true → k < length marks
+marked_within [] k e = absurd (true≢false (sym e))
+marked_within (m ∷ marks) zero e = omega arith
+marked_within (m ∷ marks) (suc k) e = (let l = marked_within marks k e in omega arith)
+
+-- a number that isn't listed isn't marked
+pub unlisted_unmarked : (raised : List Bool) (u : ℕ) → (In (marked_numbers raised (length raised)) u → ⊥) → get_or raised u false ≡ false
+unlisted_unmarked raised u none = by (get_or raised u false) refl
+  where
+    by : (b : Bool) → get_or raised u false ≡ b → get_or raised u false ≡ false
+    by false e = e
+    by true e =
+        let l = marked_within raised u e in
+        absurd (none (in_filter (λ k. get_or raised k false) (range_with_len 0 (length raised)) u
+        (in_range 0 (length raised) u (omega arith) (omega (arith, l))) e))
 
 filter_same : (p q : ℕ → Bool) (a n : ℕ) → ((u : ℕ) → u < a + n → p u ≡ q u) → filter p (range_with_len a n) ≡ filter q (range_with_len a n)
 filter_same p q a zero h = refl

@@ -1,6 +1,7 @@
 -- What the rounds have come to, and what they end with.
-use Rattle.std.proofs.Common.{◌≡◌, ◌∙◌, inl, inr, ℕ, suc, ◌+◌, ◌*◌, ◌<◌, ◌≤◌, List, length, map, sym, ap, subst, subst₂, arith}
+use Rattle.std.proofs.Common.{◌≡◌, ◌∙◌, inl, inr, Bool, true, ℕ, suc, ◌+◌, ◌*◌, ◌<◌, ◌≤◌, List, length, map, sym, ap, subst, subst₂, arith}
 use Rattle.std.specs.Prelude.{Option, Some, None}
+use Rattle.base_numbers.specs.Extended.{Ext}
 use Rattle.flow_systems.specs.Equations.{Least}
 use Rattle.flow_systems.specs.View.{equations_of, vector_of, bounds_of}
 use Rattle.flow_systems.specs.declared.system.System.{System}
@@ -28,7 +29,7 @@ use Rattle.solve_rounds.specs.declared.solution.Solved.{Solved}
 use Rattle.solve_rounds.specs.declared.solving.Progress.{Progress}
 use Rattle.solve_offers.specs.AtBounds.{transformers, vector_at, IsTightPick, IsNextPick, NothingExceeds}
 use Rattle.solve_offers.specs.Stops.{IsOfferStop}
-use Rattle.solve_offers.specs.Improvement.{pick_of, IsNext}
+use Rattle.solve_offers.specs.Improvement.{pick_of, next_pick, IsNext}
 use Rattle.solve_rounds.specs.Round.{IsRoundStop, AreBoundsOf, IsRoundAt, IsLargeTurn, IsTurnOf, rounded_at}
 use Rattle.solve_rounds.specs.Chains.{state_at, bounds_after, AreStepsAfter, IsChain, IsEnded}
 use Rattle.solve_rounds.specs.HaltOf.{halt_of, halt_of_round}
@@ -63,6 +64,24 @@ pub fault_halt : (system : System) (policy : Offer → ℕ → Type 0) (limit : 
 fault_halt system policy limit (WideStop spot) h = inl h
 fault_halt system policy limit NoStop h = tt
 
+-- where a pick was improved it is the next one
+pub improved_next : (system : System) (bounds : List Ext) (policy : Offer → ℕ → Type 0) (old new : List (Option ℕ)) (improved : Bool)
+    → improved ≡ true → IsNextPick system bounds policy old (next_pick improved new) → IsNextPick system bounds policy old (Some new)
+improved_next system bounds policy old new improved e h = subst (λ b. IsNextPick system bounds policy old (next_pick b new)) e h
+
+-- ---- what a round makes of the bounds and steps depends neither on the pick before nor on the transformers that are known
+module _ (system : System) (old : Progress) (pick : List (Option ℕ)) (known : Known) where
+  -- a round
+  pub advanced_same : (better : List (Option ℕ)) (new : Progress) → IsAdvanced system better (record old { pick = pick; known = known }) new
+      → IsAdvanced system better old new
+  advanced_same better new h =
+      record { pick = h.pick; size = h.size; bounds = h.bounds; made = h.made; round = h.round; steps = h.steps }
+
+  -- and a solution
+  pub finished_same : (made : ℕ) (solved : Solved) → IsFinished system (record old { pick = pick; known = known }) made solved
+      → IsFinished system old made solved
+  finished_same made solved h = record { bounds = h.bounds; improvements = h.improvements; steps = h.steps; uppers = h.uppers }
+
 module _ (system : System) (policy : Offer → ℕ → Type 0) (made : ℕ) (progress : Progress) (a : IsAfter system policy made progress) where
   -- there are as many bounds as unknowns
   pub after_count : length progress.bounds ≡ length system.flow.points * length system.template
@@ -73,10 +92,6 @@ module _ (system : System) (policy : Offer → ℕ → Type 0) (made : ℕ) (pro
   after_tight =
       subst₂ (λ b p. Tight (equations_of system) (transformers system) (vector_at system b) p) (sym a.bounds) (sym a.pick)
       (tight_after system policy made a.choose a.chain)
-
-  -- with other known transformers
-  pub after_learned : (known : Known) → IsAfter system policy made (record progress { known = known })
-  after_learned known = record { choose = a.choose; chain = a.chain; bounds = a.bounds; size = a.size; pick = a.pick; steps = a.steps }
 
   -- an offer that is refused
   pub offer_halt : (limit number : ℕ) (stop : Fault Spot) → made ≤ limit → number ≡ made + 1

@@ -1,22 +1,26 @@
 -- The evidence of upper bounds, edge by edge, row by row and point by point.
-use Rattle.std.proofs.Common.{◌≡◌, ◌∙◌, ⊎_elim, ℕ, suc, ◌+◌, ◌-◌, ◌<◌, eqb, Bool, true, false, true≢false, List, [], ◌∷◌, ◌++◌, length, map}
-use Rattle.std.proofs.Common.{take, get_or, refl, sym, ap, arith, if◌then◌else◌}
+use Rattle.std.proofs.Common.{◌≡◌, ◌∙◌, ℕ, suc, ◌+◌, ◌-◌, ◌<◌, ◌≤◌, eqb, Bool, true, false, true≢false, List, [], ◌∷◌, ◌++◌, length, map}
+use Rattle.std.proofs.Common.{take, get_or, refl, sym, ap, ap₂, arith, if◌then◌else◌}
 use Rattle.std.specs.Prelude.{flat_map}
 use Rattle.std.specs.List.{range_with_len}
 use Rattle.std.proofs.Math.Path.{fun_ext}
 use Rattle.std.proofs.lemmas.Grind.{flat_map-append}
-use Rattle.std.proofs.lemmas.List.{map-append, append-nil, append_assoc, take_more}
-use Rattle.std.proofs.lemmas.Bool.Decides.{eqb_tells}
+use Rattle.std.proofs.lemmas.List.{map-append, append-nil, append_assoc, take_more, take_all}
 use Rattle.base_numbers.specs.Extended.{Ext as Extended, neg_inf, fin, pos_inf}
 use Rattle.flow_edges.specs.declared.edge.Edge.{Edge}
 use Rattle.flow_systems.specs.Equations.{Equations, Vector}
+use Rattle.flow_systems.specs.View.{equations_of}
+use Rattle.flow_systems.specs.declared.system.System.{System}
 use Rattle.theory_validity.specs.Certificates.{Evidence, Need, into_needs, needs_at, needs}
 use Rattle.cert_types.specs.declared.upper.Upper.{Upper}
 use Rattle.cert_types.specs.Certificates.{evidence_of}
 use Rattle.theory_rounds.specs.Made.{exact_upper, uppers_for, exact_uppers}
+use Rattle.solve_offers.specs.AtBounds.{vector_at, edge_at, row_at}
+use Rattle.solve_offers.specs.Improvement.{numbers_into}
 use Rattle.solve_offers.specs.Offers.{is_top}
 use Rattle.solve_rounds.specs.Uppers.{uppers_into, uppers_of_rows}
 use Rattle.solve_rounds.proofs.growing.Walked.{range-append}
+use Rattle.solve_rounds.proofs.uppers.IntoNumbers.{nowhere}
 
 module _ (system : Equations) (z : Vector) where
   uppers_for-append : (xs ys : List Need) → uppers_for system z (xs ++ ys) ≡ uppers_for system z xs ++ uppers_for system z ys
@@ -31,62 +35,26 @@ module _ (system : Equations) (z : Vector) where
 
   -- ---- edges
   module _ (p r : ℕ) where
-    here : ℕ → Edge → List Need
-    here k edge = if eqb edge.to p then record { edge = edge; number = k; row = r } ∷ [] else []
-
-    needs-more : (k : ℕ) (edges : List Edge) (edge : Edge) → into_needs p r k (edges ++ edge ∷ [])
-        ≡ into_needs p r k edges ++ here (k + length edges) edge
-    unfolding into_needs here
-    needs-more k [] edge = ap (λ n. if eqb edge.to p then record { edge = edge; number = n; row = r } ∷ [] else [])
-        (let e : k ≡ k + 0 = omega arith in e)
-    needs-more k (first ∷ edges) edge =
-        by (eqb first.to p) (needs-more (suc k) edges edge ∙ ap (λ n. into_needs p r (suc k) edges ++ here n edge)
-        (let e : suc k + length edges ≡ k + length (first ∷ edges) = omega arith in e))
+    -- the evidence for the edges into a point is that of their numbers, one after the other
+    numbers_upper : (f : ℕ → Edge) (k : ℕ) (edges : List Edge) → ((i : ℕ) → i < length edges → f (k + i) ≡ get_or edges i nowhere) →
+        map (λ n. exact_upper system z (f n) (get_or system.template r [])) (numbers_into p k edges)
+        ≡ uppers_for system z (into_needs p r k edges)
+    unfolding uppers_for into_needs numbers_into
+    numbers_upper f k [] e = refl
+    numbers_upper f k (edge ∷ edges) e = by (eqb edge.to p) (numbers_upper f (suc k) edges
+        (λ i l. ap f (let s : suc k + i ≡ k + suc i = omega arith in s) ∙ e (suc i) (omega (arith, l))))
       where
-        by : (b : Bool) → into_needs p r (suc k) (edges ++ edge ∷ []) ≡ into_needs p r (suc k) edges
-            ++ here (k + length (first ∷ edges)) edge →
-            (if b then record { edge = first; number = k; row = r } ∷ into_needs p r (suc k) (edges ++ edge ∷ []) else into_needs p r
-            (suc k) (edges ++ edge ∷ []))
-            ≡ (if b then record { edge = first; number = k; row = r } ∷ into_needs p r (suc k) edges else into_needs p r (suc k) edges)
-            ++ here (k + length (first ∷ edges)) edge
-        by true e = ap (λ ns. record { edge = first; number = k; row = r } ∷ ns) e
-        by false e = e
+        here : f k ≡ edge
+        here = ap f (let s : k ≡ k + 0 = omega arith in s) ∙ e 0 (omega arith)
 
-    -- the evidence for the first i edges
-    abbrev pub uppers_to : List Edge → ℕ → List Evidence
-    uppers_to edges i = uppers_for system z (into_needs p r 0 (take i edges))
-
-    -- before the first edge there is no evidence of upper bounds
-    pub uppers_none : (edges : List Edge) → uppers_to edges 0 ≡ []
-    unfolding uppers_for into_needs
-    uppers_none edges = refl
-
-    module _ (edges : List Edge) (i : ℕ) (edge : Edge) (l : i < length edges) (is : edge ≡ get_or edges i edge) where
-      more : into_needs p r 0 (take (i + 1) edges) ≡ into_needs p r 0 (take i edges) ++ here (0 + length (take i edges)) edge
-      more = ap (into_needs p r 0) (take_more edges i edge l ∙ ap (λ x. take i edges ++ x ∷ []) (sym is)) ∙ needs-more 0 (take i edges) edge
-
-      -- an edge into the point has its evidence behind the others
-      pub uppers_yes : edge.to ≡ p → uppers_to edges i ++ exact_upper system z edge (get_or system.template r []) ∷ []
-          ≡ uppers_to edges (i + 1)
-      unfolding here uppers_for
-      uppers_yes to =
-          sym (uppers_for-append (into_needs p r 0 (take i edges)) (record { edge = edge; number = 0 + length (take i edges); row = r }
-          ∷ []))
-          ∙ ap (λ b. uppers_for system z (into_needs p r 0 (take i edges)
-          ++ (if b then record { edge = edge; number = 0 + length (take i edges); row = r } ∷ [] else [])))
-          (⊎_elim (λ t. sym t.0) (λ t. absurd (t.1 to)) (eqb_tells edge.to p))
-          ∙ ap (uppers_for system z) (sym more)
-
-      -- another has none
-      pub uppers_no : (edge.to ≡ p → ⊥) → uppers_to edges i ≡ uppers_to edges (i + 1)
-      unfolding here
-      uppers_no to =
-          ap (uppers_for system z)
-          (sym (append-nil (into_needs p r 0 (take i edges)))
-          ∙ ap (λ b. into_needs p r 0 (take i edges) ++ (if b then record { edge = edge; number = 0 + length (take i edges); row = r }
-          ∷ [] else []))
-          (⊎_elim (λ t. absurd (to t.1)) (λ t. sym t.0) (eqb_tells edge.to p))
-          ∙ sym more)
+        by : (b : Bool) → map (λ n. exact_upper system z (f n) (get_or system.template r [])) (numbers_into p (suc k) edges)
+            ≡ uppers_for system z (into_needs p r (suc k) edges) →
+            map (λ n. exact_upper system z (f n) (get_or system.template r []))
+            (if b then k ∷ numbers_into p (suc k) edges else numbers_into p (suc k) edges)
+            ≡ uppers_for system z (if b then record { edge = edge; number = k; row = r } ∷ into_needs p r (suc k) edges
+            else into_needs p r (suc k) edges)
+        by true h = ap₂ (λ x xs. x ∷ xs) (ap (λ x. exact_upper system z x (get_or system.template r [])) here) h
+        by false h = h
 
   -- ---- rows
   module _ (p : ℕ) where
@@ -139,6 +107,31 @@ module _ (system : Equations) (z : Vector) where
       (range_with_len 1 (system.points - 1))
       ∙ ap (λ f. flat_map f (range_with_len 1 (system.points - 1)))
       (fun_ext (λ p. uppers_for-flat (λ r. needs_at system p r (z p r)) (range_with_len 0 (length system.template)))))
+
+-- ---- edges of a system
+module _ (system : System) (bounds : List Extended) (row : ℕ) where
+  -- the evidence of the first of some numbers of edges
+  abbrev pub uppers_to : List ℕ → ℕ → List Evidence
+  uppers_to numbers n = map (λ k. exact_upper (equations_of system) (vector_at system bounds) (edge_at system k) (row_at system row))
+      (take n numbers)
+
+  -- one number more has its evidence behind the others
+  pub uppers_more : (numbers : List ℕ) (i : ℕ) → i < length numbers → uppers_to numbers i
+      ++ exact_upper (equations_of system) (vector_at system bounds) (edge_at system (get_or numbers i 0)) (row_at system row) ∷ []
+      ≡ uppers_to numbers (i + 1)
+  uppers_more numbers i l =
+      let upper : ℕ → Evidence
+      = λ k. exact_upper (equations_of system) (vector_at system bounds) (edge_at system k) (row_at system row) in
+      sym (ap (map upper) (take_more numbers i 0 l) ∙ map-append upper (take i numbers) (get_or numbers i 0 ∷ []))
+
+  -- that of all numbers of the edges into a point is its evidence
+  pub uppers_all : (p : ℕ) (numbers : List ℕ) (i : ℕ) → length numbers ≤ i → numbers ≡ numbers_into p 0 system.flow.edges
+      → uppers_to numbers i ≡ uppers_into (equations_of system) (vector_at system bounds) p row
+  uppers_all p numbers i l are =
+      ap (map (λ k. exact_upper (equations_of system) (vector_at system bounds) (edge_at system k) (row_at system row)))
+      (take_all i numbers l ∙ are)
+      ∙ numbers_upper (equations_of system) (vector_at system bounds) p row (edge_at system) 0 system.flow.edges
+      (λ j k. ap (edge_at system) (let s : 0 + j ≡ j = omega arith in s))
 
 -- one more piece of evidence
 pub pushed : (before all : List Upper) (upper : Upper) (old rest : List Evidence) → all ≡ before ++ upper ∷ []

@@ -43,20 +43,16 @@ module _ (names : List (List ℕ)) (body : Statements) (written : WrittenCert) (
   fitted_same = ap (λ q. cert_for q written) (system_is names body whole s n p e t)
 
   -- a certificate that is accepted gets a report
-  pub accepted_fitted : (made : Cert) (format : Format) (bytes : List ℕ) (program : Program) (given : List ℕ)
-      → made ≡ cert_for (equations_of s) written → FitsProgram names body whole
-      → ValidCertificate (equations_of s) (theirs made) → NoneIsWide (equations_of s) (theirs made)
-      → Least (equations_of s) (bounds_vector (equations_of s) made.bounds)
-      → bytes ≡ report_of_in format s (vector_of (length s.template) made.bounds) Accepted
+  pub accepted_fitted : (format : Format) (bytes : List ℕ) (program : Program) (given : List ℕ) → FitsProgram names body whole
+      → ValidCertificate (equations_of s) (theirs (cert_for (equations_of s) written))
+      → NoneIsWide (equations_of s) (theirs (cert_for (equations_of s) written))
+      → Least (equations_of s) (bounds_vector (equations_of s) written.bounds)
+      → bytes ≡ report_of_in format s (vector_of (length s.template) written.bounds) Accepted
       → IsSpelt program given names body whole → IsReportBy program given format bytes
-  accepted_fitted made format bytes program given is fits valid narrow least report spelt =
-      let same = is ∙ fitted_same in
+  accepted_fitted format bytes program given fits valid narrow least report spelt =
       accepted_report names body whole s format bytes program given n p e t fits
-      (subst (λ (x : Cert). ValidCertificate (equations_of s) (theirs x)) same valid)
-      (subst (λ (x : Cert). NoneIsWide (equations_of s) (theirs x)) same narrow)
-      (subst (λ (x : Cert). Least (equations_of s) (bounds_vector (equations_of s) x.bounds)) same least)
-      (report ∙ ap (λ (x : Cert). report_of_in format s (vector_of (length s.template) x.bounds) Accepted) same)
-      spelt
+      (subst (λ (x : Cert). ValidCertificate (equations_of s) (theirs x)) fitted_same valid)
+      (subst (λ (x : Cert). NoneIsWide (equations_of s) (theirs x)) fitted_same narrow) least report spelt
 
   -- one that isn't accepted gets none
   pub refused_fitted : (r : Refusal) → FitsProgram names body whole

@@ -22,8 +22,8 @@ use super::certificate::{is_countable, system_of};
 use crate::refusal::Refusal;
 use ask_words::Format;
 use cert_checker::{CheckFault, Scratch, check};
-use cert_fitted::{fitted_cert, fitted_rows};
-use cert_types::{Cert, Rows};
+use cert_fitted::{FittedFault, check_fitted};
+use cert_types::Cert;
 use cert_written as written;
 use flow_edges::Flow;
 use flow_systems::{Footer, System};
@@ -75,27 +75,24 @@ pub(crate) fn accept(alloc: Global, system: &System, cert: &Cert) -> Result<(), 
     }
 }
 
-// The certificate for which a written one stands in a system with these rows, if it is valid.
-fn accepted(
-    alloc: Global,
-    system: &System,
-    rows: Rows,
-    cert: &written::Cert,
-) -> Result<Cert, Refusal>
-    requires { rows ≡ system.now.template }
-    ensures cert { IfOk result (λ made. made ≡ cert_for (equations_of system.now) cert.now) }
-    ensures valid { IfOk result (λ made. ValidCertificate (equations_of system.now) (theirs made)) }
-    ensures narrow { IfOk result (λ made. NoneIsWide (equations_of system.now) (theirs made)) }
-    ensures least { IfOk result (λ made. Least (equations_of system.now) (bounds_vector (equations_of system.now) made.bounds)) }
+// Whether the certificate for which a written one stands in a system is valid for it.
+fn accept_written(alloc: Global, system: &System, cert: &written::Cert) -> Result<(), Refusal>
+    ensures valid { IfOk result (λ _. ValidCertificate (equations_of system.now) (theirs (cert_for (equations_of system.now) cert.now))) }
+    ensures narrow { IfOk result (λ _. NoneIsWide (equations_of system.now) (theirs (cert_for (equations_of system.now) cert.now))) }
+    ensures least { IfOk result (λ _. Least (equations_of system.now) (bounds_vector (equations_of system.now) cert.now.bounds)) }
     ensures err { IfErr result (λ refusal. IsUnaccepted (equations_of system.now) (theirs (cert_for (equations_of system.now) cert.now))
         refusal) }
 {
-    let fitted = fitted_cert(alloc, system, rows, cert)?;
-    if !is_countable(&fitted) {
+    if !is_countable(cert) {
         return Err(Refusal::NoMemory);
     }
-    accept(alloc, system, &fitted)?;
-    Ok(fitted)
+    let paths = paths_of(alloc, system)?;
+    let mut scratch = Scratch::new(alloc, system)?;
+    match check_fitted(alloc, system, &paths, cert, &mut scratch) {
+        Ok(()) => Ok(()),
+        Err(FittedFault::Check(fault)) => Err(check_refusal(fault)),
+        Err(FittedFault::NoMemory) => Err(Refusal::NoMemory),
+    }
 }
 
 /// The whole report in a format of the bounds of a certificate as a text has it, where it is valid for a program.
@@ -120,11 +117,7 @@ pub fn report_by(
     ensures err { IfErr result (λ refusal. GetsNoReport program.now.names program.now.body
         (fitted_to program.now.names program.now.body cert.now) refusal) }
 {
-    let rows = fitted_rows(alloc, program.names.as_slice().len(), cert.rows.as_slice())?;
-    if rows.as_slice().len() > 4294967295 {
-        return Err(Refusal::NoMemory);
-    }
-    let system = system_of(alloc, program, flow, &rows)?;
-    let fitted = accepted(alloc, &system, rows, cert)?;
-    Ok(written_report(alloc, &system, &fitted.bounds, Footer::Accepted, format)?)
+    let system = system_of(alloc, program, flow, cert.rows.as_slice())?;
+    accept_written(alloc, &system, cert)?;
+    Ok(written_report(alloc, &system, &cert.bounds, Footer::Accepted, format)?)
 }

@@ -14,7 +14,8 @@ ghost use Rattle.flow_templates.specs.declared.fault.RowFault.TheVariants.{NoMem
 ghost use Rattle.flow_systems.specs.SystemLimits.{is_over};
 ghost use Rattle.cert_types.specs.declared.cert.Cert.{Cert as CertValue};
 ghost use Rattle.cert_text.specs.Certificates.{SpellsCert};
-ghost use Rattle.cert_checker.specs.Items.{is_short, item_count};
+ghost use Rattle.cert_fitted.specs.Checked.{is_short};
+ghost use Rattle.cert_fitted.specs.Fitted.{rows_for};
 ghost use Rattle.top_texts.specs.Checks.{IsSpelt, fitted_to};
 ghost use Rattle.top_texts.specs.Outcomes.{FitsProgram, IsNoSystem, IsUnspelt};
 
@@ -22,8 +23,10 @@ use crate::form::cert_of;
 use crate::program::{flow_of, program_of};
 use crate::refusal::Refusal;
 use ask_words::Source;
-use cert_types::{Cert, Rows, Step};
+use cert_fitted::fitted_rows;
+use cert_types::Rows;
 use cert_written as written;
+use cert_written::Entries;
 use flow_edges::Flow;
 use flow_systems::{System, SystemFault};
 use flow_templates::{RowFault, Template, from_rows};
@@ -65,19 +68,19 @@ pub fn read_given(alloc: Global, source: Source<&[u8]>, bytes: &[u8]) -> Result<
 }
 
 // Whether the items of a step can be numbered by 32 bits.
-fn is_short(step: &Step) -> bool
+fn is_short(step: &written::Step) -> bool
     ensures { result ≡ is_short step.now }
 {
     let count = match step {
-        Step::Plain(items) => items.as_slice().len(),
-        Step::Jump(items) => items.as_slice().len(),
-        Step::Ray(items) => items.as_slice().len(),
+        written::Step::Plain(items) => items.as_slice().len(),
+        written::Step::Jump(items) => items.as_slice().len(),
+        written::Step::Ray(items) => items.as_slice().len(),
     };
     count < 4294967296
 }
 
 // Whether the items of each step can be numbered by 32 bits.
-fn are_short(steps: &[Step]) -> bool
+fn are_short(steps: &[written::Step]) -> bool
     ensures { result ≡ list_all is_short steps.now }
 {
     steps.iter().all(|step| is_short(step))
@@ -85,7 +88,7 @@ fn are_short(steps: &[Step]) -> bool
 
 // Whether the steps and the items of each step can be numbered by 32 bits. It is so of every certificate that a file within
 // its limit spells.
-pub(crate) fn is_countable(cert: &Cert) -> bool
+pub(crate) fn is_countable(cert: &written::Cert) -> bool
     ensures steps { IsTrue result → length cert.now.steps < 2 ^ 32 }
     ensures items { IsTrue result → IsTrue (list_all is_short cert.now.steps) }
 {
@@ -121,12 +124,7 @@ fn template_of(alloc: Global, program: &Program, rows: &Rows) -> Result<Template
 }
 
 // The system of a program and of a certificate's rows.
-pub(crate) fn system_of(
-    alloc: Global,
-    program: &Program,
-    flow: Flow,
-    rows: &Rows,
-) -> Result<System, Refusal>
+fn system_with(alloc: Global, program: &Program, flow: Flow, rows: &Rows) -> Result<System, Refusal>
     requires rows { length rows.now < 2 ^ 32 }
     requires names { flow.names ≡ program.now.names }
     requires points { flow.points ≡ points_of_program program.now.body }
@@ -144,4 +142,27 @@ pub(crate) fn system_of(
             Err(Refusal::Certificate(CertCause::Unknowns(count)))
         }
     }
+}
+
+// The system of a program and of the rows for which written ones stand.
+pub(crate) fn system_of(
+    alloc: Global,
+    program: &Program,
+    flow: Flow,
+    rows: &[Entries],
+) -> Result<System, Refusal>
+    requires names { flow.names ≡ program.now.names }
+    requires points { flow.points ≡ points_of_program program.now.body }
+    ensures flow { IfOk result (λ system. system.flow ≡ flow) }
+    ensures template { IfOk result (λ system. system.template ≡ rows_for (length program.now.names) rows.now) }
+    ensures fits { IfOk result (λ _. (cert : CertValue) → cert.rows ≡ rows_for (length program.now.names) rows.now
+        → FitsProgram program.now.names program.now.body cert) }
+    ensures err { IfErr result (λ refusal. (cert : CertValue) → cert.rows ≡ rows_for (length program.now.names) rows.now
+        → IsNoSystem program.now.names program.now.body cert refusal) }
+{
+    let rows = fitted_rows(alloc, program.names.as_slice().len(), rows)?;
+    if rows.as_slice().len() > 4294967295 {
+        return Err(Refusal::NoMemory);
+    }
+    system_with(alloc, program, flow, &rows)
 }

@@ -13,7 +13,7 @@ use Rattle.theory_validity.specs.Certificates.{side, Bound}
 use Rattle.cert_checker.specs.Events.{fault_answer, wide_answer}
 use Rattle.cert_checker.specs.EvidenceEvents.{combination_events, evidence_events}
 use Rattle.cert_checker.proofs.combination.Forms.{no_edge, edge_there, row_count}
-use Rattle.cert_checker.proofs.uppers.Numbers.{bound_of}
+use Rattle.cert_checker.proofs.events.Numbers.{bound_of}
 use Rattle.cert_checker.proofs.evidence.Events.{row_some, is_read, bound_infinite, bound_stops, bound_wide, bound_yes, bound_no}
 use Rattle.cert_checker.proofs.evidence.Events.{constant_added}
 use Rattle.cert_checker.proofs.evidence.Sums.{found_none, found_some, told_if}

@@ -5,7 +5,7 @@ use Rattle.base_fractions.specs.Extended.{extended}
 use Rattle.base_fractions.specs.declared.ext.Ext.{Ext as Bound}
 use Rattle.flow_systems.specs.Equations.{Equations, Vector}
 use Rattle.cert_checker.specs.Stands.{Stands}
-use Rattle.cert_checker.proofs.uppers.Numbers.{bound_of}
+use Rattle.cert_checker.proofs.events.Numbers.{bound_of}
 use Rattle.base_fractions.proofs.extended.Compared.{differs, equals}
 use Rattle.cert_checker.proofs.final_vector.Compared.{final_first, final_more, final_stops, final_all}
 use Rattle.cert_checker.proofs.final_vector.compare.Goals as goal

@@ -3,7 +3,7 @@ use Rattle.base_fractions.specs.Extended.{extended}
 use Rattle.flow_systems.specs.View.{equations_of}
 use Rattle.theory_validity.specs.Certificates.{into_needs, needs_at}
 use Rattle.cert_checker.proofs.size.Counts.{needs_finite, needs_top}
-use Rattle.cert_checker.proofs.certificate.Ranges.{few_edges}
+use Rattle.cert_checker.proofs.events.Ranges.{few_edges}
 use Rattle.cert_checker.proofs.size.count_at.Goals as goal
 
 pub returns-in-PosInf-clause-count : goal.returns-in-PosInf-clause-count

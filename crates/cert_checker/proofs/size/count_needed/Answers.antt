@@ -4,7 +4,7 @@ use Rattle.base_fractions.specs.Extended.{extended}
 use Rattle.flow_systems.specs.View.{equations_of}
 use Rattle.theory_validity.specs.Certificates.{needs_at}
 use Rattle.cert_checker.proofs.size.Counts.{CountLeft, count_first, count_more, count_all}
-use Rattle.cert_checker.proofs.uppers.Numbers.{bound_of}
+use Rattle.cert_checker.proofs.events.Numbers.{bound_of}
 use Rattle.cert_checker.proofs.size.count_needed.Goals as goal
 
 pub loop-unknown-init : goal.loop-unknown-init

@@ -4,7 +4,7 @@ use Rattle.std.proofs.lemmas.List.{length-map}
 use Rattle.base_fractions.specs.Extended.{extended}
 use Rattle.flow_systems.specs.View.{equations_of}
 use Rattle.theory_validity.specs.Certificates.{needs, bounds_vector}
-use Rattle.cert_checker.proofs.uppers.Numbers.{stands_itself}
+use Rattle.cert_checker.proofs.events.Numbers.{stands_itself}
 use Rattle.cert_checker.proofs.size.has_size.Goals as goal
 
 pub returns-then-as_slice-points : goal.returns-then-as_slice-points
@@ -15,17 +15,10 @@ returns-then-as_slice-points c =
     ap (λ xs. length xs) c.as_slice-points.ensures in
     let m = length-map c.as_slice.result.now extended in
     let b = ap (λ bs. length bs) c.as_slice.ensures in
-    let size : length c.args.cert.now.bounds ≡ length c.args.system.now.flow.points * length c.args.system.now.template =
+    let size : length c.args.bounds.now ≡ length c.args.system.now.flow.points * length c.args.system.now.template =
     sym b ∙ m ∙ c.if-as_slice-points.true ∙ ap₂ (λ p r. p * r) points rows in
-    let uppers : length c.as_slice-then-as_slice-points.result.now ≡ length c.args.cert.now.uppers =
-    ap (λ us. length us) c.as_slice-then-as_slice-points.ensures in
-    let count : c.count_needed.result ≡ length (needs S (bounds_vector S c.args.cert.now.bounds)) =
-    c.count_needed.ensures (bounds_vector S c.args.cert.now.bounds) (stands_itself S c.args.cert.now.bounds size) in (
-      (λ t. (
-        size,
-        (let l = leb-true (length c.as_slice-then-as_slice-points.result.now) c.count_needed.result t in
-            omega (arith, l, uppers, count)),
-      )),
-      (λ h. le-leb (length c.as_slice-then-as_slice-points.result.now) c.count_needed.result
-          (let l = h.1 in omega (arith, l, uppers, count))),
+    let count : c.count_needed.result ≡ length (needs S (bounds_vector S c.args.bounds.now)) =
+    c.count_needed.ensures (bounds_vector S c.args.bounds.now) (stands_itself S c.args.bounds.now size) in (
+      (λ t. (size, (let l = leb-true c.args.evidence c.count_needed.result t in omega (arith, l, count)))),
+      (λ h. le-leb c.args.evidence c.count_needed.result (let l = h.1 in omega (arith, l, count))),
     )

@@ -6,26 +6,11 @@ use Rattle.cert_types.specs.declared.step.Step.{Step as CertStep}
 use Rattle.cert_types.specs.Certificates.{step_of}
 use Rattle.theory_validity.specs.Steps.{after_step, start_vector}
 use Rattle.cert_checker.specs.Stands.{Stands}
-use Rattle.cert_checker.proofs.steps.Sequence.{steps_more, leads_more, steps_stop, steps_all, led_all}
+use Rattle.cert_checker.proofs.events.Sequence.{steps_more, leads_more, steps_stop, steps_all, led_all}
 use Rattle.cert_checker.proofs.steps.check_steps.Goals as goal
 
 pub loop-number-init : goal.loop-number-init
-loop-number-init c =
-    let S = equations_of c.args.system.now in
-    let rows : length c.as_slice.result.now ≡ length c.args.system.now.template = ap (λ xs. length xs) c.as_slice.ensures.rows in
-    record {
-      room = record {
-        base = c.restart.ensures.size ∙ c.requires.room.base;
-        next = c.restart-2.ensures.size ∙ c.requires.room.next;
-        rates =
-            c.requires.room.rates;
-      };
-      z = start_vector;
-      base = c.restart.ensures.start S rows c.requires.room.base;
-      next = c.restart-2.ensures.start S rows c.requires.room.next;
-      leads = refl;
-      left = refl;
-    }
+loop-number-init c = record { room = c.start.ensures.room; z = start_vector; at = c.start.ensures.start; leads = refl; left = refl }
 
 -- a step of the certificate, as the step that it stands for
 there : (rows : ℕ) (steps : List CertStep) (i : ℕ) (step : CertStep) → i < length steps → step ≡ get_or steps i step →
@@ -43,38 +28,27 @@ loop-number-preserved c =
     let step = step_of (length S.template) c.index-steps-number.result in
     let at = there (length S.template) c.args.steps.now c.loop-number.number c.index-steps-number.result c.loop-number-test.true
     c.index-steps-number.is in
-    let t = c.in_ok-take.ensures.taken v.z v.base v.next in
+    let t = c.in_ok-take_step.ensures.answer v.z v.at in
     record {
-      room = record {
-        base = c.take.ensures.base ∙ v.room.base;
-        next = c.take.ensures.next ∙ v.room.next;
-        rates =
-            c.take.ensures.rates ∙ v.room.rates;
-      };
+      room = c.take_step.ensures.room;
       z = after_step step v.z;
-      base = t.0;
-      next = t.1;
+      at = t.0;
       leads = leads_more S steps c.loop-number.number v.z v.left v.leads step at.0 at.1;
-      left = steps_more S steps c.loop-number.number v.z v.left v.leads step at.0 at.1 t.2;
+      left = steps_more S steps c.loop-number.number v.z v.left v.leads step at.0 at.1 t.1;
     }
 
-pub returns-in_err-take : goal.returns-in_err-take
-returns-in_err-take c =
+pub returns-in_err-take_step : goal.returns-in_err-take_step
+returns-in_err-take_step c =
     let S = equations_of c.args.system.now in
     let v = c.loop-number.invariant in
     let at = there (length S.template) c.args.steps.now c.loop-number.number c.index-steps-number.result c.loop-number-test.true
     c.index-steps-number.is in
     let p = err_from_is_err_and c.from_residual.result c.from_residual.ensures.1 in
     record {
-      room = record {
-        base = c.take.ensures.base ∙ v.room.base;
-        next = c.take.ensures.next ∙ v.room.next;
-        rates =
-            c.take.ensures.rates ∙ v.room.rates;
-      };
+      room = c.take_step.ensures.room;
       answer = rw (p.1, p.2) (steps_stop S (map (step_of (length S.template)) c.args.steps.now) c.loop-number.number v.z v.left v.leads
           (step_of (length S.template) c.index-steps-number.result)
-          at.0 at.1 c.in_err-take.field-0.0 (c.in_err-take.ensures.taken v.z v.base v.next));
+          at.0 at.1 c.in_err-take_step.field-0.0 (c.in_err-take_step.ensures.answer v.z v.at));
     }
 
 pub returns : goal.returns
@@ -88,7 +62,7 @@ returns c =
     record {
       room = v.room;
       answer = (
-        subst (Stands S c.loop-number.scratch.base) (sym (led_all S steps i v.z v.left v.leads l)) v.base,
+        subst (Stands S c.loop-number.scratch.base) (sym (led_all S steps i v.z v.left v.leads l)) v.at.base,
         steps_all S steps i v.z v.left v.leads l,
       );
     }

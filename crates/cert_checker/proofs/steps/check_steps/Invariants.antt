@@ -4,8 +4,7 @@ use Rattle.flow_systems.specs.View.{equations_of}
 use Rattle.cert_types.specs.Certificates.{step_of}
 use Rattle.theory_validity.specs.Steps.{start_vector}
 use Rattle.theory_validity.specs.Certificates.{after_steps}
-use Rattle.cert_checker.specs.Rooms.{HasRoom}
-use Rattle.cert_checker.specs.Stands.{Stands}
+use Rattle.cert_checker.specs.Rooms.{HasRoom, IsAt}
 use Rattle.cert_checker.specs.Events.{first_stop}
 use Rattle.cert_checker.specs.StepEvents.{steps_events}
 use Rattle.cert_checker.proofs.steps.check_steps.Given as goal
@@ -14,8 +13,7 @@ abbrev pub invariant-loop-number : goal.invariant-loop-number
 invariant-loop-number l = record {
   room : HasRoom (equations_of l.system) l.scratch;
   z : Vector;
-  base : Stands (equations_of l.system) l.scratch.base z;
-  next : Stands (equations_of l.system) l.scratch.next z;
+  at : IsAt (equations_of l.system) l.scratch z;
   leads : after_steps (map (step_of (length l.system.template)) l.steps) start_vector
       ≡ after_steps (drop l.number (map (step_of (length l.system.template)) l.steps)) z;
   left : first_stop (steps_events (equations_of l.system) start_vector 0 (map (step_of (length l.system.template)) l.steps))

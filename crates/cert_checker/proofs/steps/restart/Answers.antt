@@ -2,7 +2,7 @@ use Rattle.std.proofs.Common.{◌∙◌, length, ap, arith}
 use Rattle.std.proofs.lemmas.List.{length-map}
 use Rattle.base_fractions.specs.Extended.{extended}
 use Rattle.cert_checker.specs.Stands.{start_at}
-use Rattle.cert_checker.proofs.steps.Sequence.{starts}
+use Rattle.cert_checker.proofs.events.Sequence.{starts}
 use Rattle.cert_checker.proofs.steps.restart.Goals as goal
 
 pub returns-clause-start : goal.returns-clause-start

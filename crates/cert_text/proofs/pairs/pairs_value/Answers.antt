@@ -1,4 +1,4 @@
-use Rattle.std.proofs.Common.{◌≡◌, ◌∙◌, ◌&&◌, IfOk, List, Result, Ok, Err, Some, ap, ap₂, sym}
+use Rattle.std.proofs.Common.{◌∙◌, ◌&&◌, IfOk, List, Result, Ok, Err, Some, ap, ap₂, sym}
 use Rattle.cert_written.specs.declared.pairs.Pair.{Pair}
 use Rattle.cert_written.specs.Pairs.{ascends}
 use Rattle.cert_text.specs.Pairs.{are_pairs, pairs_data}

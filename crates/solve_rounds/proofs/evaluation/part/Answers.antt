@@ -57,7 +57,7 @@ loop-alloc-preserved g c =
     (sym c.as_slice.ensures.value) c.loop-alloc.invariant in
     let some = subst (λ n. 0 < n) (sym c.as_slice.ensures.len) (not_none _ (sym c.is_empty.ensures ∙ c.loop-alloc-test.true)) in
     left_more system at.pick.now at.raises.now at.places.now c.args.list.now c.args.turning.now left c.in_ok-left-2.left.items
-    now c.turn.new.turning some h c.in_ok-left-2.ensures.turned
+    now c.turn.new.turning some h c.in_ok-left-2.ensures.turned c.in_ok-left-2.ensures.among c.in_ok-left-2.ensures.others
 
 pub returns-clause-done : goal.returns-clause-done
 returns-clause-done g c =
@@ -67,3 +67,6 @@ returns-clause-done g c =
     parting_ends at.system.now at.pick.now at.raises.now at.places.now c.args.list.now c.args.turning.now
     c.loop-alloc.left.items c.loop-alloc.turning
     (no_element c.loop-alloc.left.items (sym k ∙ none_there _ (sym c.is_empty.ensures ∙ c.loop-alloc-test.false))) c.loop-alloc.invariant
+
+pub returns-clause-others : goal.returns-clause-others
+returns-clause-others g c = c.loop-alloc.invariant.others

@@ -55,7 +55,7 @@ loop-number-preserved g c =
     c.loop-number-test.true c.list.ensures in
     numbered_more at.system.now at.pick.now at.raises.now at.places.now c.args.list.now n c.requires.list
     c.in_ok-parts.ensures.parts c.in_ok-parts.ensures.rise c.args.turning.now c.loop-number.turning c.part.new.turning
-    at.chosen c.loop-number.invariant c.in_ok-part.ensures.done
+    at.chosen c.loop-number.invariant c.in_ok-part.ensures.done c.in_ok-part.ensures.others
 
 pub returns-clause-done : goal.returns-clause-done
 returns-clause-done g c =
@@ -67,3 +67,6 @@ returns-clause-done g c =
     let size = c.count-number-end.ensures.count ∙ ap length same in
     partings_end system pick at.raises.now at.places.now list c.args.turning.now c.loop-number.number c.loop-number.turning
     (subst (λ n. n ≤ c.loop-number.number) size c.loop-number-test.false) c.loop-number.invariant
+
+pub returns-clause-others : goal.returns-clause-others
+returns-clause-others g c = c.loop-number.invariant.others

@@ -1,5 +1,5 @@
-use Rattle.std.proofs.Common.{ℕ, true, ◌≡◌, ◌∙◌, ◌/◌, ◌%◌, arith, true≢false, length, get_or, false, refl, sym, ap, subst}
-use Rattle.std.specs.Prelude.{Some, None, slice_set}
+use Rattle.std.proofs.Common.{◌≡◌, ◌∙◌, ◌/◌, ◌%◌, ◌<◌, arith, true≢false, length, refl, sym, ap, subst}
+use Rattle.std.specs.Prelude.{slice_set}
 use Rattle.base_numbers.specs.Extended.{◌<ᴱ◌}
 use Rattle.base_fractions.specs.Extended.{extended}
 use Rattle.std.proofs.lemmas.Result.{err_from_is_err_and}
@@ -10,10 +10,10 @@ use Rattle.solve_raise.specs.Raises.{raise_operations}
 use Rattle.solve_rounds.proofs.growing.Kept.{kept_more, few_steps, system_size}
 use Rattle.solve_rounds.proofs.growing.Tested.{stays_within, raised_names, has_item, stays, go_is, value_stop, step_stop, value_sizes}
 use Rattle.solve_rounds.proofs.growing.Tested.{value_rises}
-use Rattle.solve_offers.specs.AtBounds.{vector_at, edge_at}
-use Rattle.solve_rounds.proofs.growing.Quiet.{quiet_more, quiet_raised}
-use Rattle.std.specs.Vec.{with_item, with_items}
-use Rattle.std.proofs.lemmas.List.{with_items_is}
+use Rattle.solve_offers.specs.AtBounds.{vector_at}
+use Rattle.solve_offers.proofs.offers.Unknowns.{point_within}
+use Rattle.solve_rounds.proofs.growing.Quiet.{quiet_more, quiet_raised, within_picked}
+use Rattle.solve_rounds.proofs.growing.Unraised.{stays_raised}
 use Rattle.solve_rounds.proofs.growing.test_picked.Goals as goal
 
 pub overflow_cast-raises : goal.overflow_cast-raises
@@ -55,41 +55,34 @@ returns-then-not-exceeds-clause-quiet c =
     let bounds = c.args.growing.now.bounds in
     let value = subst (λ n. IsValueAt system bounds c.args.edge (c.args.unknown % n) c.in_ok-value.value)
     (ap (λ t. length t) c.as_slice.ensures.rows) c.in_ok-value.ensures.value in
-    let size = c.requires.quiet.size in
-    let unknown = c.requires.unknown in
-    quiet_more system c.args.pick.now c.args.growing.now _ c.args.unknown c.requires.quiet c.args.edge c.requires.edge
-    (omega (arith, size, unknown)) refl refl
+    quiet_more system c.args.pick.now c.args.growing.now _ c.args.unknown c.requires.quiet refl refl refl refl
+    (within_picked system bounds c.args.pick.now c.args.unknown c.args.edge c.requires.edge
     (stays_within system bounds c.args.unknown c.requires.unknown c.requires.kept.bounds (vector_at system bounds) (λ p r l. refl)
     c.args.edge c.in_ok-value.value value (extended c.at.result) c.at.ensures
     (λ h. true≢false (sym (c.exceeds.ensures.1 (subst (λ v. extended c.at.result <ᴱ v) (sym c.supremum.ensures) h))
-    ∙ c.if-not-exceeds.true)))
+    ∙ c.if-not-exceeds.true))))
+
+pub wake-requires-clause-point : goal.wake-requires-clause-point
+wake-requires-clause-point c =
+    let system = c.args.system.now in
+    subst (λ n. c.args.unknown / n < length system.flow.points) (sym (ap (λ t. length t) c.as_slice.ensures.rows))
+    (point_within c.args.unknown (length system.flow.points) (length system.template) c.requires.unknown)
 
 pub returns-clause-quiet : goal.returns-clause-quiet
 returns-clause-quiet c =
     let system = c.args.system.now in
-    let value : c.deref_mut.result.now ≡ c.args.growing.now.quiet.items = c.deref_mut.ensures.value in
-    let size : length c.wake.new.quiet ≡ length c.deref_mut.result.now = c.wake.ensures.size in
-    let awake : (u : ℕ) → get_or c.wake.new.quiet u false ≡ true →
-    (get_or c.deref_mut.result.now u false ≡ true) × ((edge : ℕ) → get_or c.args.pick.now u None ≡ Some edge
-    → (edge_at system edge).from ≡ c.args.unknown / length c.as_slice.result.now → ⊥) = c.wake.ensures.quiet in
-    let items : (with_items c.args.growing.now.quiet c.wake.new.quiet).items ≡ c.wake.new.quiet =
-    with_items_is c.args.growing.now.quiet c.wake.new.quiet (size ∙ ap (λ l. length l) value ∙ sym c.args.growing.now.quiet.ok.0) in
-    quiet_raised system c.args.pick.now c.args.growing.now
-    (record {
-      bounds = c.set.new.self;
-      raised = with_item c.args.growing.now.raised c.args.unknown true;
-      quiet =
-          with_items c.args.growing.now.quiet c.wake.new.quiet;
-      steps = c.push.new.self;
-    })
-    c.args.unknown c.requires.quiet (bound_given c.in_ok-step.step) c.requires.awake
-    (c.set.ensures ∙ ap (slice_set c.args.growing.now.bounds c.args.unknown) c.new_bound.ensures)
-    (ap (λ l. length l) items ∙ size ∙ ap (λ l. length l) value)
-    (λ u m. (
-      sym (ap (λ l. get_or l u false) value) ∙ (awake u (sym (ap (λ l. get_or l u false) items) ∙ m)).0,
-      λ edge e. subst (λ n. (edge_at system edge).from ≡ c.args.unknown / n → ⊥) (ap (λ t. length t) c.as_slice.ensures.rows)
-          ((awake u (sym (ap (λ l. get_or l u false) items) ∙ m)).1 edge e),
-    ))
+    let old = c.args.growing.now in
+    quiet_raised system c.args.pick.now old c.wake.new.growing c.args.unknown c.requires.quiet _ (bound_given c.in_ok-step.step)
+    (c.args.unknown / length c.as_slice.result.now) (ap (λ n. c.args.unknown / n) (ap (λ t. length t) c.as_slice.ensures.rows))
+    c.requires.edges (let r = c.requires.kept.raised in let u = c.requires.unknown in omega arith) c.requires.awake
+    (c.set.ensures ∙ ap (slice_set old.bounds c.args.unknown) c.new_bound.ensures) refl refl refl c.wake.ensures.steps
+    c.wake.ensures.marks c.wake.ensures.wakes
+
+pub returns-clause-stays : goal.returns-clause-stays
+returns-clause-stays c =
+    stays_raised c.args.growing.now c.wake.new.growing c.args.unknown _
+    (let r = c.requires.kept.raised in let u = c.requires.unknown in omega arith)
+    (c.wake.ensures.steps.bounds ∙ c.set.ensures) c.wake.ensures.steps.raised
 
 pub raising_step-requires-clause-sizes : goal.raising_step-requires-clause-sizes
 raising_step-requires-clause-sizes c =
@@ -144,7 +137,8 @@ returns-clause-kept c =
     (subst (NamesOne (length system.template) c.args.unknown) (sym c.in_ok-step.ensures.step)
     (raised_names (equations_of system) (length system.template) c.args.edge c.args.unknown (extended c.at-bound.result) c.in_ok-value.value
     exceeds))
-    c.set.ensures refl c.in_ok-push.ensures.items
+    (c.wake.ensures.steps.bounds ∙ c.set.ensures) c.wake.ensures.steps.raised
+    (c.wake.ensures.steps.steps ∙ c.in_ok-push.ensures.items)
 
 pub returns-clause-tested : goal.returns-clause-tested
 returns-clause-tested c z agrees =
@@ -157,5 +151,6 @@ returns-clause-tested c z agrees =
     (subst (λ v. extended c.at.result <ᴱ v) c.supremum.ensures (c.exceeds.ensures.0 c.if-not-exceeds.false)) in
     go_is system bounds c.args.unknown c.requires.unknown c.requires.kept.bounds z agrees c.args.edge c.in_ok-value.value value
     (extended c.at-bound.result) c.at-bound.ensures exceeds c.args.growing.now _
-    c.in_ok-step.step c.in_ok-step.ensures.step (c.set.ensures ∙ ap (slice_set bounds c.args.unknown) c.new_bound.ensures) refl
-    c.in_ok-push.ensures.items
+    c.in_ok-step.step c.in_ok-step.ensures.step
+    (c.wake.ensures.steps.bounds ∙ c.set.ensures ∙ ap (slice_set bounds c.args.unknown) c.new_bound.ensures) c.wake.ensures.steps.raised
+    (c.wake.ensures.steps.steps ∙ c.in_ok-push.ensures.items)

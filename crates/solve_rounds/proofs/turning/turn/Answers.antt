@@ -1,6 +1,7 @@
 use Rattle.solve_rounds.proofs.turning.Turned.{rising}
 use Rattle.solve_rounds.proofs.turning.TurnedBy.{turned_by}
 use Rattle.solve_rounds.proofs.turning.FoundFacts.{found_sizes, found_facts}
+use Rattle.solve_rounds.proofs.turning.OthersKept.{taken_others, taken_among}
 use Rattle.solve_rounds.proofs.turning.turn.Goals as goal
 
 pub outcome-requires-clause-rising : goal.outcome-requires-clause-rising
@@ -34,3 +35,19 @@ returns-clause-turned g c =
     found (found_sizes system pick raises places old.bounds list found is_found)
     (found_facts system pick at.chosen raises places list part old.bounds c.requires.bounds c.requires.condition found is_found)
     c.in_ok-left.ensures.taken
+
+pub returns-clause-others : goal.returns-clause-others
+returns-clause-others g c =
+    let at = c.args.at.now in
+    let list = c.args.list.now in
+    let old = c.args.turning.now in
+    let found = c.in_ok-found.found in
+    taken_others at.raises.now at.places.now list old c.take.new.turning c.in_ok-left.left.items found
+    (found_sizes at.system.now at.pick.now at.raises.now at.places.now old.bounds list found c.in_ok-found.ensures.found)
+    c.in_ok-left.ensures.taken
+
+pub returns-clause-among : goal.returns-clause-among
+returns-clause-among g c =
+    let at = c.args.at.now in
+    taken_among at.raises.now at.places.now c.args.list.now c.args.turning.now c.take.new.turning c.in_ok-left.left.items
+    c.in_ok-found.found c.in_ok-left.ensures.taken

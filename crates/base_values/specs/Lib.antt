@@ -1,0 +1,4 @@
+pub mod Outline
+pub mod Places
+pub mod Elements
+pub mod Documents
