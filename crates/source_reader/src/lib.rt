@@ -4,6 +4,7 @@
 
 mod brackets;
 mod faults;
+mod lines;
 mod mark;
 mod reader;
 mod scope;

@@ -19,12 +19,13 @@ ghost use Rattle.source_reader.specs.Reading.{behind_first, constant_in, first_k
 ghost use Rattle.source_reader.specs.declared.stop.Stop.TheVariants.{Unlike};
 
 use crate::brackets::{Brackets, bracket_in};
+use crate::lines::line_from;
 use crate::mark::{Mark, mark_in};
 use crate::scope::Scope;
 use crate::stop::Stop;
 use crate::units::unit_length;
 use base_integers::Integers;
-use lang_tokens::{Kind, Token, line_of};
+use lang_tokens::{Kind, Token};
 use source_grammar::Symbol;
 use source_names::Known;
 use source_tokens::{Definition, bytes_of, constant_of, symbol_of};
@@ -42,11 +43,15 @@ pub struct Reader<'a> {
     definitions: &'a [Definition],
     variables: u32,
     integers: Integers,
+    // Where the last token stands that was passed, and its line.
+    place: u32,
+    line: u32,
 }
 
 impl<'a> Model for Reader<'a> {
-    ghost use Rattle.std.specs.Prelude.{◌≤◌, length};
+    ghost use Rattle.std.specs.Prelude.{◌≡◌, ◌≤◌, length};
     ghost use Rattle.base_limits.specs.declared.limits.TheConstants.{MOST_PROGRAM_BYTES};
+    ghost use Rattle.lang_tokens.specs.Lines.{line_at};
     ghost use Rattle.source_tokens.specs.View.{tokens_of};
     ghost use Rattle.source_tokens.specs.Texts.{AreTokensIn};
     ghost use Rattle.source_reader.specs.Reading.{Reading};
@@ -60,7 +65,8 @@ impl<'a> Model for Reader<'a> {
       integers = r.integers;
     } };
 
-    ghost invariant = { λ r. (length r.text.now ≤ MOST_PROGRAM_BYTES) × AreTokensIn r.text.now r.rest.now };
+    ghost invariant = { λ r. (length r.text.now ≤ MOST_PROGRAM_BYTES) × AreTokensIn r.text.now r.rest.now
+        × (r.line ≡ line_at r.text.now r.place) };
 }
 
 // The bytes of a name; none of another token.
@@ -113,6 +119,8 @@ impl<'a> Reader<'a> {
             definitions,
             variables,
             integers,
+            place: 0,
+            line: 1,
         }
     }
 
@@ -139,7 +147,7 @@ impl<'a> Reader<'a> {
     pub fn line(&self, at: u32) -> u32
         ensures { result ≡ line_at self.now.text at }
     {
-        line_of(self.text, at)
+        line_from(self.text, self.place, self.line, at)
     }
 
     /// The statement whose first token is at this place.
@@ -257,7 +265,9 @@ impl<'a> Reader<'a> {
     pub fn skip(&mut self)
         ensures { self.new ≡ passed self.old }
     {
-        if let [_, rest @ ..] = self.rest {
+        if let [first, rest @ ..] = self.rest {
+            self.line = self.line(first.at);
+            self.place = first.at;
             self.rest = rest;
         }
     }
